@@ -1,0 +1,13 @@
+pub mod ListLaws
+pub mod RuleLaws
+pub mod UsesLaws
+pub mod FreshLaws
+pub mod HolderLaws
+pub mod GapLaws
+pub mod ChangeLaws
+pub mod Allowed
+pub mod PageChanges
+pub mod ChangeSound
+pub mod Loops
+pub mod Filling
+pub mod ScanLaws

@@ -1,0 +1,37 @@
+-- A loop that goes through a list: at index j what is left is `drop j` of it.
+use Prim.Native.Nat.{ℕ, _+_, _≤_, _<_, min}
+use mathlib.Core.Path.{_≡_, sym, ap, _∙_}
+use mathlib.Core.List.{List, [], _∷_}
+use native.Mathlib.Numerals.{add-one}
+use native.Mathlib.Omega.{arith}
+use native.Mathlib.Decide.{decLe}
+use native.Mathlib.Nat.{min-eq-left, min-eq-right}
+use lib.ListN.{length, getD, take, drop, length-take, drop-of-length-le}
+use lib.Seq.{drop-cons, getD-take, take-all}
+
+module _ {A : Type 0} where
+  -- one element more
+  pub drop-more : (l : List A) (j : ℕ) (d : A) → j < length l → drop j l ≡ getD l j d ∷ drop (j + 1) l
+  drop-more l j d h = rw (add-one j) (drop-cons l j d h)
+
+  pub drop-end : (l : List A) (j : ℕ) → length l ≤ j → drop j l ≡ []
+  drop-end l j h = drop-of-length-le l h
+
+  -- the same in the first n elements
+  pub first-more : (n : ℕ) (l : List A) (j : ℕ) (d : A) → j < n → n ≤ length l → drop j (take n l) ≡ getD l j d ∷ drop (j + 1) (take n l)
+  first-more n l j d h k =
+      let m : j < length (take n l) = simp length-take (omega arith) in
+      drop-more (take n l) j d m ∙ ap {B = List A} (λ (x : A). x ∷ drop (j + 1) (take n l)) (getD-take n l j d h)
+
+  pub first-end : (n : ℕ) (l : List A) (j : ℕ) → n ≤ j → drop j (take n l) ≡ []
+  first-end n l j h = drop-end (take n l) j (simp length-take (omega arith))
+
+  -- no more elements than there are
+  pub take-min : (n m : ℕ) (l : List A) → length l ≡ m → take n l ≡ take (min n m) l
+  take-min n m l e = go (decLe n m)
+    where
+      go : Dec (n ≤ m) → take n l ≡ take (min n m) l
+      go (yes h) = rw (min-eq-left h)
+      go (no h) =
+          let k : m ≤ n = omega arith in
+          rw (min-eq-right k) (take-all n l (omega arith) ∙ sym (take-all m l (omega arith)))

@@ -1,0 +1,124 @@
+-- `Page::after` makes of each case of a change what `changed` says.
+use mathlib.Core.Path.{_∙_}
+use borrow.Author.Needs.{needs}
+use Rattle.tables.specs.Changes.{changed}
+use Rattle.tables.proofs.Page.after.Statement.{statement}
+use Rattle.tables.proofs.Page.after.Tie as tie
+
+enum-told : tie.Need-enum-told
+enum-told c = search needs
+
+enum-known-change : tie.Need-enum-known-change
+enum-known-change c = search needs
+
+created-page-requires : tie.Need-created-page-requires
+created-page-requires c κs = search needs
+
+enum-told-2 : tie.Need-enum-told-2
+enum-told-2 c = search needs
+
+fresh-page-requires : tie.Need-fresh-page-requires
+fresh-page-requires c κs = search needs
+
+enum-known-change-2 : tie.Need-enum-known-change-2
+enum-known-change-2 c = search needs
+
+granted-requires : tie.Need-granted-requires
+granted-requires c κs = search needs
+
+enum-told-3 : tie.Need-enum-told-3
+enum-told-3 c = search needs
+
+staled-requires : tie.Need-staled-requires
+staled-requires c κs = search needs
+
+enum-known-change-3 : tie.Need-enum-known-change-3
+enum-known-change-3 c = search needs
+
+placed-requires : tie.Need-placed-requires
+placed-requires c κs = search needs
+
+enum-known-change-4 : tie.Need-enum-known-change-4
+enum-known-change-4 c = search needs
+
+with-copy-requires : tie.Need-with-copy-requires
+with-copy-requires c κs = search needs
+
+enum-known-change-5 : tie.Need-enum-known-change-5
+enum-known-change-5 c = search needs
+
+without-copy-requires : tie.Need-without-copy-requires
+without-copy-requires c κs = search needs
+
+enum-known-change-6 : tie.Need-enum-known-change-6
+enum-known-change-6 c = search needs
+
+marked-requires : tie.Need-marked-requires
+marked-requires c κs = search needs
+
+returns : tie.Need-returns
+unfolding changed
+returns c = cc
+
+returns-2 : tie.Need-returns-2
+unfolding changed
+returns-2 c = cc
+
+returns-3 : tie.Need-returns-3
+unfolding changed
+returns-3 c = cc
+
+returns-4 : tie.Need-returns-4
+unfolding changed
+returns-4 c = c .granted .ensures ∙ rw (c .before .before .change2 .given .1)
+
+returns-5 : tie.Need-returns-5
+unfolding changed
+returns-5 c = cc
+
+returns-6 : tie.Need-returns-6
+unfolding changed
+returns-6 c = cc
+
+returns-7 : tie.Need-returns-7
+unfolding changed
+returns-7 c = c .with-copy .ensures ∙ rw (c .before .before .change4 .given .1)
+
+returns-8 : tie.Need-returns-8
+unfolding changed
+returns-8 c = cc
+
+returns-9 : tie.Need-returns-9
+unfolding changed
+returns-9 c = c .marked .ensures ∙ rw (c .before .before .change6 .given .1)
+
+pub after-spec : {M : Type 1} → statement M
+after-spec =
+    tie.close
+    (tie.spec
+    enum-told
+    enum-known-change
+    created-page-requires
+    enum-told-2
+    fresh-page-requires
+    enum-known-change-2
+    granted-requires
+    enum-told-3
+    staled-requires
+    enum-known-change-3
+    placed-requires
+    enum-known-change-4
+    with-copy-requires
+    enum-known-change-5
+    without-copy-requires
+    enum-known-change-6
+    marked-requires
+    returns
+    returns-2
+    returns-3
+    returns-4
+    returns-5
+    returns-6
+    returns-7
+    returns-8
+    returns-9)

@@ -1,0 +1,219 @@
+-- What the table rules say, part by part, and back: of a copy, of a page, of the tables.
+-- ---- a copy
+-- the rule of a copy of a page with n copies, on frames below limit
+use Prim.Native.Nat.{ℕ, _≤_, _<_}
+use mathlib.Core.Bool.{Bool, true, false, not, _&&_, _||_, cond, true≢false}
+use mathlib.Core.List.{List}
+use mathlib.Core.Path.{_≡_, refl, sym, ap, _∙_}
+use native.Mathlib.Omega.{arith}
+use lib.Dec.{leb, ltb, eqb}
+use lib.ListN.{length, getD, drop, replicate}
+use lib.Seq.{length-take-le, getD-take}
+use borrow.Author.Tests.{ltb-true, leb-true, eqb-true, eqb-false, not-true, lt-ltb, le-leb, eq-eqb, ne-eqb}
+use Rattle.tables.specs.declared.Copy.{Copy}
+use Rattle.tables.specs.declared.Page.{Page}
+use Rattle.tables.specs.declared.Tables.{Tables}
+use Rattle.tables.specs.Lists.{all, count}
+use Rattle.tables.specs.Model.{frames, isNull, inUse, absent, freshCopy, freshPage, noCopyEntry, noPageRecord, pageAt}
+use Rattle.tables.specs.Rules.{uses, isFresh, copyRule, isRecent, atMost, standingRule, absentRule, shaped, pageRule, alone, sound}
+use Rattle.tables.proofs.ListLaws.{and-left, and-right, and-intro, all-at, all-of, all-same, below-at, below-of}
+
+pub record GoodCopy (limit n : ℕ) (c : Copy) : Type 0 where
+  -- a CURRENT copy is MOST RECENT
+  pub marks : c .current ≡ true → c .recent ≡ true
+  -- a copy that has a frame has one in range
+  pub placed : isNull c ≡ false → c .frame < limit
+  -- a null copy is the only one, MOST RECENT and not CURRENT
+  pub lone : isNull c ≡ true → n ≡ 1
+  pub null-recent : isNull c ≡ true → c .recent ≡ true
+  pub null-idle : isNull c ≡ true → c .current ≡ false
+
+marks-of : (r c : Bool) → (r || not c) ≡ true → c ≡ true → r ≡ true
+marks-of true c e h = refl
+marks-of false true e h = e
+marks-of false false e h = h
+
+of-marks : (r c : Bool) → (c ≡ true → r ≡ true) → (r || not c) ≡ true
+of-marks true c h = refl
+of-marks false true h = h refl
+of-marks false false h = refl
+
+-- the parts of the rule
+pub good-copy : (limit n : ℕ) (c : Copy) → copyRule limit n c ≡ true → GoodCopy limit n c
+good-copy limit n c e =
+    let m = c .recent || not (c .current) in
+    let k = cond (isNull c) (eqb n 1 && (c .recent && not (c .current))) (ltb (c .frame) limit) in
+    let e₁ : m ≡ true = and-left m k e in
+    let e₂ : k ≡ true = and-right m k e in
+    record {
+      marks = marks-of (c .recent) (c .current) e₁;
+      placed = λ z. ltb-true (c .frame) limit (rw z at e₂);
+      lone = λ z. eqb-true n 1 (and-left (eqb n 1) _ (rw z at e₂));
+      null-recent = λ z. and-left (c .recent) _ (and-right (eqb n 1) _ (rw z at e₂));
+      null-idle = λ z. not-true (c .current) (and-right (c .recent) _ (and-right (eqb n 1) _ (rw z at e₂)));
+    }
+
+-- and the rule from its parts
+pub of-good-copy : (limit n : ℕ) (c : Copy) → GoodCopy limit n c → copyRule limit n c ≡ true
+of-good-copy limit n c g = and-intro (of-marks (c .recent) (c .current) (g .marks)) (by (isNull c) refl)
+  where
+    by : (b : Bool) → isNull c ≡ b → cond b (eqb n 1 && (c .recent && not (c .current))) (ltb (c .frame) limit) ≡ true
+    by true z = and-intro (eq-eqb n 1 (g .lone z)) (and-intro (g .null-recent z) (ap not (g .null-idle z)))
+    by false z = lt-ltb (c .frame) limit (g .placed z)
+
+-- a CURRENT copy has a frame
+pub current-placed : {limit n : ℕ} {c : Copy} → GoodCopy limit n c → c .current ≡ true → isNull c ≡ false
+current-placed {c = c} g h = by (isNull c) refl
+  where
+    by : (b : Bool) → isNull c ≡ b → isNull c ≡ false
+    by true z = absurd (true≢false (sym h ∙ g .null-idle z))
+    by false z = z
+
+-- and it is in range
+pub current-frame : {limit n : ℕ} {c : Copy} → GoodCopy limit n c → c .current ≡ true → c .frame < limit
+current-frame g h = g .placed (current-placed g h)
+
+-- ---- a page that stands
+
+-- the rule of such a page, for frames below limit
+pub record StandingPage (limit : ℕ) (g : Page) : Type 0 where
+  pub rights-long : length (g .rights) ≡ 16
+  pub copies-long : length (g .copies) ≡ 8
+  pub owner-ok : g .owner ≤ 15
+  pub rights-ok : all (atMost 2) (g .rights) ≡ true
+  pub some : 1 ≤ g .n
+  pub most : g .n ≤ 8
+  pub copies-ok : all (copyRule limit (g .n)) (inUse g) ≡ true
+  pub rest-fresh : all isFresh (drop (g .n) (g .copies)) ≡ true
+  pub recent-ok : 1 ≤ count isRecent (inUse g)
+
+-- the parts of the rule of a page that stands
+pub standing : (limit : ℕ) (g : Page) → pageRule limit g ≡ true → absent g ≡ false → StandingPage limit g
+unfolding pageRule standingRule
+standing limit g e st =
+    let r = eqb (length (g .rights)) 16 in
+    let s = and-left (shaped g) _ e in
+    let e₁ : standingRule limit g ≡ true = rw st at (and-right (shaped g) _ e) in
+    let e₂ = and-right (leb (g .owner) 15) _ e₁ in
+    let e₃ = and-right (all (atMost 2) (g .rights)) _ e₂ in
+    let e₄ = and-right (leb (g .n) 8) _ e₃ in
+    let e₅ = and-right (all (copyRule limit (g .n)) (inUse g)) _ e₄ in
+    let ne = eqb-false (g .n) 0 st in
+    record {
+      rights-long = eqb-true _ 16 (and-left r _ s);
+      copies-long = eqb-true _ 8 (and-right r _ s);
+      owner-ok = leb-true (g .owner) 15 (and-left (leb (g .owner) 15) _ e₁);
+      rights-ok = and-left (all (atMost 2) (g .rights)) _ e₂;
+      some = omega (arith, ne);
+      most = leb-true (g .n) 8 (and-left (leb (g .n) 8) _ e₃);
+      copies-ok = and-left (all (copyRule limit (g .n)) (inUse g)) _ e₄;
+      rest-fresh = and-left (all isFresh (drop (g .n) (g .copies))) _ e₅;
+      recent-ok = leb-true 1 _ (and-right (all isFresh (drop (g .n) (g .copies))) _ e₅);
+    }
+
+module _ {limit : ℕ} {g : Page} (s : StandingPage limit g) where
+  -- such a page is not absent
+  pub not-absent : absent g ≡ false
+  not-absent = ne-eqb (g .n) 0 (λ z. omega arith)
+
+  -- and the rule from its parts
+  pub of-standing : pageRule limit g ≡ true
+  unfolding pageRule standingRule
+  of-standing =
+      and-intro (and-intro (eq-eqb _ _ (s .rights-long)) (eq-eqb _ _ (s .copies-long)))
+      (rw not-absent (and-intro (le-leb _ _ (s .owner-ok)) (and-intro (s .rights-ok) (and-intro (le-leb _ _ (s .most))
+      (and-intro (s .copies-ok) (and-intro (s .rest-fresh) (le-leb _ _ (s .recent-ok))))))))
+
+  -- its copies are n
+  pub length-in-use : length (inUse g) ≡ g .n
+  length-in-use = length-take-le (g .n) (g .copies) (rw (s .copies-long) (s .most))
+
+  -- each of them meets the rule of a copy
+  pub copy-at : (k : ℕ) → k < g .n → GoodCopy limit (g .n) (getD (g .copies) k noCopyEntry)
+  copy-at k h =
+      good-copy limit (g .n) (getD (g .copies) k noCopyEntry)
+      (rw (getD-take (g .n) (g .copies) k noCopyEntry h) at
+      (all-at (copyRule limit (g .n)) (inUse g) k noCopyEntry (s .copies-ok) (rw length-in-use h)))
+
+-- ---- an absent page
+
+-- an entry that is as in fresh tables
+pub fresh-copy : (c : Copy) → isFresh c ≡ true → c ≡ freshCopy
+fresh-copy c e =
+    let w = neither (c .current) (c .recent) (not-true _ (and-right (isNull c) _ e)) in
+    same (c .frame) (c .current) (c .recent) (eqb-true (c .frame) 255 (and-left (isNull c) _ e)) (w .0) (w .1)
+  where
+    same : (f : ℕ) (a b : Bool) → f ≡ 255 → a ≡ false → b ≡ false → _≡_ {A = Copy} (record { frame = f; current = a; recent = b }) freshCopy
+    same f a b p q r = cc
+
+    neither : (a b : Bool) → (a || b) ≡ false → (a ≡ false) × (b ≡ false)
+    neither true b z = absurd (true≢false z)
+    neither false b z = (refl, z)
+
+-- an absent page is as in fresh tables
+pub absent-fresh : (limit : ℕ) (g : Page) → pageRule limit g ≡ true → absent g ≡ true → g ≡ freshPage
+unfolding pageRule absentRule freshPage
+absent-fresh limit g e st =
+    let r = eqb (length (g .rights)) 16 in
+    let s = and-left (shaped g) _ e in
+    let e₁ : absentRule g ≡ true = rw st at (and-right (shaped g) _ e) in
+    let e₂ = and-right (eqb (g .owner) 0) _ e₁ in
+    let l₁ : length (g .rights) ≡ 16 = eqb-true _ 16 (and-left r _ s) in
+    let l₂ : length (g .copies) ≡ 8 = eqb-true _ 8 (and-right r _ s) in
+    let rs : g .rights ≡ replicate 16 0 =
+    all-same (atMost 0) 0 (λ a z. let w = leb-true a 0 z in omega arith) (g .rights) (and-left (all (atMost 0) (g .rights)) _ e₂)
+    ∙ ap (λ (k : ℕ). replicate k 0) l₁ in
+    let cs : g .copies ≡ replicate 8 freshCopy =
+    all-same isFresh freshCopy fresh-copy (g .copies) (and-right (all (atMost 0) (g .rights)) _ e₂)
+    ∙ ap (λ (k : ℕ). replicate k freshCopy) l₂ in
+    same (g .rights) (g .copies) (g .owner) (g .n) rs cs (eqb-true (g .owner) 0 (and-left (eqb (g .owner) 0) _ e₁)) (eqb-true (g .n) 0 st)
+  where
+    same : (rs : List ℕ) (cs : List Copy) (o n : ℕ) → rs ≡ replicate 16 0 → cs ≡ replicate 8 freshCopy → o ≡ 0 → n ≡ 0
+        → _≡_ {A = Page} (record { rights = rs; copies = cs; owner = o; n = n }) (record { rights = replicate 16 0; copies = replicate 8 freshCopy; owner = 0; n = 0 })
+    same rs cs o n p q r s = cc
+
+-- and a fresh page meets the rule
+pub fresh-page-ok : (limit : ℕ) → pageRule limit freshPage ≡ true
+unfolding pageRule absentRule freshPage all
+fresh-page-ok limit = refl
+
+-- ---- the tables
+
+-- the table rules
+pub record Sound (t : Tables) : Type 0 where
+  pub fast-ok : t .fast ≤ 127
+  pub slow-ok : t .slow ≤ 127
+  pub pages-long : length (t .pages) ≡ 64
+  pub page-ok : (p : ℕ) → p < 64 → pageRule (frames t) (pageAt t p) ≡ true
+  pub once : (f : ℕ) → f < frames t → uses f (t .pages) ≤ 1
+
+-- the parts of the table rules
+pub sound-of : (t : Tables) → sound t ≡ true → Sound t
+unfolding sound alone
+sound-of t e =
+    let e₁ = and-right (leb (t .fast) 127) _ e in
+    let e₂ = and-right (leb (t .slow) 127) _ e₁ in
+    let e₃ = and-right (eqb (length (t .pages)) 64) _ e₂ in
+    let l : length (t .pages) ≡ 64 = eqb-true _ 64 (and-left (eqb (length (t .pages)) 64) _ e₂) in
+    record {
+      fast-ok = leb-true (t .fast) 127 (and-left (leb (t .fast) 127) _ e);
+      slow-ok = leb-true (t .slow) 127 (and-left (leb (t .slow) 127) _ e₁);
+      pages-long = l;
+      page-ok = λ p h.
+          all-at (pageRule (frames t)) (t .pages) p noPageRecord (and-left (all (pageRule (frames t)) (t .pages)) _ e₃) (rw l h);
+      once = λ f h.
+          leb-true (uses f (t .pages)) 1
+          (below-at (frames t) (λ f. leb (uses f (t .pages)) 1) f (and-right (all (pageRule (frames t)) (t .pages)) _ e₃) h);
+    }
+
+-- and the rules from their parts
+pub of-sound : (t : Tables) → Sound t → sound t ≡ true
+unfolding sound alone
+of-sound t s =
+    and-intro (le-leb _ _ (s .fast-ok)) (and-intro (le-leb _ _ (s .slow-ok)) (and-intro (eq-eqb _ _ (s .pages-long))
+    (and-intro (all-of (pageRule (frames t)) (t .pages) noPageRecord (λ p h. s .page-ok p (rw (s .pages-long) at h)))
+    (below-of (frames t) (λ f. leb (uses f (t .pages)) 1) (λ f h. le-leb _ _ (s .once f h))))))
+
+-- a page that stands, of sound tables
+pub standing-at : (t : Tables) (p : ℕ) → Sound t → p < 64 → absent (pageAt t p) ≡ false → StandingPage (frames t) (pageAt t p)
+standing-at t p s h st = standing (frames t) (pageAt t p) (s .page-ok p h) st

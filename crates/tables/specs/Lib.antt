@@ -1,0 +1,7 @@
+pub mod Lists
+pub mod Numbers
+pub mod Model
+pub mod Rules
+pub mod Search
+pub mod Changes
+pub mod Scan

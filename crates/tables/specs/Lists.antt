@@ -1,0 +1,19 @@
+-- Tests over a list.
+-- whether f holds of every element
+use Prim.Native.Nat.{ℕ, zero, suc, _+_}
+use mathlib.Core.Bool.{Bool, true, _&&_, cond}
+use mathlib.Core.List.{List, [], _∷_}
+
+unfoldable pub all : {A : Type 0} → (A → Bool) → List A → Bool
+all f [] = true
+all f (x ∷ xs) = f x && all f xs
+
+-- of how many elements f holds
+unfoldable pub count : {A : Type 0} → (A → Bool) → List A → ℕ
+count f [] = 0
+count f (x ∷ xs) = cond (f x) 1 0 + count f xs
+
+-- whether f holds of every number below n
+unfoldable pub allBelow : ℕ → (ℕ → Bool) → Bool
+allBelow zero f = true
+allBelow (suc n) f = f n && allBelow n f

@@ -1,0 +1,62 @@
+-- Document 01, "The tables and the two stores": the tables as values.
+-- "P fast frames and S slow frames .. numbered 0 to P+S-1"
+use Prim.Native.Nat.{ℕ, _+_}
+use mathlib.Core.Bool.{Bool, false, _&&_, cond}
+use mathlib.Core.List.{List, []}
+use lib.ListN.{replicate, getD, set, take}
+use lib.Dec.{leb, eqb}
+use Rattle.tables.specs.declared.Copy.{Copy}
+use Rattle.tables.specs.declared.Page.{Page}
+use Rattle.tables.specs.declared.Tables.{Tables}
+use Rattle.tables.specs.declared.Made.{Made}
+use Rattle.tables.specs.Numbers.{accepted, tooManyFrames}
+
+abbrev pub frames : Tables → ℕ
+frames t = t .fast + t .slow
+
+-- "A copy has a frame, or none (a null copy)": 255 stands for none
+abbrev pub isNull : Copy → Bool
+isNull c = eqb (c .frame) 255
+
+-- "eight copy entries, of which the first n are in use": the page's copies, numbered from 0
+abbrev pub inUse : Page → List Copy
+inUse g = take (g .n) (g .copies)
+
+-- a page stands if it has a copy; else it is absent
+abbrev pub absent : Page → Bool
+absent g = eqb (g .n) 0
+
+-- ---- "Fresh: no pages."
+
+-- an entry that is not in use
+abbrev pub freshCopy : Copy
+freshCopy = record { frame = 255; current = false; recent = false }
+
+-- an absent page
+unfoldable pub freshPage : Page
+freshPage = record { rights = replicate 16 0; copies = replicate 8 freshCopy; owner = 0; n = 0 }
+
+unfoldable pub freshTables : ℕ → ℕ → Tables
+freshTables p s = record { fast = p; slow = s; pages = replicate 64 freshPage }
+
+-- "too many frames: fresh with P or S above 127; returns fresh tables with P = S = 0"
+abbrev pub made : ℕ → ℕ → Made
+made p s =
+    cond (leb p 127 && leb s 127) (record { number = accepted; tables = freshTables p s })
+    (record { number = tooManyFrames; tables = freshTables 0 0 })
+
+-- ---- one page of the tables
+
+-- what stands past the end of an array, where no index in range leads
+abbrev pub noCopyEntry : Copy
+noCopyEntry = record { frame = 0; current = false; recent = false }
+
+abbrev pub noPageRecord : Page
+noPageRecord = record { rights = []; copies = []; owner = 0; n = 0 }
+
+abbrev pub pageAt : Tables → ℕ → Page
+pageAt t p = getD (t .pages) p noPageRecord
+
+-- the tables with g as the record of page p
+abbrev pub withPage : Tables → ℕ → Page → Tables
+withPage t p g = record { fast = t .fast; slow = t .slow; pages = set (t .pages) p g }

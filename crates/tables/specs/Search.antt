@@ -1,0 +1,34 @@
+-- Document 01, step 11: "it goes through the pages in order and each one's copies, and stops at the first on that frame".
+-- among the copies of page p, numbered from c on; `later` is what the pages after p give
+use Prim.Native.Nat.{ℕ, _+_}
+use mathlib.Core.Bool.{Bool, true, false, cond}
+use mathlib.Core.List.{List, [], _∷_}
+use Rattle.tables.specs.declared.Copy.{Copy}
+use Rattle.tables.specs.declared.Page.{Page}
+use Rattle.tables.specs.declared.Tables.{Tables}
+use Rattle.tables.specs.declared.Holder.{Holder}
+use Rattle.tables.specs.declared.Holder.the-variants.{At, Free}
+use Rattle.tables.specs.Model.{inUse}
+use Rattle.tables.specs.Rules.{onFrame}
+
+unfoldable pub inCopies : ℕ → ℕ → ℕ → List Copy → Holder → Holder
+inCopies f p c [] later = later
+inCopies f p c (x ∷ xs) later = cond (onFrame f x) (At p c) (inCopies f p (c + 1) xs later)
+
+-- among the pages, numbered from p on
+unfoldable pub inPages : ℕ → ℕ → List Page → Holder
+inPages f p [] = Free
+inPages f p (g ∷ gs) = inCopies f p 0 (inUse g) (inPages f (p + 1) gs)
+
+-- the copy that is on frame f
+abbrev pub holderOf : Tables → ℕ → Holder
+holderOf t f = inPages f 0 (t .pages)
+
+-- "1, page, copy. Free: 0, 255, 255"
+abbrev pub shown : Holder → List ℕ
+shown (At p c) = 1 ∷ p ∷ c ∷ []
+shown Free = 0 ∷ 255 ∷ 255 ∷ []
+
+abbrev pub isFree : Holder → Bool
+isFree (At p c) = false
+isFree Free = true
