@@ -1,5 +1,4 @@
--- Where a step may make a change: what the table rules need of it. Of page record g, in tables t.
--- a right of a page that stands
+-- When a step may make a change, of a page with record g in tables t: what the table rules ask of it.
 use Prim.Native.Nat.{ℕ, _≤_, _<_}
 use mathlib.Core.Bool.{Bool, true, false, _&&_}
 use mathlib.Core.Path.{_≡_}
@@ -13,6 +12,7 @@ use Rattle.tables.specs.Lists.{count}
 use Rattle.tables.specs.Model.{frames, isNull, inUse, absent, noCopyEntry, pageAt}
 use Rattle.tables.specs.Rules.{free, isRecent, isCurrent}
 
+-- a right of a page that stands
 pub record GrantOk (g : Page) (right : ℕ) : Type 0 where
   pub stands : absent g ≡ false
   pub low : right ≤ 2
@@ -27,16 +27,14 @@ pub record FrameOk (t : Tables) (frame : ℕ) : Type 0 where
   pub in-range : frame < frames t
   pub unused : free t frame ≡ true
 
--- the null copy goes
+-- a copy in place of the first
 pub record PlaceOk (t : Tables) (g : Page) (frame : ℕ) : Type 0 where
   pub onto : FrameOk t frame
-  pub one : g .n ≡ 1
-  pub null : isNull (getD (g .copies) 0 noCopyEntry) ≡ true
+  pub stands : absent g ≡ false
 
 -- a copy of copy `from`, which has a frame
 pub record AddOk (t : Tables) (g : Page) (frame : ℕ) : Type 0 where
   pub onto : FrameOk t frame
-  pub stands : absent g ≡ false
   pub room : g .n < 8
   pub from : ℕ
   pub from-in : from < g .n
@@ -53,14 +51,18 @@ pub record MarkOk (g : Page) (k : ℕ) (current : Bool) : Type 0 where
   pub fresh : current ≡ true → getD (g .copies) k noCopyEntry .recent ≡ true
   pub placed : current ≡ true → isNull (getD (g .copies) k noCopyEntry) ≡ false
 
--- a step may make change c of page p
+-- a step may make change c of a page with record g
+abbrev pub AllowedOn : Tables → Page → Change → Type 0
+AllowedOn t g Kept = Unit {0}
+AllowedOn t g (Created station) = station < 16
+AllowedOn t g Deleted = Unit {0}
+AllowedOn t g (Granted station right) = GrantOk g right
+AllowedOn t g Staled = StaleOk g
+AllowedOn t g (Placed frame) = PlaceOk t g frame
+AllowedOn t g (Added frame recent) = AddOk t g frame
+AllowedOn t g (Removed k) = RemoveOk g k
+AllowedOn t g (Marked k current) = MarkOk g k current
+
+-- of page p
 abbrev pub Allowed : Tables → ℕ → Change → Type 0
-Allowed t p Kept = Unit {0}
-Allowed t p (Created station) = station < 16
-Allowed t p Deleted = Unit {0}
-Allowed t p (Granted station right) = GrantOk (pageAt t p) right
-Allowed t p Staled = StaleOk (pageAt t p)
-Allowed t p (Placed frame) = PlaceOk t (pageAt t p) frame
-Allowed t p (Added frame recent) = AddOk t (pageAt t p) frame
-Allowed t p (Removed k) = RemoveOk (pageAt t p) k
-Allowed t p (Marked k current) = MarkOk (pageAt t p) k current
+Allowed t p c = AllowedOn t (pageAt t p) c

@@ -1,6 +1,4 @@
 -- What each change does to the copies of a page: to those in use, and to the entries after them.
--- ---- a list without one element
--- l without element k
 use Prim.Native.Nat.{ℕ, zero, suc, _+_, _-_, _≤_, _<_}
 use mathlib.Core.Bool.{Bool, true, false, cond}
 use mathlib.Core.List.{List, [], _∷_, _++_, map}
@@ -24,6 +22,9 @@ use Rattle.tables.specs.Changes.{created, withCopies, staleCopy, newCopy
 use Rattle.tables.proofs.GapLaws.{gap-length}
 use Rattle.tables.proofs.ListLaws.{and-left, and-right, and-intro}
 
+-- ---- a list without one element
+
+-- l without element k
 unfoldable pub without : {A : Type 0} → List A → ℕ → List A
 without [] k = []
 without (x ∷ xs) zero = xs

@@ -1,5 +1,4 @@
 -- Each change keeps the table rules, where a step may make it.
--- ---- the tables with another record for page p
 use Prim.Native.Nat.{ℕ, _+_, _≤_, _<_, zero-le}
 use mathlib.Core.Bool.{Bool, true, false, cond}
 use mathlib.Core.Path.{_≡_, refl, _∙_}
@@ -23,6 +22,8 @@ use Rattle.tables.proofs.FreshLaws.{fresh-on}
 use Rattle.tables.proofs.UsesLaws.{uses-set}
 use Rattle.tables.proofs.Allowed.{Allowed}
 use Rattle.tables.proofs.PageChanges.{staled-ok, placed-ok, marked-ok, added-ok, removed-ok, granted-ok, created-ok, staled-on, marked-on, removed-on, placed-on, added-on, created-on}
+
+-- ---- the tables with another record for page p
 
 module _ (t : Tables) (p : ℕ) (h : p < 64) (s : Sound t) where
   -- one that meets the rules
@@ -78,6 +79,10 @@ sound-after t p c h e a = of-sound (withPage t p (changed (pageAt t p) c)) (by c
     up : absent (pageAt t p) ≡ false → StandingPage (frames t) (pageAt t p)
     up st = standing-at t p s h st
 
+    -- a page that has a copy k stands
+    has : {k : ℕ} → k < pageAt t p .n → StandingPage (frames t) (pageAt t p)
+    has l = up (ne-eqb (pageAt t p .n) 0 (λ z. omega arith))
+
     by : (c : Change) → Allowed t p c → Sound (withPage t p (changed (pageAt t p) c))
     by Kept a = fewer t p h s (pageAt t p) (s .page-ok p h) (λ f l. le-refl _)
     by (Created st) a =
@@ -89,16 +94,16 @@ sound-after t p c h e a = of-sound (withPage t p (changed (pageAt t p) c)) (by c
         let g = up (a .stands) in
         fewer t p h s (changed (pageAt t p) Staled) (of-standing (staled-ok g a)) (λ f l. rw (staled-on g f) (le-refl _))
     by (Placed x) a =
-        let g = up (ne-eqb (pageAt t p .n) 0 (λ z. omega (arith, a .one))) in
+        let g = up (a .stands) in
         onto t p h s (changed (pageAt t p) (Placed x)) x (of-standing (placed-ok g x (a .onto .in-range) small)) (a .onto .unused) (placed-on g x)
     by (Added x r) a =
-        let g = up (a .stands) in
+        let g = has (a .from-in) in
         onto t p h s (changed (pageAt t p) (Added x r)) x
         (of-standing (added-ok g x r (a .onto .in-range) small (a .room) (a .from) (a .from-in) (a .from-placed))) (a .onto .unused)
         (λ f. rw (added-on g x r f (a .room)) (le-refl _))
     by (Removed k) a =
-        let g = up (ne-eqb (pageAt t p .n) 0 (λ z. omega (arith, a .in-use))) in
+        let g = has (a .in-use) in
         fewer t p h s (changed (pageAt t p) (Removed k)) (of-standing (removed-ok g k a)) (λ f l. removed-on g k f (a .in-use))
     by (Marked k b) a =
-        let g = up (ne-eqb (pageAt t p .n) 0 (λ z. omega (arith, a .in-use))) in
+        let g = has (a .in-use) in
         fewer t p h s (changed (pageAt t p) (Marked k b)) (of-standing (marked-ok g k b a)) (λ f l. rw (marked-on g k b f (a .in-use)) (le-refl _))

@@ -1,5 +1,4 @@
 -- Fresh tables meet the table rules, and no frame of theirs is used.
--- an absent page has no copy
 use Prim.Native.Nat.{ℕ, zero, suc, _+_, _≤_}
 use mathlib.Core.Bool.{true}
 use mathlib.Core.Path.{_≡_, refl}
@@ -10,6 +9,7 @@ use Rattle.tables.specs.Model.{inUse, freshPage, freshTables, noPageReco
 use Rattle.tables.specs.Rules.{onFrame, uses, sound}
 use Rattle.tables.proofs.RuleLaws.{fresh-page-ok, of-sound}
 
+-- an absent page has no copy
 pub fresh-on : (f : ℕ) → count (onFrame f) (inUse freshPage) ≡ 0
 unfolding freshPage count
 fresh-on f = refl

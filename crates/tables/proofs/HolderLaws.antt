@@ -1,5 +1,4 @@
 -- What the search for the holder of a frame finds: a copy on it, if there is one, and the only one if no two are.
--- ---- a free frame
 use Prim.Native.Nat.{ℕ, zero, suc, _+_, _≤_, _<_, zero-le, suc-le-suc}
 use mathlib.Core.Bool.{Bool, true, false, _&&_, cond}
 use mathlib.Core.List.{List, [], _∷_}
@@ -21,6 +20,8 @@ use Rattle.tables.specs.Rules.{onFrame, uses, free}
 use Rattle.tables.specs.Search.{inCopies, inPages, holderOf, isFree}
 use Rattle.tables.proofs.ListLaws.{and-left, and-right, iff-eq, and-intro, count-at}
 use Rattle.tables.proofs.UsesLaws.{uses-at}
+
+-- ---- a free frame
 
 sum-zero : (a b : ℕ) → (eqb a 0 && eqb b 0) ≡ eqb (a + b) 0
 sum-zero a b =

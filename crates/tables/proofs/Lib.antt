@@ -11,3 +11,4 @@ pub mod ChangeSound
 pub mod Loops
 pub mod Filling
 pub mod ScanLaws
+pub mod KeepLaws

@@ -1,16 +1,17 @@
--- Laws of the tests over a list: `all`, `count` and `allBelow`.
--- ---- tests joined by &&
--- the first of two tests that both hold
+-- Laws of the tests over a list, `all`, `count` and `allBelow`, and of tests joined by `&&` and `||`.
 use Prim.Native.Nat.{ℕ, zero, suc, _+_, _≤_, _<_, zero-le, suc-le-suc}
-use mathlib.Core.Bool.{Bool, true, false, _&&_, cond, and-assoc, false≢true}
+use mathlib.Core.Bool.{Bool, true, false, _&&_, _||_, cond, and-assoc, true≢false, false≢true}
 use mathlib.Core.List.{List, [], _∷_, _++_, map}
 use mathlib.Core.Logic.{⊎-elim}
 use mathlib.Core.Path.{_≡_, refl, sym, ap, ap₂, _∙_}
-use native.Mathlib.Nat.{not-suc-le-zero, le-of-suc-le-suc, eq-or-lt-of-le}
+use native.Mathlib.Nat.{not-suc-le-zero, le-of-suc-le-suc, eq-or-lt-of-le, zero-add}
 use native.Mathlib.Omega.{arith}
 use lib.ListN.{length, getD, set, take, drop, replicate, take-append-drop}
 use Rattle.tables.specs.Lists.{all, count, allBelow}
 
+-- ---- tests joined
+
+-- the first of two tests that both hold
 pub and-left : (a b : Bool) → (a && b) ≡ true → a ≡ true
 and-left true b e = refl
 and-left false b e = e
@@ -23,6 +24,21 @@ and-right false b e = absurd (false≢true e)
 -- two tests that hold, joined
 pub and-intro : {a b : Bool} → a ≡ true → b ≡ true → (a && b) ≡ true
 and-intro {a} {b} p q = rw (p, q)
+
+-- the first of two tests of which neither holds
+pub or-left : (a b : Bool) → (a || b) ≡ false → a ≡ false
+or-left true b e = e
+or-left false b e = refl
+
+-- the second of two tests of which neither holds
+pub or-right : (a b : Bool) → (a || b) ≡ false → b ≡ false
+or-right true b e = absurd (true≢false e)
+or-right false b e = e
+
+-- a test that does not hold
+pub not-so : (b : Bool) → (b ≡ true → ⊥) → b ≡ false
+not-so true h = absurd (h refl)
+not-so false h = refl
 
 -- tests that imply each other are equal
 pub iff-eq : (a b : Bool) → (a ≡ true → b ≡ true) → (b ≡ true → a ≡ true) → a ≡ b
@@ -38,12 +54,21 @@ bit-le false = omega arith
 -- ---- a test of every element
 
 module _ {A : Type 0} (f : A → Bool) where
+  -- what holds of every element holds of the first
+  pub all-first : (x : A) (xs : List A) → all f (x ∷ xs) ≡ true → f x ≡ true
+  unfolding all
+  all-first x xs e = and-left (f x) (all f xs) e
+
+  -- and of the others
+  pub all-rest : (x : A) (xs : List A) → all f (x ∷ xs) ≡ true → all f xs ≡ true
+  unfolding all
+  all-rest x xs e = and-right (f x) (all f xs) e
+
   -- what holds of every element holds at each index
   pub all-at : (l : List A) (i : ℕ) (d : A) → all f l ≡ true → i < length l → f (getD l i d) ≡ true
-  unfolding all
   all-at [] i d e h = absurd (not-suc-le-zero h)
-  all-at (x ∷ xs) zero d e h = and-left (f x) (all f xs) e
-  all-at (x ∷ xs) (suc i) d e h = all-at xs i d (and-right (f x) (all f xs) e) (le-of-suc-le-suc h)
+  all-at (x ∷ xs) zero d e h = all-first x xs e
+  all-at (x ∷ xs) (suc i) d e h = all-at xs i d (all-rest x xs e) (le-of-suc-le-suc h)
 
   -- what holds at each index holds of every element
   pub all-of : (l : List A) (d : A) → ((i : ℕ) → i < length l → f (getD l i d) ≡ true) → all f l ≡ true
@@ -103,6 +128,21 @@ all-imp f g (x ∷ xs) h e = and-intro (h x (and-left (f x) (all f xs) e)) (all-
 -- ---- of how many elements
 
 module _ {A : Type 0} (f : A → Bool) where
+  -- an element of which the test holds counts
+  pub count-hit : (x : A) (xs : List A) → f x ≡ true → count f (x ∷ xs) ≡ 1 + count f xs
+  unfolding count
+  count-hit x xs e = rw e
+
+  -- one of which it does not hold counts for nothing
+  pub count-miss : (x : A) (xs : List A) → f x ≡ false → count f (x ∷ xs) ≡ count f xs
+  unfolding count
+  count-miss x xs e = rw e (zero-add (count f xs))
+
+  -- the other elements are no more than all
+  pub count-rest : (x : A) (xs : List A) → count f xs ≤ count f (x ∷ xs)
+  unfolding count
+  count-rest x xs = omega arith
+
   -- of two lists in a row
   pub count-append : (l m : List A) → count f (l ++ m) ≡ count f l + count f m
   unfolding count

@@ -1,6 +1,4 @@
 -- A page that stands still meets its rule after each change, and which frames its copies are then on.
--- ---- a copy of a changed page
--- how many copies the page has does not matter to a copy that has a frame
 use Prim.Native.Nat.{ℕ, _+_, _-_, _≤_, _<_}
 use mathlib.Core.Bool.{Bool, true, false, _&&_, cond, true≢false, false≢true}
 use mathlib.Core.List.{List, [], _∷_, _++_, map}
@@ -17,11 +15,14 @@ use Rattle.tables.specs.Lists.{all, count}
 use Rattle.tables.specs.Model.{isNull, inUse, freshCopy, noCopyEntry}
 use Rattle.tables.specs.Rules.{onFrame, isFresh, copyRule, isRecent, isCurrent, atMost}
 use Rattle.tables.specs.Changes.{created, withCopies, staleCopy, newCopy, closeGap, markedCopy, changed}
-use Rattle.tables.proofs.ListLaws.{and-intro, all-of, all-append, all-drop, all-imp, all-map, all-set, count-append, count-at, count-le, count-map, count-set, count-some}
+use Rattle.tables.proofs.ListLaws.{and-intro, not-so, all-of, all-append, all-drop, all-imp, all-map, all-set, count-append, count-at, count-le, count-map, count-set, count-some}
 use Rattle.tables.proofs.RuleLaws.{GoodCopy, good-copy, of-good-copy, current-placed, StandingPage, length-in-use, copy-at, fresh-copy}
 use Rattle.tables.proofs.ChangeLaws.{without, length-without, all-without, count-without, changed-rights, changed-copies, in-use-staled, rest-staled, in-use-placed, rest-placed, in-use-marked, rest-marked, added, in-use-added, rest-added, in-use-removed, rest-removed}
 use Rattle.tables.proofs.Allowed.{StaleOk, RemoveOk, MarkOk}
 
+-- ---- a copy of a changed page
+
+-- how many copies the page has does not matter to a copy that has a frame
 placed-good : {limit n m : ℕ} {c : Copy} → GoodCopy limit n c → isNull c ≡ false → GoodCopy limit m c
 placed-good o e =
     record {
@@ -69,11 +70,7 @@ marked-good limit n c b o r f =
 
 -- of two copies or more none is null
 full : {limit n : ℕ} {c : Copy} → GoodCopy limit n c → 2 ≤ n → isNull c ≡ false
-full {c = c} o h = by (isNull c) refl
-  where
-    by : (b : Bool) → isNull c ≡ b → isNull c ≡ false
-    by true z = absurd (let one = o .lone z in omega arith)
-    by false z = z
+full {c = c} o h = not-so (isNull c) (λ z. let one = o .lone z in omega arith)
 
 -- where one that is not the last is taken from m, some are left
 some-left : (b : Bool) (m k : ℕ) → (b && eqb m 1) ≡ false → 1 ≤ m → k + cond b 1 0 ≡ m → 1 ≤ k
@@ -91,14 +88,11 @@ module _ {limit : ℕ} {g : Page} (s : StandingPage limit g) where
   -- beside a copy that has a frame none is null
   pub none-null : (k : ℕ) → k < g .n → isNull (getD (g .copies) k noCopyEntry) ≡ false
       → (j : ℕ) → j < g .n → isNull (getD (g .copies) j noCopyEntry) ≡ false
-  none-null k h e j m = by (isNull (getD (g .copies) j noCopyEntry)) refl
-    where
-      by : (b : Bool) → isNull (getD (g .copies) j noCopyEntry) ≡ b → isNull (getD (g .copies) j noCopyEntry) ≡ false
-      by true z =
-          let one = copy-at s j m .lone z in
-          let q : k ≡ j = omega arith in
-          rw q at e
-      by false z = z
+  none-null k h e j m =
+      not-so _ (λ z.
+      let one = copy-at s j m .lone z in
+      let q : k ≡ j = omega arith in
+      true≢false (sym z ∙ rw q at e))
 
   -- so what holds of each copy that has a frame holds of all
   all-placed : (f : Copy → Bool) (k : ℕ) → k < g .n → isNull (getD (g .copies) k noCopyEntry) ≡ false

@@ -1,6 +1,4 @@
 -- What the table rules say, part by part, and back: of a copy, of a page, of the tables.
--- ---- a copy
--- the rule of a copy of a page with n copies, on frames below limit
 use Prim.Native.Nat.{ℕ, _≤_, _<_}
 use mathlib.Core.Bool.{Bool, true, false, not, _&&_, _||_, cond, true≢false}
 use mathlib.Core.List.{List}
@@ -16,8 +14,11 @@ use Rattle.tables.specs.declared.Tables.{Tables}
 use Rattle.tables.specs.Lists.{all, count}
 use Rattle.tables.specs.Model.{frames, isNull, inUse, absent, freshCopy, freshPage, noCopyEntry, noPageRecord, pageAt}
 use Rattle.tables.specs.Rules.{uses, isFresh, copyRule, isRecent, atMost, standingRule, absentRule, shaped, pageRule, alone, sound}
-use Rattle.tables.proofs.ListLaws.{and-left, and-right, and-intro, all-at, all-of, all-same, below-at, below-of}
+use Rattle.tables.proofs.ListLaws.{and-left, and-right, and-intro, or-left, or-right, not-so, all-at, all-of, all-same, below-at, below-of}
 
+-- ---- a copy
+
+-- the rule of a copy of a page with n copies, on frames below limit
 pub record GoodCopy (limit n : ℕ) (c : Copy) : Type 0 where
   -- a CURRENT copy is MOST RECENT
   pub marks : c .current ≡ true → c .recent ≡ true
@@ -63,11 +64,7 @@ of-good-copy limit n c g = and-intro (of-marks (c .recent) (c .current) (g .mark
 
 -- a CURRENT copy has a frame
 pub current-placed : {limit n : ℕ} {c : Copy} → GoodCopy limit n c → c .current ≡ true → isNull c ≡ false
-current-placed {c = c} g h = by (isNull c) refl
-  where
-    by : (b : Bool) → isNull c ≡ b → isNull c ≡ false
-    by true z = absurd (true≢false (sym h ∙ g .null-idle z))
-    by false z = z
+current-placed {c = c} g h = not-so (isNull c) (λ z. true≢false (sym h ∙ g .null-idle z))
 
 -- and it is in range
 pub current-frame : {limit n : ℕ} {c : Copy} → GoodCopy limit n c → c .current ≡ true → c .frame < limit
@@ -140,15 +137,12 @@ module _ {limit : ℕ} {g : Page} (s : StandingPage limit g) where
 -- an entry that is as in fresh tables
 pub fresh-copy : (c : Copy) → isFresh c ≡ true → c ≡ freshCopy
 fresh-copy c e =
-    let w = neither (c .current) (c .recent) (not-true _ (and-right (isNull c) _ e)) in
-    same (c .frame) (c .current) (c .recent) (eqb-true (c .frame) 255 (and-left (isNull c) _ e)) (w .0) (w .1)
+    let w = not-true (c .current || c .recent) (and-right (isNull c) _ e) in
+    same (c .frame) (c .current) (c .recent) (eqb-true (c .frame) 255 (and-left (isNull c) _ e))
+    (or-left (c .current) _ w) (or-right (c .current) _ w)
   where
     same : (f : ℕ) (a b : Bool) → f ≡ 255 → a ≡ false → b ≡ false → _≡_ {A = Copy} (record { frame = f; current = a; recent = b }) freshCopy
     same f a b p q r = cc
-
-    neither : (a b : Bool) → (a || b) ≡ false → (a ≡ false) × (b ≡ false)
-    neither true b z = absurd (true≢false z)
-    neither false b z = (refl, z)
 
 -- an absent page is as in fresh tables
 pub absent-fresh : (limit : ℕ) (g : Page) → pageRule limit g ≡ true → absent g ≡ true → g ≡ freshPage

@@ -1,6 +1,4 @@
 -- The one pass over the pages answers what the table rules say.
--- ---- the marks
--- 1 where frame f is marked
 use Prim.Native.Nat.{ℕ, zero, suc, _+_, _≤_, _<_}
 use mathlib.Core.Path.{_≡_, refl, sym, ap, _∙_, subst}
 use mathlib.Core.Bool.{Bool, true, false, not, _&&_, cond}
@@ -21,6 +19,9 @@ use Rattle.tables.specs.Scan.{noMarks, mark, marks, scanCopies, scanStan
 use Rattle.tables.proofs.ListLaws.{and-left, and-right, and-intro, iff-eq, bit-le, below-at, below-of}
 use Rattle.tables.proofs.RuleLaws.{good-copy}
 
+-- ---- the marks
+
+-- 1 where frame f is marked
 abbrev hit : List Bool → ℕ → ℕ
 hit seen f = cond (getD seen f false) 1 0
 

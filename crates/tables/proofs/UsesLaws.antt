@@ -1,16 +1,20 @@
--- How many copies are on a frame.
--- one page replaced: the copies of the old record no longer count, those of the new one do
+-- How many copies are on a frame: of one page, of two, of all.
 use Prim.Native.Nat.{ℕ, zero, suc, _+_, _≤_, _<_, zero-le}
 use mathlib.Core.List.{List, [], _∷_}
-use mathlib.Core.Path.{_≡_}
+use mathlib.Core.Logic.{_≢_}
+use mathlib.Core.Path.{_≡_, refl, ap}
 use native.Mathlib.Nat.{not-suc-le-zero, le-of-suc-le-suc}
 use native.Mathlib.Omega.{arith}
 use lib.ListN.{length, getD, set}
+use borrow.Author.Tests.{eq-eqb}
+use Rattle.tables.specs.declared.Copy.{Copy}
 use Rattle.tables.specs.declared.Page.{Page}
 use Rattle.tables.specs.Lists.{count}
 use Rattle.tables.specs.Model.{inUse, noPageRecord}
 use Rattle.tables.specs.Rules.{onFrame, uses}
+use Rattle.tables.proofs.ListLaws.{count-hit}
 
+-- one page replaced: the copies of the old record no longer count, those of the new one do
 pub uses-set : (f : ℕ) (gs : List Page) (p : ℕ) (g : Page) → p < length gs
     → uses f (set gs p g) + count (onFrame f) (inUse (getD gs p noPageRecord)) ≡ uses f gs + count (onFrame f) (inUse g)
 unfolding uses
@@ -24,3 +28,21 @@ unfolding uses count
 uses-at f [] p = zero-le
 uses-at f (x ∷ xs) zero = omega arith
 uses-at f (x ∷ xs) (suc p) = let k = uses-at f xs p in omega arith
+
+-- and so are those of two
+pub uses-two : (f : ℕ) (gs : List Page) (p q : ℕ) → p ≢ q
+    → count (onFrame f) (inUse (getD gs p noPageRecord)) + count (onFrame f) (inUse (getD gs q noPageRecord)) ≤ uses f gs
+unfolding uses count
+uses-two f [] p q d = zero-le
+uses-two f (x ∷ xs) zero zero d = absurd (d refl)
+uses-two f (x ∷ xs) zero (suc q) d = let k = uses-at f xs q in omega arith
+uses-two f (x ∷ xs) (suc p) zero d = let k = uses-at f xs p in omega arith
+uses-two f (x ∷ xs) (suc p) (suc q) d = let k = uses-two f xs p q (λ e. d (ap suc e)) in omega arith
+
+-- a copy is on its own frame
+pub on-own : (c : Copy) (cs : List Copy) → count (onFrame (c .frame)) (c ∷ cs) ≡ 1 + count (onFrame (c .frame)) cs
+on-own c cs = count-hit (onFrame (c .frame)) c cs (eq-eqb (c .frame) (c .frame) refl)
+
+-- a frame that no copy is on is not one that some copy is on
+pub other-frame : (x y : ℕ) (cs : List Copy) → count (onFrame x) cs ≡ 0 → 1 ≤ count (onFrame y) cs → x ≢ y
+other-frame x y cs none some same = let k : 1 ≤ count (onFrame x) cs = rw same some in omega arith

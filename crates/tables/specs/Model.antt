@@ -1,5 +1,4 @@
 -- Document 01, "The tables and the two stores": the tables as values.
--- "P fast frames and S slow frames .. numbered 0 to P+S-1"
 use Prim.Native.Nat.{ℕ, _+_}
 use mathlib.Core.Bool.{Bool, false, _&&_, cond}
 use mathlib.Core.List.{List, []}
@@ -11,6 +10,7 @@ use Rattle.tables.specs.declared.Tables.{Tables}
 use Rattle.tables.specs.declared.Made.{Made}
 use Rattle.tables.specs.Numbers.{accepted, tooManyFrames}
 
+-- "P fast frames and S slow frames .. numbered 0 to P+S-1"
 abbrev pub frames : Tables → ℕ
 frames t = t .fast + t .slow
 
@@ -39,7 +39,7 @@ freshPage = record { rights = replicate 16 0; copies = replicate 8 freshCopy; ow
 unfoldable pub freshTables : ℕ → ℕ → Tables
 freshTables p s = record { fast = p; slow = s; pages = replicate 64 freshPage }
 
--- "too many frames: fresh with P or S above 127; returns fresh tables with P = S = 0"
+-- 19: "fresh with P or S above 127; returns fresh tables with P = S = 0"
 abbrev pub made : ℕ → ℕ → Made
 made p s =
     cond (leb p 127 && leb s 127) (record { number = accepted; tables = freshTables p s })

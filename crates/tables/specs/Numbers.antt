@@ -1,7 +1,7 @@
 -- Document 01, "Why a message is turned back": its table, a row a name.
--- the message was carried out
 use Prim.Native.Nat.{ℕ}
 
+-- the message was carried out
 abbrev pub accepted : ℕ
 accepted = 0
 
@@ -73,10 +73,10 @@ stale = 16
 abbrev pub noFrame : ℕ
 noFrame = 17
 
--- reply buffer below 70 bytes
+-- reply buffer below 70 bytes; nothing is written
 abbrev pub shortSlip : ℕ
 shortSlip = 18
 
--- fresh with P or S above 127
+-- fresh with P or S above 127; returns fresh tables with P = S = 0
 abbrev pub tooManyFrames : ℕ
 tooManyFrames = 19

@@ -1,5 +1,4 @@
 -- Document 01, "Table rules", as tests, for any tables whatever.
--- how many copies of the page, or of all pages, are on frame f
 use Prim.Native.Nat.{ℕ, _+_}
 use mathlib.Core.Bool.{Bool, not, _&&_, _||_, cond}
 use mathlib.Core.List.{List, [], _∷_}
@@ -11,9 +10,11 @@ use Rattle.tables.specs.declared.Tables.{Tables}
 use Rattle.tables.specs.Lists.{all, count, allBelow}
 use Rattle.tables.specs.Model.{frames, isNull, inUse, absent}
 
+-- whether a copy is on frame f; 255 is no frame, and asks for null copies
 abbrev pub onFrame : ℕ → Copy → Bool
 onFrame f c = eqb (c .frame) f
 
+-- how many copies are on frame f
 unfoldable pub uses : ℕ → List Page → ℕ
 uses f [] = 0
 uses f (g ∷ gs) = count (onFrame f) (inUse g) + uses f gs
@@ -41,7 +42,7 @@ isCurrent c = c .current
 abbrev pub atMost : ℕ → ℕ → Bool
 atMost k r = leb r k
 
--- "a page that stands has an owner 0 to 15, rights 0 to 2, n from 1 to 8; .. at least one MOST RECENT"
+-- "a page that stands has an owner 0 to 15, rights 0 to 2, n from 1 to 8; .. at least one MOST RECENT"; n is not 0 where a page stands
 unfoldable pub standingRule : ℕ → Page → Bool
 standingRule limit g =
     leb (g .owner) 15 && (all (atMost 2) (g .rights) && (leb (g .n) 8

@@ -1,5 +1,4 @@
 -- Document 01, step 11: "it goes through the pages in order and each one's copies, and stops at the first on that frame".
--- among the copies of page p, numbered from c on; `later` is what the pages after p give
 use Prim.Native.Nat.{ℕ, _+_}
 use mathlib.Core.Bool.{Bool, true, false, cond}
 use mathlib.Core.List.{List, [], _∷_}
@@ -11,6 +10,7 @@ use Rattle.tables.specs.declared.Holder.the-variants.{At, Free}
 use Rattle.tables.specs.Model.{inUse}
 use Rattle.tables.specs.Rules.{onFrame}
 
+-- among the copies of page p, numbered from c on; `later` is what the pages after p give
 unfoldable pub inCopies : ℕ → ℕ → ℕ → List Copy → Holder → Holder
 inCopies f p c [] later = later
 inCopies f p c (x ∷ xs) later = cond (onFrame f x) (At p c) (inCopies f p (c + 1) xs later)

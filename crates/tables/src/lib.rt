@@ -7,17 +7,17 @@ ghost use Prim.Native.Nat.{_+_, _-_, _<_, _≤_};
 ghost use lib.ListN.{length, set, getD, take, drop};
 ghost use lib.Dec.{leb};
 ghost use Rattle.tables.specs.Lists.{all, count};
-ghost use Rattle.tables.specs.Model.{freshCopy, freshPage, made, noCopyEntry, pageAt, inUse};
+ghost use Rattle.tables.specs.Model.{freshCopy, freshPage, made, noCopyEntry, inUse, withPage};
 ghost use Rattle.tables.specs.Rules.{isFresh, isRecent, copyRule, atMost, absentRule, sound, free};
 ghost use Rattle.tables.specs.Search.{holderOf, shown, isFree};
-ghost use Rattle.tables.specs.Changes.{created, granted, staleCopy, newCopy, withCopy, withCopies, closeGap, markedCopy, changed, after};
+ghost use Rattle.tables.specs.Changes.{created, staleCopy, newCopy, withCopy, withCopies, closeGap, markedCopy, changed, unchanged, staysRecent, isMarked, after};
 ghost use Rattle.tables.specs.Scan.{mark, scanCopies, scanStanding, scanPage, MarksAdded};
 
 // Number 19 of document 01's table.
 pub const TOO_MANY_FRAMES: u8 = 19;
 
 // The frame of a null copy.
-pub const NO_FRAME: u8 = 255;
+pub const NULL_FRAME: u8 = 255;
 
 // A copy entry: its frame, and the marks CURRENT and MOST RECENT.
 pub struct Copy {
@@ -85,7 +85,7 @@ fn fresh_copy() -> Copy
     ensures { λ r. ⌜ r ≡ freshCopy ⌝ }
 {
     Copy {
-        frame: NO_FRAME,
+        frame: NULL_FRAME,
         current: false,
         recent: false,
     }
@@ -124,7 +124,7 @@ fn created_page(station: u8) -> Page
     let c = fresh_copy();
     let mut copies = [c; 8];
     copies[0] = Copy {
-        frame: NO_FRAME,
+        frame: NULL_FRAME,
         current: false,
         recent: true,
     };
@@ -177,16 +177,32 @@ fn one_less(n: u8) -> u8
     if 0 < n { n - 1 } else { 0 }
 }
 
-impl Page {
-    fn granted(mut self, station: u8, right: u8) -> Page
-        ensures { λ r. ⌜ r ≡ granted self station right ⌝ }
-    {
-        let rights = self.rights;
-        let rs = with_right(rights, station, right);
-        self.rights = rs;
-        self
+// Whether a write would leave every entry's MOST RECENT mark. Branch-free over the eight.
+fn all_stay_recent(copies: [Copy; 8]) -> bool
+    ensures { λ r. ⌜ r ≡ all staysRecent copies ⌝ }
+{
+    let mut ok = true;
+    let mut j: usize = 0;
+    while j < 8 {
+        let c = copies[j];
+        ok = ok & (c.current | !c.recent);
+        j += 1;
     }
+    ok
+}
 
+fn is_marked(copies: [Copy; 8], copy: u8, current: bool) -> bool
+    ensures { λ r. ⌜ r ≡ isMarked copies copy current ⌝ }
+{
+    let k = copy as usize;
+    if k > 7 {
+        return true;
+    }
+    let c = copies[k];
+    (c.current & current) | (!c.current & !current)
+}
+
+impl Page {
     fn staled(mut self) -> Page
         ensures { λ r. ⌜ r ≡ withCopies self (self .n) (map staleCopy (self .copies)) ⌝ }
     {
@@ -248,19 +264,64 @@ impl Page {
         self
     }
 
-    fn after(self, change: Change) -> Page
+    // The record after a change. Each arm stores into `self`, so that the record stays where it is.
+    pub fn after(mut self, change: Change) -> Page
         ensures { λ r. ⌜ r ≡ changed self change ⌝ }
     {
         match change {
-            Change::Kept => self,
-            Change::Created { station } => created_page(station),
-            Change::Deleted => fresh_page(),
-            Change::Granted { station, right } => self.granted(station, right),
-            Change::Staled => self.staled(),
-            Change::Placed { frame } => self.placed(frame),
-            Change::Added { frame, recent } => self.with_copy(frame, recent),
-            Change::Removed { copy } => self.without_copy(copy),
-            Change::Marked { copy, current } => self.marked(copy, current),
+            Change::Kept => {}
+            Change::Created { station } => {
+                self = created_page(station);
+            }
+            Change::Deleted => {
+                self = fresh_page();
+            }
+            Change::Granted { station, right } => {
+                let s = station as usize;
+                if s < 16 {
+                    self.rights[s] = right;
+                }
+            }
+            Change::Staled => {
+                self = self.staled();
+            }
+            Change::Placed { frame } => {
+                self = self.placed(frame);
+            }
+            Change::Added { frame, recent } => {
+                self = self.with_copy(frame, recent);
+            }
+            Change::Removed { copy } => {
+                self = self.without_copy(copy);
+            }
+            Change::Marked { copy, current } => {
+                self = self.marked(copy, current);
+            }
+        }
+        self
+    }
+
+    // Whether the change is seen at a glance to leave the record as it is: the tables then need not be moved.
+    pub fn keeps(self, change: Change) -> bool
+        ensures { λ r. ⌜ r ≡ unchanged self change ⌝ }
+    {
+        let copies = self.copies;
+        match change {
+            Change::Kept => true,
+            Change::Created { station: _ } => false,
+            Change::Deleted => false,
+            Change::Granted {
+                station: _,
+                right: _,
+            } => false,
+            Change::Staled => all_stay_recent(copies),
+            Change::Placed { frame: _ } => false,
+            Change::Added {
+                frame: _,
+                recent: _,
+            } => false,
+            Change::Removed { copy: _ } => false,
+            Change::Marked { copy, current } => is_marked(copies, copy, current),
         }
     }
 }
@@ -270,7 +331,7 @@ impl Page {
 fn is_fresh(c: Copy) -> bool
     ensures { λ r. ⌜ r ≡ isFresh c ⌝ }
 {
-    (c.frame == NO_FRAME) & !(c.current | c.recent)
+    (c.frame == NULL_FRAME) & !(c.current | c.recent)
 }
 
 // Each right at most `top`. Branch-free: one vector comparison.
@@ -292,7 +353,7 @@ fn copy_ok(c: Copy, n: u8, limit: u8) -> bool
     if c.current & !c.recent {
         return false;
     }
-    if c.frame == NO_FRAME {
+    if c.frame == NULL_FRAME {
         return (n == 1) & (c.recent & !c.current);
     }
     c.frame < limit
@@ -304,7 +365,7 @@ fn mark_frame(seen: &mut [bool; 256], frame: u8) -> bool
 {
     let f = frame as usize;
     let fresh = !seen[f];
-    seen[f] = frame != NO_FRAME;
+    seen[f] = frame != NULL_FRAME;
     fresh
 }
 
@@ -511,6 +572,17 @@ impl Tables {
     {
         let h = self.holder(frame);
         h.is_free()
+    }
+
+    // The tables with another record for the page.
+    pub fn with_page(mut self, page: u8, record: Page) -> Tables
+        ensures { λ r. ⌜ r ≡ withPage self page «record» ⌝ }
+    {
+        let p = page as usize;
+        if p < 64 {
+            self.pages[p] = record;
+        }
+        self
     }
 
     // The tables after a change of the page's record.

@@ -1,5 +1,9 @@
 -- `Page::after` makes of each case of a change what `changed` says.
-use mathlib.Core.Path.{_∙_}
+use Prim.Native.Nat.{_≤_}
+use mathlib.Core.Path.{_≡_, _∙_}
+use native.Mathlib.Omega.{arith}
+use lib.Seq.{set-out}
+use lib.ListN.{length}
 use borrow.Author.Needs.{needs}
 use Rattle.tables.specs.Changes.{changed}
 use Rattle.tables.proofs.Page.after.Statement.{statement}
@@ -23,8 +27,11 @@ fresh-page-requires c κs = search needs
 enum-known-change-2 : tie.Need-enum-known-change-2
 enum-known-change-2 c = search needs
 
-granted-requires : tie.Need-granted-requires
-granted-requires c κs = search needs
+cast-s : tie.Need-cast-s
+cast-s c = search needs
+
+element-write-self : tie.Need-element-write-self
+element-write-self c = search needs
 
 enum-told-3 : tie.Need-enum-told-3
 enum-told-3 c = search needs
@@ -70,11 +77,16 @@ returns-3 c = cc
 
 returns-4 : tie.Need-returns-4
 unfolding changed
-returns-4 c = c .granted .ensures ∙ rw (c .before .before .change2 .given .1)
+returns-4 c = rw (c .before .before .change2 .given .1)
 
 returns-5 : tie.Need-returns-5
 unfolding changed
-returns-5 c = cc
+returns-5 c =
+    let g = c .before .before .before .before .args .t1 in
+    let w = c .before .before .change2 .given in
+    let l : length (g .rights) ≡ 16 = search needs in
+    let h : length (g .rights) ≤ w .0 .0 = omega arith in
+    rw (w .1, set-out (g .rights) (w .0 .0) (w .0 .1 .0))
 
 returns-6 : tie.Need-returns-6
 unfolding changed
@@ -82,15 +94,19 @@ returns-6 c = cc
 
 returns-7 : tie.Need-returns-7
 unfolding changed
-returns-7 c = c .with-copy .ensures ∙ rw (c .before .before .change4 .given .1)
+returns-7 c = c .placed .ensures ∙ rw (c .before .before .change3 .given .1)
 
 returns-8 : tie.Need-returns-8
 unfolding changed
-returns-8 c = cc
+returns-8 c = c .with-copy .ensures ∙ rw (c .before .before .change4 .given .1)
 
 returns-9 : tie.Need-returns-9
 unfolding changed
-returns-9 c = c .marked .ensures ∙ rw (c .before .before .change6 .given .1)
+returns-9 c = c .without-copy .ensures ∙ rw (c .before .before .change5 .given .1)
+
+returns-10 : tie.Need-returns-10
+unfolding changed
+returns-10 c = c .marked .ensures ∙ rw (c .before .before .change6 .given .1)
 
 pub after-spec : {M : Type 1} → statement M
 after-spec =
@@ -102,7 +118,8 @@ after-spec =
     enum-told-2
     fresh-page-requires
     enum-known-change-2
-    granted-requires
+    cast-s
+    element-write-self
     enum-told-3
     staled-requires
     enum-known-change-3
@@ -121,4 +138,5 @@ after-spec =
     returns-6
     returns-7
     returns-8
-    returns-9)
+    returns-9
+    returns-10)

@@ -1,0 +1,65 @@
+-- A change that is seen at a glance to leave a record as it is does so.
+use Prim.Native.Nat.{ℕ}
+use mathlib.Core.Path.{_≡_, refl, sym, ap, ap₂, _∙_}
+use mathlib.Core.Bool.{Bool, true, false, not, _&&_, _||_, false≢true}
+use mathlib.Core.List.{List, [], _∷_, map}
+use lib.ListN.{length, getD, set}
+use lib.Seq.{set-out, set-getD}
+use lib.Dec.{leb}
+use borrow.Author.Tests.{leb-true}
+use Rattle.tables.specs.declared.Copy.{Copy}
+use Rattle.tables.specs.declared.Page.{Page}
+use Rattle.tables.specs.declared.Tables.{Tables}
+use Rattle.tables.specs.declared.Change.{Change}
+use Rattle.tables.specs.declared.Change.the-variants.{Kept, Created, Deleted, Granted, Staled, Placed, Added, Removed, Marked}
+use Rattle.tables.specs.Lists.{all}
+use Rattle.tables.specs.Model.{noCopyEntry, pageAt}
+use Rattle.tables.specs.Changes.{staleCopy, markedCopy, withCopies, staysRecent, agree, isMarked, changed, unchanged, after}
+use Rattle.tables.proofs.ListLaws.{and-left, and-right}
+
+copy-stays : (c : Copy) → staysRecent c ≡ true → staleCopy c ≡ c
+copy-stays c e = ap (λ (b : Bool). record { frame = c .frame; current = c .current; recent = b }) (go (c .recent) (c .current) e)
+  where
+    go : (r u : Bool) → (u || not r) ≡ true → (r && u) ≡ r
+    go true true h = refl
+    go true false h = h
+    go false u h = refl
+
+copies-stay : (cs : List Copy) → all staysRecent cs ≡ true → map staleCopy cs ≡ cs
+unfolding all
+copies-stay [] e = refl
+copies-stay (c ∷ cs) e =
+    ap₂ (λ (x : Copy) (xs : List Copy). x ∷ xs) (copy-stays c (and-left (staysRecent c) _ e)) (copies-stay cs (and-right (staysRecent c) _ e))
+
+agree-same : (a b : Bool) → agree a b ≡ true → b ≡ a
+agree-same true true e = refl
+agree-same true false e = e
+agree-same false true e = sym e
+agree-same false false e = refl
+
+marks-stay : (cs : List Copy) (k : ℕ) (b : Bool) → isMarked cs k b ≡ true → set cs k (markedCopy (getD cs k noCopyEntry) b) ≡ cs
+marks-stay cs k b e = go (leb (length cs) k) refl e
+  where
+    go : (x : Bool) → leb (length cs) k ≡ x → (x || agree (getD cs k noCopyEntry .current) b) ≡ true
+        → set cs k (markedCopy (getD cs k noCopyEntry) b) ≡ cs
+    go true q h = set-out cs k _ (leb-true (length cs) k q)
+    go false q h =
+        ap (λ (z : Bool). set cs k (markedCopy (getD cs k noCopyEntry) z)) (agree-same (getD cs k noCopyEntry .current) b h)
+        ∙ set-getD cs k noCopyEntry
+
+pub unchanged-same : (g : Page) (c : Change) → unchanged g c ≡ true → changed g c ≡ g
+unfolding changed unchanged
+unchanged-same g Kept e = refl
+unchanged-same g (Created station) e = absurd (false≢true e)
+unchanged-same g Deleted e = absurd (false≢true e)
+unchanged-same g (Granted station right) e = absurd (false≢true e)
+unchanged-same g Staled e = ap (withCopies g (g .n)) (copies-stay (g .copies) e)
+unchanged-same g (Placed frame) e = absurd (false≢true e)
+unchanged-same g (Added frame recent) e = absurd (false≢true e)
+unchanged-same g (Removed k) e = absurd (false≢true e)
+unchanged-same g (Marked k current) e = ap (withCopies g (g .n)) (marks-stay (g .copies) k current e)
+
+-- the tables are then as they were
+pub unchanged-after : (t : Tables) (p : ℕ) (c : Change) → unchanged (pageAt t p) c ≡ true → after t p c ≡ t
+unfolding after
+unchanged-after t p c e = rw (unchanged-same (pageAt t p) c e, set-getD (t .pages) p _)

@@ -1,0 +1,99 @@
+-- `Page::keeps` answers what `unchanged` says, case by case.
+use borrow.Author.Needs.{needs}
+use Rattle.tables.specs.Changes.{unchanged}
+use Rattle.tables.proofs.Page.keeps.Statement.{statement}
+use Rattle.tables.proofs.Page.keeps.Tie as tie
+
+enum-told : tie.Need-enum-told
+enum-told c = search needs
+
+enum-told-2 : tie.Need-enum-told-2
+enum-told-2 c = search needs
+
+enum-told-3 : tie.Need-enum-told-3
+enum-told-3 c = search needs
+
+enum-told-4 : tie.Need-enum-told-4
+enum-told-4 c = search needs
+
+enum-told-5 : tie.Need-enum-told-5
+enum-told-5 c = search needs
+
+all-stay-recent-requires : tie.Need-all-stay-recent-requires
+all-stay-recent-requires c κs = search needs
+
+enum-told-6 : tie.Need-enum-told-6
+enum-told-6 c = search needs
+
+enum-told-7 : tie.Need-enum-told-7
+enum-told-7 c = search needs
+
+enum-told-8 : tie.Need-enum-told-8
+enum-told-8 c = search needs
+
+enum-known-change : tie.Need-enum-known-change
+enum-known-change c = search needs
+
+is-marked-requires : tie.Need-is-marked-requires
+is-marked-requires c κs = search needs
+
+returns : tie.Need-returns
+unfolding unchanged
+returns c = cc
+
+returns-2 : tie.Need-returns-2
+unfolding unchanged
+returns-2 c = cc
+
+returns-3 : tie.Need-returns-3
+unfolding unchanged
+returns-3 c = cc
+
+returns-4 : tie.Need-returns-4
+unfolding unchanged
+returns-4 c = cc
+
+returns-5 : tie.Need-returns-5
+unfolding unchanged
+returns-5 c = cc
+
+returns-6 : tie.Need-returns-6
+unfolding unchanged
+returns-6 c = cc
+
+returns-7 : tie.Need-returns-7
+unfolding unchanged
+returns-7 c = cc
+
+returns-8 : tie.Need-returns-8
+unfolding unchanged
+returns-8 c = cc
+
+returns-9 : tie.Need-returns-9
+unfolding unchanged
+returns-9 c = cc
+
+pub keeps-spec : {M : Type 1} → statement M
+keeps-spec =
+    tie.close
+    (tie.spec
+    enum-told
+    enum-told-2
+    enum-told-3
+    enum-told-4
+    enum-told-5
+    all-stay-recent-requires
+    enum-told-6
+    enum-told-7
+    enum-told-8
+    enum-known-change
+    is-marked-requires
+    returns
+    returns-2
+    returns-3
+    returns-4
+    returns-5
+    returns-6
+    returns-7
+    returns-8
+    returns-9)
