@@ -1,0 +1,45 @@
+-- Document 01, "The tables and the two stores": the stores. Both stand as one list, the fast store's bytes and then the slow one's.
+use Prim.Native.Nat.{ℕ, _+_, _*_}
+use mathlib.Core.Bool.{Bool, true, false, _&&_, cond}
+use mathlib.Core.List.{List, [], _∷_, _++_}
+use lib.ListN.{length, take, drop, replicate}
+use lib.Dec.{eqb}
+use Rattle.tables.specs.declared.Copy.{Copy}
+use Rattle.tables.specs.declared.Tables.{Tables}
+use Rattle.tables.specs.Model.{isNull}
+
+-- n bytes of l from index at on
+unfoldable pub part : List ℕ → ℕ → ℕ → List ℕ
+part l at n = take n (drop at l)
+
+-- l with the bytes b from index at on, and the rest as it was
+unfoldable pub splice : List ℕ → ℕ → List ℕ → List ℕ
+splice l at b = take at l ++ (b ++ drop (at + length b) l)
+
+-- "The fast store is exactly 64 × P lent bytes, the slow one 64 × S."
+unfoldable pub fits : Tables → List ℕ → List ℕ → Bool
+fits t fast slow = eqb (length fast) (64 * t .fast) && eqb (length slow) (64 * t .slow)
+
+-- "Frame f is the f-th block of 64 bytes, slow frames counted on from P."
+abbrev pub block : List ℕ → ℕ → List ℕ
+block st f = part st (64 * f) 64
+
+-- the stores with b laid into frame f from offset o on
+abbrev pub lay : List ℕ → ℕ → ℕ → List ℕ → List ℕ
+lay st f o b = splice st (64 * f + o) b
+
+abbrev pub zeros : List ℕ
+zeros = replicate 64 0
+
+-- what a copy holds: the bytes at its frame; a null copy counts as 64 zeros
+abbrev pub held : List ℕ → Copy → List ℕ
+held st c = cond (isNull c) zeros (block st (c .frame))
+
+-- "All CURRENT copies take the bytes"
+unfoldable pub layCurrent : List ℕ → List Copy → ℕ → List ℕ → List ℕ
+layCurrent st [] o b = st
+layCurrent st (c ∷ cs) o b = layCurrent (cond (c .current) (lay st (c .frame) o b) st) cs o b
+
+-- a lent buffer with b at its front, and the rest as lent
+abbrev pub over : List ℕ → List ℕ → List ℕ
+over b out = b ++ drop (length b) out

@@ -1,0 +1,142 @@
+// The two lent stores: frame f is in the fast one where f is below p, and else in the slow one.
+use tables::Copy;
+ghost use mathlib.Core.Path.{_≡_};
+ghost use mathlib.Core.Bool.{true};
+ghost use mathlib.Core.List.{[], _∷_, _++_};
+ghost use Prim.Native.Nat.{ℕ, _+_, _<_, _≤_};
+ghost use lib.ListN.{length, take, getD};
+ghost use Rattle.tables.specs.Lists.{count};
+ghost use Rattle.tables.specs.Model.{noCopyEntry};
+ghost use Rattle.tables.specs.Rules.{isCurrent};
+ghost use Rattle.steps.specs.Stores.{part, splice, block, lay, zeros, layCurrent};
+ghost use Rattle.steps.specs.Private.{Room};
+
+// Lays all of src into dst from index at on.
+pub(crate) fn put(dst: &mut [u8], at: usize, src: &[u8])
+    requires { ⌜ at + length (now src) ≤ length (now dst) ⌝ }
+    ensures { λ _. ⌜ now (dst .exit) ≡ splice (now (dst .entry)) at (now (src .entry)) ⌝ }
+{
+    let mut j = 0;
+    while j < src.len() {
+        dst[at + j] = src[j];
+        j += 1;
+    }
+}
+
+// The 64 bytes of s from index at on. Through a local array a frame is moved by a fixed 64-byte copy.
+fn block_at(s: &[u8], at: usize) -> [u8; 64]
+    requires { ⌜ at + 64 ≤ length (now s) ⌝ }
+    ensures { λ r. ⌜ r ≡ part (now (s .entry)) at 64 ⌝ }
+{
+    let mut b = [0u8; 64];
+    put(&mut b, 0, &s[at..at + 64]);
+    b
+}
+
+// The bytes of a frame.
+fn load(fast: &[u8], slow: &[u8], p: usize, frame: usize) -> [u8; 64]
+    requires { ⌜ Room (now fast) (now slow) p frame ⌝ }
+    ensures { λ r. ⌜ r ≡ block (now (fast .entry) ++ now (slow .entry)) frame ⌝ }
+{
+    if frame < p {
+        block_at(fast, 64 * frame)
+    } else {
+        block_at(slow, 64 * (frame - p))
+    }
+}
+
+// Lays src into a frame from an offset on.
+fn lay_frame(fast: &mut [u8], slow: &mut [u8], p: usize, frame: usize, offset: usize, src: &[u8])
+    requires { ⌜ Room (now fast) (now slow) p frame ⌝ }
+    requires { ⌜ offset + length (now src) ≤ 64 ⌝ }
+    ensures { λ _. ⌜ now (fast .exit) ++ now (slow .exit) ≡ lay (now (fast .entry) ++ now (slow .entry)) frame offset (now (src .entry)) ⌝ }
+{
+    if frame < p {
+        put(fast, 64 * frame + offset, src);
+    } else {
+        put(slow, 64 * (frame - p) + offset, src);
+    }
+}
+
+// Sets a frame to zeros.
+pub(crate) fn clear_frame(fast: &mut [u8], slow: &mut [u8], p: usize, frame: usize)
+    requires { ⌜ Room (now fast) (now slow) p frame ⌝ }
+    ensures { λ _. ⌜ now (fast .exit) ++ now (slow .exit) ≡ lay (now (fast .entry) ++ now (slow .entry)) frame 0 zeros ⌝ }
+{
+    let z = [0u8; 64];
+    lay_frame(fast, slow, p, frame, 0, &z);
+}
+
+// Copies a frame onto another, in either store or across.
+pub(crate) fn copy_frame(fast: &mut [u8], slow: &mut [u8], p: usize, from: usize, to: usize)
+    requires { ⌜ Room (now fast) (now slow) p from ⌝ }
+    requires { ⌜ Room (now fast) (now slow) p to ⌝ }
+    ensures { λ _. ⌜ now (fast .exit) ++ now (slow .exit)
+        ≡ lay (now (fast .entry) ++ now (slow .entry)) to 0 (block (now (fast .entry) ++ now (slow .entry)) from) ⌝ }
+{
+    let b = load(&fast[..], &slow[..], p, from);
+    lay_frame(fast, slow, p, to, 0, &b);
+}
+
+// Bytes of a frame, as a part of the store that has them.
+pub(crate) fn frame_part<'a>(
+    fast: &'a [u8],
+    slow: &'a [u8],
+    p: usize,
+    frame: usize,
+    offset: usize,
+    count: usize,
+) -> &'a [u8]
+    requires { ⌜ Room (now fast) (now slow) p frame ⌝ }
+    requires { ⌜ offset + count ≤ 64 ⌝ }
+    ensures { λ r. ⌜ now r ≡ part (block (now (fast .entry) ++ now (slow .entry)) frame) offset count ⌝ }
+{
+    if frame < p {
+        let a = 64 * frame + offset;
+        &fast[a..a + count]
+    } else {
+        let a = 64 * (frame - p) + offset;
+        &slow[a..a + count]
+    }
+}
+
+// Lays src into the copy's frame where the copy is CURRENT, and says for how many copies that counts.
+fn lay_copy(fast: &mut [u8], slow: &mut [u8], p: usize, c: Copy, offset: usize, src: &[u8]) -> usize
+    requires { ⌜ (c .current ≡ true → Room (now fast) (now slow) p (c .frame)) ⌝ }
+    requires { ⌜ offset + length (now src) ≤ 64 ⌝ }
+    ensures { λ _. ⌜ now (fast .exit) ++ now (slow .exit) ≡ layCurrent (now (fast .entry) ++ now (slow .entry)) (c ∷ []) offset (now (src .entry)) ⌝ }
+    ensures { λ r. ⌜ r ≡ count isCurrent (c ∷ []) ⌝ }
+{
+    if c.current {
+        let f = c.frame as usize;
+        lay_frame(fast, slow, p, f, offset, src);
+        return 1;
+    }
+    0
+}
+
+// Lays src into each CURRENT one of the first n copies, and says how many there are.
+pub(crate) fn lay_current(
+    fast: &mut [u8],
+    slow: &mut [u8],
+    p: usize,
+    copies: [Copy; 8],
+    n: usize,
+    offset: usize,
+    src: &[u8],
+) -> usize
+    requires { ⌜ n ≤ 8 ⌝ }
+    requires { ⌜ ((i : ℕ) → i < n → getD copies i noCopyEntry .current ≡ true → Room (now fast) (now slow) p (getD copies i noCopyEntry .frame)) ⌝ }
+    requires { ⌜ offset + length (now src) ≤ 64 ⌝ }
+    ensures { λ _. ⌜ now (fast .exit) ++ now (slow .exit) ≡ layCurrent (now (fast .entry) ++ now (slow .entry)) (take n copies) offset (now (src .entry)) ⌝ }
+    ensures { λ r. ⌜ r ≡ count isCurrent (take n copies) ⌝ }
+{
+    let mut j: usize = 0;
+    let mut k: usize = 0;
+    while j < n {
+        let c = copies[j];
+        k += lay_copy(fast, slow, p, c, offset, src);
+        j += 1;
+    }
+    k
+}
