@@ -1,0 +1,5 @@
+pub mod Messages
+pub mod Replies
+pub mod Run
+pub mod Promises
+pub mod Private

@@ -1,0 +1,43 @@
+-- What the functions that this layer exports promise.
+use Prim.Native.Nat.{ℕ}
+use mathlib.Core.Path.{_≡_}
+use mathlib.Core.List.{List}
+use lib.ListN.{length}
+use Rattle.steps.specs.Stores.{part, over}
+use Rattle.steps.specs.Steps.{Outcome, State, left, numberOf, laidBy}
+use Rattle.messages.specs.declared.Next.{Next}
+use Rattle.messages.specs.declared.Next.the-variants.{Message, Cut, End}
+use Rattle.messages.specs.declared.Tally.{Tally}
+use Rattle.messages.specs.declared.Answered.{Answered}
+use Rattle.messages.specs.declared.Ran.{Ran}
+use Rattle.messages.specs.Messages.{nextAt}
+use Rattle.messages.specs.Replies.{replyIn}
+use Rattle.messages.specs.Run.{Sent, cut, whole, Run, buffer, tally}
+
+-- what the reader's answer at a place says of the message there: no bytes at all count as cut short
+abbrev pub sentBy : List ℕ → Next → Sent
+sentBy l (Message start len next) = whole (part l start len)
+sentBy l Cut = cut
+sentBy l End = cut
+
+-- a message alone, as its bytes come: the bytes past it are ignored
+abbrev pub sentAlone : List ℕ → Sent
+sentAlone l = sentBy l (nextAt l 0)
+
+-- what `answer` leaves of a message on state s that comes to o
+pub record Replied (s : State) (o : Outcome State) (out fast′ slow′ out′ : List ℕ) (r : Answered) : Type 0 where
+  pub number-told : r .number ≡ numberOf o
+  pub len-told : r .len ≡ length (replyIn (length out) o)
+  pub laid-told : r .laid ≡ laidBy o
+  pub tables-out : r .tables ≡ left s o .tables
+  pub fast-out : fast′ ≡ left s o .fast
+  pub slow-out : slow′ ≡ left s o .slow
+  pub reply-out : out′ ≡ over (replyIn (length out) o) out
+
+-- what `run` leaves of a run w, with a tally n and a reply buffer
+pub record RunEnded (w : Run) (n : Tally) (out fast′ slow′ out′ : List ℕ) (r : Ran) : Type 0 where
+  pub tables-out : r .tables ≡ w .final .tables
+  pub fast-out : fast′ ≡ w .final .fast
+  pub slow-out : slow′ ≡ w .final .slow
+  pub buffer-out : out′ ≡ buffer (length out) (w .turns) out
+  pub tally-out : r .tally ≡ tally (w .turns) n

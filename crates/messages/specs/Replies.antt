@@ -1,0 +1,40 @@
+-- Document 01, "Call files and replies": replies, and the tally.
+use Prim.Native.Nat.{ℕ, _+_, _/_, _%_, min}
+use mathlib.Core.Bool.{Bool, true, false, cond}
+use mathlib.Core.List.{List, [], _∷_, _++_}
+use lib.ListN.{length}
+use lib.Dec.{ltb}
+use Rattle.tables.specs.Numbers.{accepted}
+use Rattle.steps.specs.Steps.{Outcome, refuse, accept}
+use Rattle.messages.specs.declared.Tally.{Tally}
+
+-- two bytes, big-endian
+abbrev pub be16 : ℕ → List ℕ
+be16 n = n / 256 % 256 ∷ n % 256 ∷ []
+
+-- "A reply is L, version 1, the number (0 accepted), bytes laid in two bytes big-endian, then the bytes of a read or look."
+-- "A refusal is 00 04 01 nn 00 00."
+unfoldable pub reply : {A : Type 0} → Outcome A → List ℕ
+reply (refuse n) = 0 ∷ 4 ∷ 1 ∷ n ∷ 0 ∷ 0 ∷ []
+reply (accept a laid bs) = be16 (4 + length bs) ++ (1 ∷ accepted ∷ be16 laid ++ bs)
+
+-- into a buffer of `room` bytes; 18: "reply buffer below 70 bytes; nothing is written"
+abbrev pub replyIn : {A : Type 0} → ℕ → Outcome A → List ℕ
+replyIn room o = cond (ltb room 70) [] (reply o)
+
+-- "each number stops at 4294967295"
+unfoldable pub upTo : ℕ → ℕ → ℕ
+upTo x y = min (x + y) 4294967295
+
+-- "A tally (messages, refusals, bytes laid) is brought up to date in place after each message"
+abbrev pub counted : Tally → Bool → ℕ → Tally
+counted t refused laid =
+    record {
+      messages = upTo (t .messages) 1;
+      refusals = upTo (t .refusals) (cond refused 1 0);
+      laid = upTo (t .laid) laid;
+    }
+
+abbrev pub isRefusal : {A : Type 0} → Outcome A → Bool
+isRefusal (refuse n) = true
+isRefusal (accept a laid bs) = false

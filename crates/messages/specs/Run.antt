@@ -1,0 +1,103 @@
+-- Document 01, "Call files and replies": one message, and the run over a call file.
+use Prim.Native.Nat.{ℕ, zero, suc, _+_, _*_}
+use mathlib.Core.Bool.{cond}
+use mathlib.Core.List.{List, [], _∷_, map}
+use lib.ListN.{length, take, drop}
+use lib.Dec.{ltb}
+use Rattle.tables.specs.Numbers.{cutShort, shortSlip}
+use Rattle.steps.specs.Stores.{part, over}
+use Rattle.steps.specs.Steps.{Outcome, refuse, test, State, step, left, laidBy}
+use Rattle.messages.specs.declared.Parsed.{Parsed}
+use Rattle.messages.specs.declared.Parsed.the-variants.{Refused, Asked}
+use Rattle.messages.specs.declared.Next.{Next}
+use Rattle.messages.specs.declared.Next.the-variants.{Message, Cut, End}
+use Rattle.messages.specs.declared.Tally.{Tally}
+use Rattle.messages.specs.Messages.{parse, writeBytes}
+use Rattle.messages.specs.Replies.{replyIn, counted, isRefusal}
+
+-- a message as the reader yields it: cut short, or whole, the L bytes after its length
+pub data Sent : Type 0 where
+  cut : Sent
+  whole : List ℕ → Sent
+
+-- what its own bytes ask for
+abbrev pub asked : Sent → Parsed
+asked cut = Refused cutShort
+asked (whole m) = parse m
+
+abbrev pub bytesOf : Sent → List ℕ
+bytesOf cut = []
+bytesOf (whole m) = writeBytes m
+
+abbrev pub answer : State → Parsed → List ℕ → Outcome State
+answer s (Refused n) bs = refuse n
+answer s (Asked c) bs = step s c bs
+
+-- One message, with a reply buffer of `room` bytes: 18, 1, 2, 3, 4, and then the step.
+unfoldable pub turn : ℕ → State → Sent → Outcome State
+turn room s x = test (ltb room 70) shortSlip (answer s (asked x) (bytesOf x))
+
+-- what a turn found, was sent and came to
+pub record Turn : Type 0 where
+  pub found : State
+  pub sent : Sent
+  pub outcome : Outcome State
+
+abbrev pub turnOf : ℕ → State → Sent → Turn
+turnOf room s x = record { found = s; sent = x; outcome = turn room s x }
+
+abbrev pub leftBy : ℕ → State → Sent → State
+leftBy room s x = left s (turn room s x)
+
+-- ---- the run over a call file
+
+-- The messages of a file l, at most k of them: "a 2-byte big-endian length L of what follows"; "Every message is passed over by its L,
+-- refused or not; one cut short ends the file"; 1: "one byte left, or fewer than L after the length".
+unfoldable pub split : ℕ → List ℕ → List Sent
+split zero l = []
+split (suc k) [] = []
+split (suc k) (a ∷ []) = cut ∷ []
+split (suc k) (a ∷ b ∷ l) =
+    cond (ltb (length l) (a * 256 + b)) (cut ∷ []) (whole (take (a * 256 + b) l) ∷ split k (drop (a * 256 + b) l))
+
+-- Each message takes two bytes at the least, so a file has no more messages than bytes.
+unfoldable pub messagesOf : List ℕ → List Sent
+messagesOf file = split (length file) file
+
+-- What the reader's answer at a place says of the messages from there on: the end, a cut end, or a message and those after it.
+abbrev pub yielded : List ℕ → Next → List Sent
+yielded file End = []
+yielded file Cut = cut ∷ []
+yielded file (Message start len next) = whole (part file start len) ∷ messagesOf (drop next file)
+
+-- "Each later one gets the tables and stores that the one before it left"
+unfoldable pub turnsOf : ℕ → State → List Sent → List Turn
+turnsOf room s [] = []
+turnsOf room s (x ∷ xs) = turnOf room s x ∷ turnsOf room (leftBy room s x) xs
+
+unfoldable pub endOf : ℕ → State → List Sent → State
+endOf room s [] = s
+endOf room s (x ∷ xs) = endOf room (leftBy room s x) xs
+
+-- the turns of a run, in the file's order, and the state at its end
+pub record Run : Type 0 where
+  pub turns : List Turn
+  pub final : State
+
+abbrev pub run : ℕ → List ℕ → State → Run
+run room file s = record { turns = turnsOf room s (messagesOf file); final = endOf room s (messagesOf file) }
+
+-- ---- what the caller of a run has at its end
+
+-- "the replies of a run are the list of these"
+abbrev pub replies : ℕ → List Turn → List (List ℕ)
+replies room ts = map (λ (t : Turn). replyIn room (t .outcome)) ts
+
+-- "One reply buffer serves the whole run"; "Reply bytes past the reply remain as lent."
+unfoldable pub buffer : ℕ → List Turn → List ℕ → List ℕ
+buffer room [] out = out
+buffer room (t ∷ ts) out = buffer room ts (over (replyIn room (t .outcome)) out)
+
+unfoldable pub tally : List Turn → Tally → Tally
+tally [] n = n
+tally (t ∷ ts) n = tally ts (counted n (isRefusal (t .outcome)) (laidBy (t .outcome)))

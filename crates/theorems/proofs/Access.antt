@@ -1,0 +1,100 @@
+-- Read and write agree with the flat memory's reaction to them.
+use Prim.Native.Nat.{ℕ, zero, suc, _+_, _*_, _≤_, _<_}
+use mathlib.Core.Path.{_≡_, refl, sym}
+use mathlib.Core.Bool.{true, false, not, _||_}
+use mathlib.Core.List.{List}
+use native.Mathlib.Omega.{arith}
+use lib.ListN.{length, getD, set}
+use lib.Dec.{leb, ltb, eqb}
+use borrow.Author.Tests.{eqb-false, le-leb, le-ltb, ne-eqb}
+use Rattle.tables.specs.declared.Page.{Page}
+use Rattle.tables.specs.declared.Change.the-variants.{Staled}
+use Rattle.tables.specs.Lists.{all}
+use Rattle.tables.specs.Numbers.{outOfRange, noRight}
+use Rattle.tables.specs.Model.{frames, inUse, absent, pageAt}
+use Rattle.tables.specs.Rules.{uses, copyRule}
+use Rattle.tables.specs.Changes.{changed}
+use Rattle.tables.proofs.RuleLaws.{sound-of}
+use Rattle.tables.proofs.UsesLaws.{uses-at, uses-two}
+use Rattle.tables.proofs.ChangeLaws.{in-use-staled}
+use Rattle.steps.specs.declared.Call.the-variants.{Read, Write}
+use Rattle.steps.specs.Stores.{part, splice, layCurrent}
+use Rattle.steps.specs.Calls.{badSpan}
+use Rattle.steps.specs.Steps.{keeping, currents, perform, State, applied}
+use Rattle.theorems.specs.Flat.{Flat, FlatPage, here, slotAt, react}
+use Rattle.steps.proofs.Blocks.{write-other, write-own}
+use Rattle.steps.proofs.RangeLaws.{page-near, span-within}
+use Rattle.steps.proofs.StepSound.{joined, joined-long, page-stands}
+use Rattle.theorems.proofs.Holding.{holds-written, first-current}
+use Rattle.theorems.proofs.Agreement.{Alike, Same, Inv, both-accept, both, both-parts, lacking, on-page, page-changed, page-kept, CallAgrees}
+
+-- the right that the steps ask for, and its lack, which the flat memory asks after
+not-least-one : (r : ℕ) → not (leb 1 r) ≡ eqb r 0
+not-least-one zero = refl
+not-least-one (suc r) = rw (le-leb 1 (suc r) (omega arith), ne-eqb (suc r) 0 (λ z. omega arith))
+
+not-least-two : (r : ℕ) → not (leb 2 r) ≡ ltb r 2
+not-least-two zero = refl
+not-least-two (suc zero) = refl
+not-least-two (suc (suc r)) = rw (le-leb 2 (suc (suc r)) (omega arith), le-ltb (suc (suc r)) 2 (omega arith))
+
+module _ (s : State) (f : Flat) (i : Inv s f) where
+  pub read-agrees : (a p o n : ℕ) (bs : List ℕ) → CallAgrees s f (Read a p o n) bs
+  unfolding perform react part
+  read-agrees a p o n bs =
+      both-parts (ltb 15 a || ltb 63 p) (badSpan o n) outOfRange refl (λ e _.
+      let near = page-near (Read a p o n) e in
+      let g : Page = pageAt (s .tables) p in
+      on-page (joined s) g (slotAt f p) (i .same .alike p near) (λ b some own.
+      rw (own .rights, not-least-one (getD (b .rights) a 0)) (both (eqb (getD (b .rights) a 0) 0) noRight refl (λ _.
+      lacking (eqb (currents g) 0) (λ current.
+      let ne = eqb-false (currents g) 0 current in
+      let rules = page-stands (i .good) p near some .copies-ok in
+      let bytes = first-current (frames (s .tables)) (g .n) (joined s) (b .bytes) (inUse g) rules (omega arith) (own .holds) in
+      rw bytes (both-accept (page-kept s f i p near)))))))
+
+  -- page p, which stands as b, written
+  written : (p : ℕ) → p < 64 → absent (pageAt (s .tables) p) ≡ false → (b : FlatPage) → Alike (joined s) (pageAt (s .tables) p) b
+      → (o : ℕ) (bs : List ℕ) → o + length bs ≤ 64
+      → Same (applied s p (keeping Staled (layCurrent (joined s) (inUse (pageAt (s .tables) p)) o bs)))
+      (set f p (here (record { owner = b .owner; rights = b .rights; bytes = splice (b .bytes) o bs })))
+  unfolding changed
+  written p near some b own o bs span =
+      page-changed s f i p near Staled _ _ (
+        some,
+        record {
+          owners = own .owners;
+          rights = own .rights;
+          holds = rw (in-use-staled g) (holds-written limit (g .n) (joined s) _ (b .bytes) o bs (inUse g) rules (λ x l current.
+              write-own limit (g .n) o bs span (inUse g) (joined s) long rules x (omega (arith, once x l, uses-at x (s .tables .pages) p)) current)
+              (own .holds));
+        },
+      )
+      (λ q d y l used. write-other limit (g .n) o bs span (inUse g) (joined s) long rules y
+      (omega (arith, once y l, uses-two y (s .tables .pages) p q (λ e. d (sym e)))))
+    where
+      g : Page
+      g = pageAt (s .tables) p
+
+      limit : ℕ
+      limit = frames (s .tables)
+
+      long : length (joined s) ≡ 64 * limit
+      long = joined-long (i .good)
+
+      rules : all (copyRule limit (g .n)) (inUse g) ≡ true
+      rules = page-stands (i .good) p near some .copies-ok
+
+      once : (x : ℕ) → x < limit → uses x (s .tables .pages) ≤ 1
+      once = sound-of (s .tables) (i .good .tables-sound) .once
+
+  pub write-agrees : (a p o : ℕ) (bs : List ℕ) → CallAgrees s f (Write a p o) bs
+  unfolding perform react splice
+  write-agrees a p o bs =
+      both-parts (ltb 15 a || ltb 63 p) (badSpan o (length bs)) outOfRange refl (λ e e′.
+      let near = page-near (Write a p o) e in
+      let g : Page = pageAt (s .tables) p in
+      on-page (joined s) g (slotAt f p) (i .same .alike p near) (λ b some own.
+      rw (own .rights, not-least-two (getD (b .rights) a 0)) (both (ltb (getD (b .rights) a 0) 2) noRight refl (λ _.
+      lacking (eqb (currents g) 0) (λ _.
+      both-accept (written p near some b own o bs (span-within o (length bs) e′)))))))

@@ -1,0 +1,9 @@
+pub mod Holding
+pub mod Agreement
+pub mod Owners
+pub mod Access
+pub mod Moves
+pub mod Frames
+pub mod Induction
+pub mod Whole
+pub mod Refusals

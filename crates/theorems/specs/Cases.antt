@@ -1,0 +1,112 @@
+-- Document 01, "Cases": the worked example and the starred cases, computed from the definitions.
+use Prim.Native.Nat.{ℕ}
+use mathlib.Core.Path.{_≡_, refl}
+use mathlib.Core.List.{List, [], _∷_, _++_, map}
+use lib.ListN.{replicate}
+use Rattle.tables.specs.Lists.{all, count, allBelow}
+use Rattle.tables.specs.Model.{freshPage, freshTables}
+use Rattle.tables.specs.Rules.{uses, standingRule, absentRule, pageRule, alone, sound}
+use Rattle.tables.specs.Search.{inCopies, inPages}
+use Rattle.tables.specs.Changes.{created, closeGap, changed, after}
+use Rattle.steps.specs.Stores.{part, splice, fits, layCurrent}
+use Rattle.steps.specs.Steps.{Outcome, firstCurrent, entries, perform, State, step}
+use Rattle.messages.specs.Messages.{parse}
+use Rattle.messages.specs.Replies.{reply}
+use Rattle.messages.specs.Run.{Sent, split, messagesOf, turnsOf, endOf, turn, Run, run, replies}
+use Rattle.theorems.specs.Flat.{none, react, reactTo, Answer}
+use Rattle.theorems.specs.Demand3.{elevens, flatAfter, flatAnswers, runAnswers}
+
+-- ---- the worked example
+
+-- "A program with P = S = 4"; the stores' bytes are anything
+abbrev pub state₀ : State
+state₀ = record { tables = freshTables 4 4; fast = replicate 256 0xEE; slow = replicate 256 0xDD }
+
+abbrev pub file₁ : List ℕ
+file₁ =
+    0 ∷ 4 ∷ 1 ∷ 1 ∷ 3 ∷ 5 ∷ 0 ∷ 5 ∷ 1 ∷ 6 ∷ 5 ∷ 0 ∷ 0 ∷ 0 ∷ 4 ∷ 1 ∷ 8 ∷ 5 ∷ 0 ∷ 0 ∷ 7 ∷ 1 ∷ 5 ∷ 3 ∷ 5 ∷ 0 ∷ 0x41 ∷ 0x37 ∷ 0 ∷ 6
+    ∷ 1 ∷ 4 ∷ 3 ∷ 5 ∷ 0 ∷ 3 ∷ 0 ∷ 3 ∷ 1 ∷ 0xA ∷ 5 ∷ []
+
+-- the run with the least reply buffer; to open it is to open all that it computes by
+unfoldable pub runOn : State → List ℕ → Run
+unfolding messagesOf split turnsOf endOf turn parse step sound alone allBelow all count uses pageRule standingRule absentRule fits freshTables freshPage after changed created closeGap inPages inCopies perform firstCurrent entries layCurrent splice part reply
+runOn s file = run 70 file s
+
+-- one turn of it
+unfoldable pub rightTurn : State → Sent → Outcome State
+unfolding turn parse step sound alone allBelow all count uses pageRule standingRule absentRule fits freshTables freshPage after changed created closeGap inPages inCopies perform firstCurrent entries layCurrent splice part reply
+rightTurn s x = turn 70 s x
+
+abbrev pub repliesOf : State → List ℕ → List (List ℕ)
+repliesOf s file = replies 70 (runOn s file .turns)
+
+pub worked : repliesOf state₀ file₁
+    ≡ ((0 ∷ 4 ∷ 1 ∷ 0 ∷ 0 ∷ 0 ∷ []) ∷ (0 ∷ 4 ∷ 1 ∷ 0 ∷ 0 ∷ 0x40 ∷ []) ∷ (0 ∷ 4 ∷ 1 ∷ 0 ∷ 0 ∷ 0 ∷ [])
+    ∷ (0 ∷ 4 ∷ 1 ∷ 0 ∷ 0 ∷ 2 ∷ []) ∷ (0 ∷ 7 ∷ 1 ∷ 0 ∷ 0 ∷ 0 ∷ 0x41 ∷ 0x37 ∷ 0 ∷ [])
+    ∷ (0 ∷ 8 ∷ 1 ∷ 0 ∷ 0 ∷ 0 ∷ 1 ∷ 0 ∷ 1 ∷ 1 ∷ []) ∷ [])
+unfolding runOn
+worked = refl
+
+-- ---- the starred cases
+
+-- the state that the worked example leaves
+unfoldable pub state₁ : State
+state₁ = runOn state₀ file₁ .final
+
+abbrev pub lastOf : List (List ℕ) → List ℕ
+lastOf [] = []
+lastOf (r ∷ []) = r
+lastOf (r ∷ r′ ∷ rs) = lastOf (r′ ∷ rs)
+
+-- a case: a call file, and the last reply to it
+pub record Case : Type 0 where
+  pub file : List ℕ
+  pub last : List ℕ
+
+infix 80 _↝_
+abbrev pub _↝_ : List ℕ → List ℕ → Case
+file ↝ last = record { file = file; last = last }
+
+-- "each on that end state anew, by station 3 and on page 5 where no other is named"
+abbrev pub table : List Case
+table =
+    -- read offset 63 count 1 gives 00; count 2 there: 7
+    (0 ∷ 6 ∷ 1 ∷ 4 ∷ 3 ∷ 5 ∷ 63 ∷ 1 ∷ []) ↝ (0 ∷ 5 ∷ 1 ∷ 0 ∷ 0 ∷ 0 ∷ 0 ∷ [])
+    ∷ (0 ∷ 6 ∷ 1 ∷ 4 ∷ 3 ∷ 5 ∷ 63 ∷ 2 ∷ []) ↝ (0 ∷ 4 ∷ 1 ∷ 7 ∷ 0 ∷ 0 ∷ [])
+    -- frame 7 copied to: accepted; frame 8: 7; frame 0: 13
+    ∷ (0 ∷ 5 ∷ 1 ∷ 6 ∷ 5 ∷ 0 ∷ 7 ∷ []) ↝ (0 ∷ 4 ∷ 1 ∷ 0 ∷ 0 ∷ 64 ∷ [])
+    ∷ (0 ∷ 5 ∷ 1 ∷ 6 ∷ 5 ∷ 0 ∷ 8 ∷ []) ↝ (0 ∷ 4 ∷ 1 ∷ 7 ∷ 0 ∷ 0 ∷ [])
+    ∷ (0 ∷ 5 ∷ 1 ∷ 6 ∷ 5 ∷ 0 ∷ 0 ∷ []) ↝ (0 ∷ 4 ∷ 1 ∷ 13 ∷ 0 ∷ 0 ∷ [])
+    -- delete copy 0: 15; station 4 reads: 10; create page 5: 8
+    ∷ (0 ∷ 4 ∷ 1 ∷ 7 ∷ 5 ∷ 0 ∷ []) ↝ (0 ∷ 4 ∷ 1 ∷ 15 ∷ 0 ∷ 0 ∷ [])
+    ∷ (0 ∷ 6 ∷ 1 ∷ 4 ∷ 4 ∷ 5 ∷ 0 ∷ 1 ∷ []) ↝ (0 ∷ 4 ∷ 1 ∷ 10 ∷ 0 ∷ 0 ∷ [])
+    ∷ (0 ∷ 4 ∷ 1 ∷ 1 ∷ 3 ∷ 5 ∷ []) ↝ (0 ∷ 4 ∷ 1 ∷ 8 ∷ 0 ∷ 0 ∷ [])
+    -- copy 1 made, then a write: set current 1 gives 16
+    ∷ (0 ∷ 5 ∷ 1 ∷ 6 ∷ 5 ∷ 0 ∷ 1 ∷ 0 ∷ 6 ∷ 1 ∷ 5 ∷ 3 ∷ 5 ∷ 0 ∷ 9 ∷ 0 ∷ 4 ∷ 1 ∷ 8 ∷ 5 ∷ 1 ∷ []) ↝ (0 ∷ 4 ∷ 1 ∷ 16 ∷ 0 ∷ 0 ∷ [])
+    -- remove current 0, then read: 11
+    ∷ (0 ∷ 4 ∷ 1 ∷ 9 ∷ 5 ∷ 0 ∷ 0 ∷ 6 ∷ 1 ∷ 4 ∷ 3 ∷ 5 ∷ 0 ∷ 1 ∷ []) ↝ (0 ∷ 4 ∷ 1 ∷ 11 ∷ 0 ∷ 0 ∷ [])
+    -- page 6 created, set current 0: 17
+    ∷ (0 ∷ 4 ∷ 1 ∷ 1 ∷ 3 ∷ 6 ∷ 0 ∷ 4 ∷ 1 ∷ 8 ∷ 6 ∷ 0 ∷ []) ↝ (0 ∷ 4 ∷ 1 ∷ 17 ∷ 0 ∷ 0 ∷ [])
+    ∷ []
+
+pub starred : map (λ (c : Case). lastOf (repliesOf state₁ (c .file))) table ≡ map (λ (c : Case). c .last) table
+unfolding state₁ runOn
+starred = refl
+
+-- ---- the flat memory beside the worked example, a read answered 11 after it and a delete by another station
+
+abbrev pub file₂ : List ℕ
+file₂ = file₁ ++ (0 ∷ 4 ∷ 1 ∷ 9 ∷ 5 ∷ 0 ∷ 0 ∷ 6 ∷ 1 ∷ 4 ∷ 3 ∷ 5 ∷ 0 ∷ 1 ∷ 0 ∷ 4 ∷ 1 ∷ 2 ∷ 4 ∷ 5 ∷ [])
+
+abbrev pub expected : List Answer
+expected =
+    record { number = 0; bytes = [] } ∷ record { number = 0; bytes = [] } ∷ record { number = 0; bytes = 0x41 ∷ 0x37 ∷ 0 ∷ [] }
+    ∷ record { number = 10; bytes = [] } ∷ []
+
+pub flat-side : flatAnswers none (messagesOf file₂) (elevens 70 (runOn state₀ file₂ .turns)) ≡ expected
+unfolding flatAnswers flatAfter react reactTo runOn messagesOf split
+flat-side = refl
+
+pub run-side : runAnswers 70 (runOn state₀ file₂ .turns) ≡ expected
+unfolding runAnswers runOn
+run-side = refl

@@ -1,0 +1,152 @@
+-- Demand 3: the flat memory beside a run.
+use Prim.Native.Nat.{ℕ, _*_, _≤_, _<_}
+use mathlib.Core.Path.{_≡_}
+use mathlib.Core.Bool.{Bool, true, false, not, _&&_, cond}
+use mathlib.Core.List.{List, [], _∷_, _++_, map}
+use lib.ListN.{length, drop, getD}
+use lib.Dec.{eqb}
+use Rattle.tables.specs.declared.Copy.{Copy}
+use Rattle.tables.specs.declared.Page.{Page}
+use Rattle.tables.specs.declared.Tables.{Tables}
+use Rattle.tables.specs.Lists.{count}
+use Rattle.tables.specs.Numbers.{nothingCurrent}
+use Rattle.tables.specs.Model.{inUse, absent, pageAt, freshTables}
+use Rattle.tables.specs.Rules.{isRecent}
+use Rattle.steps.specs.declared.Call.{Call}
+use Rattle.steps.specs.declared.Call.the-variants.{Create, DeletePage, Grant, Read, Write, MakeCopy, DeleteCopy, SetCurrent, RemoveCurrent, LookPage, LookFrame}
+use Rattle.steps.specs.Stores.{held}
+use Rattle.steps.specs.Steps.{State, currents}
+use Rattle.messages.specs.declared.Parsed.{Parsed}
+use Rattle.messages.specs.declared.Parsed.the-variants.{Refused, Asked}
+use Rattle.messages.specs.Replies.{replyIn}
+use Rattle.messages.specs.Run.{Sent, asked, bytesOf, Turn, messagesOf, Run, run}
+use Rattle.theorems.specs.Flat.{Flat, FlatPage, Slot, gone, here, slotAt, none, Reaction, react, reactTo, flatLeft, Answer, answersOf, accepts}
+
+-- ---- what the flat memory learns of a run
+
+-- the number of a reply: its fourth byte
+abbrev pub numberIn : List ℕ → ℕ
+numberIn r = getD r 3 0
+
+-- whether a turn's message was answered 11
+abbrev pub eleven : ℕ → Turn → Bool
+eleven room t = eqb (numberIn (replyIn room (t .outcome))) nothingCurrent
+
+abbrev pub sentIn : Turn → Sent
+sentIn t = t .sent
+
+abbrev pub elevens : ℕ → List Turn → List Bool
+elevens room ts = map (eleven room) ts
+
+-- ---- the flat memory beside the messages xs of a file, of which those that es marks were answered 11
+-- "It gets the messages of the file in order. Messages that the kernel answers 11 are kept from it; nothing else of the kernel's
+-- answers or tables reaches it."
+
+abbrev pub reaction : Flat → Sent → Reaction
+reaction f x = reactTo f (asked x) (bytesOf x)
+
+unfoldable pub flatAfter : Flat → Sent → Bool → Flat
+flatAfter f x e = cond e f (flatLeft f (reaction f x))
+
+unfoldable pub flatEnd : Flat → List Sent → List Bool → Flat
+flatEnd f [] es = f
+flatEnd f (x ∷ xs) [] = f
+flatEnd f (x ∷ xs) (e ∷ es) = flatEnd (flatAfter f x e) xs es
+
+unfoldable pub flatAnswers : Flat → List Sent → List Bool → List Answer
+flatAnswers f [] es = []
+flatAnswers f (x ∷ xs) [] = []
+flatAnswers f (x ∷ xs) (e ∷ es) = cond e [] (answersOf (reaction f x)) ++ flatAnswers (flatAfter f x e) xs es
+
+-- ---- "the run's replies to those same messages": those of the kinds that the flat memory answers, 1 to 5, and not answered 11
+
+abbrev pub flatKind : Call → Bool
+flatKind (Create s p) = true
+flatKind (DeletePage s p) = true
+flatKind (Grant s p o r) = true
+flatKind (Read s p o n) = true
+flatKind (Write s p o) = true
+flatKind (MakeCopy p k x) = false
+flatKind (DeleteCopy p k) = false
+flatKind (SetCurrent p k) = false
+flatKind (RemoveCurrent p k) = false
+flatKind (LookPage p) = false
+flatKind (LookFrame x) = false
+
+abbrev pub answered : Parsed → Bool
+answered (Refused n) = false
+answered (Asked c) = flatKind c
+
+-- "each reply taken as its number and the bytes after its first six"
+abbrev pub taken : List ℕ → Answer
+taken r = record { number = numberIn r; bytes = drop 6 r }
+
+unfoldable pub runAnswers : ℕ → List Turn → List Answer
+runAnswers room [] = []
+runAnswers room (t ∷ ts) =
+    cond (not (eleven room t) && answered (asked (t .sent))) (taken (replyIn room (t .outcome)) ∷ []) [] ++ runAnswers room ts
+
+-- ---- number 11 exactly where the flat memory would accept and nothing is current
+
+-- a read or write of a page with no CURRENT copy
+abbrev pub lacks : Tables → Call → Bool
+lacks t (Create s p) = false
+lacks t (DeletePage s p) = false
+lacks t (Grant s p o r) = false
+lacks t (Read s p o n) = eqb (currents (pageAt t p)) 0
+lacks t (Write s p o) = eqb (currents (pageAt t p)) 0
+lacks t (MakeCopy p k x) = false
+lacks t (DeleteCopy p k) = false
+lacks t (SetCurrent p k) = false
+lacks t (RemoveCurrent p k) = false
+lacks t (LookPage p) = false
+lacks t (LookFrame x) = false
+
+abbrev pub due : Flat → State → Parsed → List ℕ → Bool
+due f s (Refused n) bs = false
+due f s (Asked c) bs = accepts (react f c bs) && lacks (s .tables) c
+
+-- where 11 is due, turn by turn, beside the flat memory at that point
+unfoldable pub dues : ℕ → Flat → List Turn → List Bool
+dues room f [] = []
+dues room f (t ∷ ts) = due f (t .found) (asked (t .sent)) (bytesOf (t .sent)) ∷ dues room (flatAfter f (t .sent) (eleven room t)) ts
+
+-- ---- at the end: the same pages, owners and rights, and every MOST RECENT copy holds its page's flat bytes
+
+-- "A copy holds the bytes at its frame in the run's stores"; one without a frame counts as 64 zeros (`held`)
+abbrev pub Holds : List ℕ → List Copy → List ℕ → Type 0
+Holds st [] bs = Unit {0}
+Holds st (c ∷ cs) bs = (c .recent ≡ true → held st c ≡ bs) × Holds st cs bs
+
+pub record SamePage (st : List ℕ) (g : Page) (b : FlatPage) : Type 0 where
+  pub owners : g .owner ≡ b .owner
+  pub rights : g .rights ≡ b .rights
+  pub some-recent : 1 ≤ count isRecent (inUse g)
+  pub holds : Holds st (inUse g) (b .bytes)
+
+abbrev pub SameSlot : List ℕ → Page → Slot → Type 0
+SameSlot st g gone = absent g ≡ true
+SameSlot st g (here b) = (absent g ≡ false) × SamePage st g b
+
+-- ---- the one theorem
+
+-- of a run r over the file, with P = p, S = s and a reply buffer of `room` bytes
+pub record Agrees (p s room : ℕ) (file : List ℕ) (r : Run) : Type 0 where
+  -- a turn for each message of the file, in order
+  pub messages : map sentIn (r .turns) ≡ messagesOf file
+  -- "Two lists, in the file's order, are equal"
+  pub answers : flatAnswers none (messagesOf file) (elevens room (r .turns)) ≡ runAnswers room (r .turns)
+  -- 11 exactly where it is due
+  pub elevens-due : elevens room (r .turns) ≡ dues room none (r .turns)
+  -- the stores keep their lengths, so that frame f is the f-th block of both together
+  pub fast-long : length (r .final .fast) ≡ 64 * p
+  pub slow-long : length (r .final .slow) ≡ 64 * s
+  pub pages : (q : ℕ) → q < 64
+      → SameSlot (r .final .fast ++ r .final .slow) (pageAt (r .final .tables) q)
+      (slotAt (flatEnd none (messagesOf file) (elevens room (r .turns))) q)
+
+-- "The file is of any length"; "fresh tables of any P and S in range"; "The stores' bytes may be anything", and so may the reply buffer's
+abbrev pub Demand3 : Type 0
+Demand3 =
+    (p s : ℕ) (fast slow out file : List ℕ) → p ≤ 127 → s ≤ 127 → length fast ≡ 64 * p → length slow ≡ 64 * s → 70 ≤ length out
+    → Agrees p s (length out) file (run (length out) file (record { tables = freshTables p s; fast = fast; slow = slow }))
