@@ -3,16 +3,17 @@
 use Prim.Native.Nat.{ℕ}
 use mathlib.Core.Path.{_≡_, refl}
 use mathlib.Core.Bool.{true, false, cond}
-use mathlib.Core.List.{List, [], _∷_, map}
-use lib.ListN.{length}
+use mathlib.Core.List.{List, [], _∷_, _++_, map}
+use lib.ListN.{length, take, drop}
 use Rattle.tables.specs.Numbers.{noPage, nothingCurrent}
-use Rattle.tables.specs.Model.{absent, pageAt}
+use Rattle.tables.specs.Model.{absent, inUse, pageAt}
 use Rattle.steps.specs.declared.Call.the-variants.{Create, DeletePage, Grant, Read, Write, MakeCopy, DeleteCopy, SetCurrent, RemoveCurrent, LookPage, LookFrame}
-use Rattle.steps.specs.Steps.{Outcome, refuse, accept, State, left}
+use Rattle.steps.specs.Stores.{splice, lay}
+use Rattle.steps.specs.Steps.{Outcome, refuse, accept, State, left, firstCurrent}
 use Rattle.messages.specs.declared.Parsed.{Parsed}
 use Rattle.messages.specs.declared.Parsed.the-variants.{Refused, Asked}
 use Rattle.messages.specs.Replies.{reply}
-use Rattle.messages.specs.Run.{Sent, split, messagesOf, asked, Turn}
+use Rattle.messages.specs.Run.{Sent, split, messagesOf, asked, Turn, bytesOf}
 use Rattle.theorems.specs.Flat.{none, react, reactTo, Answer}
 use Rattle.theorems.specs.Demand3.{elevens, flatAfter, flatAnswers, runAnswers, dues}
 use Rattle.theorems.specs.Cases.{state₀, file₁, rightTurn}
@@ -161,3 +162,69 @@ inventing-replies = refl
 pub six-messages : length (messagesOf file₁) ≡ 6
 unfolding messagesOf split
 six-messages = refl
+
+-- ---- two of the traps, on files of their own
+
+-- the tables as the right kernel leaves them, with other stores
+abbrev pub withStores : Outcome State → List ℕ → ℕ → Outcome State
+withStores (refuse n) st cut = refuse n
+withStores (accept s laid bs) st cut = accept (record { tables = s .tables; fast = take cut st; slow = drop cut st }) laid bs
+
+-- "writing one current copy of two": only the lowest-numbered takes the bytes
+abbrev pub sparing : State → Sent → Parsed → Outcome State
+sparing s x (Refused n) = rightTurn s x
+sparing s x (Asked (Create a p)) = rightTurn s x
+sparing s x (Asked (DeletePage a p)) = rightTurn s x
+sparing s x (Asked (Grant a p o r)) = rightTurn s x
+sparing s x (Asked (Read a p o n)) = rightTurn s x
+sparing s x (Asked (Write a p o)) =
+    withStores (rightTurn s x) (lay (s .fast ++ s .slow) (firstCurrent (inUse (pageAt (s .tables) p))) o (bytesOf x)) (length (s .fast))
+sparing s x (Asked (MakeCopy p k f)) = rightTurn s x
+sparing s x (Asked (DeleteCopy p k)) = rightTurn s x
+sparing s x (Asked (SetCurrent p k)) = rightTurn s x
+sparing s x (Asked (RemoveCurrent p k)) = rightTurn s x
+sparing s x (Asked (LookPage p)) = rightTurn s x
+sparing s x (Asked (LookFrame f)) = rightTurn s x
+
+abbrev pub sparingKernel : Kernel
+sparingKernel s x = sparing s x (asked x)
+
+-- two current copies, a write of 9, the first no longer current, a read
+abbrev pub twoCurrent : List ℕ
+twoCurrent =
+    0 ∷ 4 ∷ 1 ∷ 1 ∷ 3 ∷ 5 ∷ 0 ∷ 5 ∷ 1 ∷ 6 ∷ 5 ∷ 0 ∷ 0 ∷ 0 ∷ 4 ∷ 1 ∷ 8 ∷ 5 ∷ 0 ∷ 0 ∷ 5 ∷ 1 ∷ 6 ∷ 5 ∷ 0 ∷ 1 ∷ 0 ∷ 4 ∷ 1 ∷ 8 ∷ 5 ∷ 1
+    ∷ 0 ∷ 6 ∷ 1 ∷ 5 ∷ 3 ∷ 5 ∷ 0 ∷ 9 ∷ 0 ∷ 4 ∷ 1 ∷ 9 ∷ 5 ∷ 0 ∷ 0 ∷ 6 ∷ 1 ∷ 4 ∷ 3 ∷ 5 ∷ 0 ∷ 1 ∷ []
+
+pub sparing-flat : flatAnswers none (messagesOf twoCurrent) (elevens 70 (turnsBy sparingKernel state₀ (messagesOf twoCurrent)))
+    ≡ (record { number = 0; bytes = [] } ∷ record { number = 0; bytes = [] } ∷ record { number = 0; bytes = 9 ∷ [] } ∷ [])
+unfolding turnsBy messagesOf split rightTurn flatAnswers flatAfter react reactTo splice firstCurrent
+sparing-flat = refl
+
+pub sparing-run : runAnswers 70 (turnsBy sparingKernel state₀ (messagesOf twoCurrent))
+    ≡ (record { number = 0; bytes = [] } ∷ record { number = 0; bytes = [] } ∷ record { number = 0; bytes = 0 ∷ [] } ∷ [])
+unfolding turnsBy messagesOf split rightTurn runAnswers splice firstCurrent
+sparing-run = refl
+
+-- "taking a free frame's old bytes for zeros": a copy is made and nothing is laid
+abbrev pub trusting : State → Sent → Parsed → Outcome State
+trusting s x (Refused n) = rightTurn s x
+trusting s x (Asked (Create a p)) = rightTurn s x
+trusting s x (Asked (DeletePage a p)) = rightTurn s x
+trusting s x (Asked (Grant a p o r)) = rightTurn s x
+trusting s x (Asked (Read a p o n)) = rightTurn s x
+trusting s x (Asked (Write a p o)) = rightTurn s x
+trusting s x (Asked (MakeCopy p k f)) = withStores (rightTurn s x) (s .fast ++ s .slow) (length (s .fast))
+trusting s x (Asked (DeleteCopy p k)) = rightTurn s x
+trusting s x (Asked (SetCurrent p k)) = rightTurn s x
+trusting s x (Asked (RemoveCurrent p k)) = rightTurn s x
+trusting s x (Asked (LookPage p)) = rightTurn s x
+trusting s x (Asked (LookFrame f)) = rightTurn s x
+
+abbrev pub trustingKernel : Kernel
+trustingKernel s x = trusting s x (asked x)
+
+-- the third byte that the worked example reads was never written
+pub trusting-run : runSide trustingKernel
+    ≡ (record { number = 0; bytes = [] } ∷ record { number = 0; bytes = [] } ∷ record { number = 0; bytes = 0x41 ∷ 0x37 ∷ 0xEE ∷ [] } ∷ [])
+unfolding turnsBy messagesOf split rightTurn runAnswers
+trusting-run = refl

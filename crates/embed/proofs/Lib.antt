@@ -1,0 +1,5 @@
+pub mod LayLaws
+pub mod FromLaws
+pub mod RoundTrip
+pub mod ReplyShort
+pub mod LentLaws

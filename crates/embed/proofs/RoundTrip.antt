@@ -1,0 +1,111 @@
+-- Tables laid out take 2690 bytes, and read back they are the same tables.
+use Prim.Native.Nat.{ℕ, zero, suc, _+_, _*_, _<_, suc-le-suc, zero-le}
+use mathlib.Core.Bool.{Bool, true, false}
+use mathlib.Core.Path.{_≡_, refl, sym, ap₂, _∙_}
+use mathlib.Core.List.{List, [], _∷_, _++_, flatMap, append-nil, append-assoc}
+use native.Mathlib.Nat.{mul-zero, mul-suc}
+use native.Mathlib.Omega.{arith}
+use lib.Dec.{eqb}
+use lib.ListN.{length, getD, length-append}
+use lib.Seq.{take-at, drop-at, getD-append-add}
+use borrow.Author.Tests.{eqb-true}
+use Rattle.tables.specs.declared.Copy.{Copy}
+use Rattle.tables.specs.declared.Page.{Page}
+use Rattle.tables.specs.declared.Tables.{Tables}
+use Rattle.tables.specs.Lists.{all}
+use Rattle.tables.specs.Model.{frames, pageAt, noCopyEntry, noPageRecord}
+use Rattle.tables.specs.Rules.{shaped, pageRule, sound}
+use Rattle.tables.proofs.ListLaws.{and-left, and-right, all-at, all-of}
+use Rattle.tables.proofs.RuleLaws.{sound-of}
+use Rattle.embed.specs.Bytes.{markByte, markFrom, copyBytes, pageBytes, tablesBytes, fromEach, copyFrom, pageFrom, tablesFrom}
+
+-- ---- values of one size in a row
+
+-- x takes `size` bytes, and is read back from them whatever follows
+pub record Kept {A : Type 0} (size : ℕ) (to : A → List ℕ) (from : List ℕ → A) (x : A) : Type 0 where
+  pub long : length (to x) ≡ size
+  pub back : (rest : List ℕ) → from (to x ++ rest) ≡ x
+
+module _ {A : Type 0} (size : ℕ) (to : A → List ℕ) (from : List ℕ → A) (d : A) where
+  pub row-length : (l : List A) → ((i : ℕ) → i < length l → Kept size to from (getD l i d)) → length (flatMap to l) ≡ size * length l
+  unfolding flatMap
+  row-length [] k = sym (mul-zero size)
+  row-length (x ∷ xs) k =
+      rw (length-append (to x) (flatMap to xs), k zero (suc-le-suc zero-le) .long, row-length xs (λ i h. k (suc i) (suc-le-suc h)), mul-suc)
+      (omega arith)
+
+  pub row-back : (l : List A) (rest : List ℕ) → ((i : ℕ) → i < length l → Kept size to from (getD l i d)) → fromEach (length l) size from (flatMap to l ++ rest) ≡ l
+  unfolding flatMap fromEach
+  row-back [] rest k = refl
+  row-back (x ∷ xs) rest k =
+      let h = k zero (suc-le-suc zero-le) in
+      let more = flatMap to xs ++ rest in
+      rw (append-assoc (to x) (flatMap to xs) rest, drop-at (to x) more size (h .long))
+      (ap₂ (λ (y : A) (ys : List A). y ∷ ys) (h .back more) (row-back xs rest (λ i j. k (suc i) (suc-le-suc j))))
+
+-- ---- an entry, a page, the tables
+
+mark-back : (b : Bool) → markFrom (markByte b) ≡ b
+mark-back true = refl
+mark-back false = refl
+
+copy-kept : (c : Copy) → Kept 3 copyBytes copyFrom c
+copy-kept c = record { long = refl; back = λ rest. rw (mark-back (c .current), mark-back (c .recent)) }
+
+module _ (g : Page) (rights-long : length (g .rights) ≡ 16) (copies-long : length (g .copies) ≡ 8) where
+  pub copies-length : length (flatMap copyBytes (g .copies)) ≡ 24
+  copies-length = row-length 3 copyBytes copyFrom noCopyEntry (g .copies) (λ i h. copy-kept _) ∙ rw copies-long
+
+  pub page-length : length (pageBytes g) ≡ 42
+  unfolding pageBytes
+  page-length = simp length-append (omega (arith, copies-length))
+
+  -- what stands behind the rights and the entries
+  behind : (end : List ℕ) (k : ℕ) → getD (g .rights ++ (flatMap copyBytes (g .copies) ++ end)) (40 + k) 0 ≡ getD end k 0
+  behind end k =
+      let cs = flatMap copyBytes (g .copies) in
+      let n : length (g .rights ++ cs) ≡ 40 = simp length-append (omega (arith, copies-length)) in
+      rw (n, append-assoc (g .rights) cs end) at (getD-append-add (g .rights ++ cs) end k 0)
+
+  page-back : (rest : List ℕ) → pageFrom (pageBytes g ++ rest) ≡ g
+  unfolding pageBytes pageFrom
+  page-back rest =
+      let cs = flatMap copyBytes (g .copies) in
+      let end = g .owner ∷ g .n ∷ rest in
+      let e : pageBytes g ++ rest ≡ g .rights ++ (cs ++ end) = simp append-assoc in
+      let copies : fromEach 8 3 copyFrom (cs ++ end) ≡ g .copies = rw copies-long at (row-back 3 copyBytes copyFrom noCopyEntry (g .copies) end (λ i h. copy-kept _)) in
+      rw (e, take-at (g .rights) (cs ++ end) 16 rights-long, drop-at (g .rights) (cs ++ end) 16 rights-long, copies, behind end 0, behind end 1)
+
+page-kept : (g : Page) → shaped g ≡ true → Kept 42 pageBytes pageFrom g
+page-kept g e =
+    let r = eqb-true (length (g .rights)) 16 (and-left _ _ e) in
+    let c = eqb-true (length (g .copies)) 8 (and-right (eqb (length (g .rights)) 16) _ e) in
+    record { long = page-length g r c; back = page-back g r c }
+
+module _ (t : Tables) (pages-long : length (t .pages) ≡ 64) (pages-shaped : all shaped (t .pages) ≡ true) where
+  pages-kept : (p : ℕ) → p < length (t .pages) → Kept 42 pageBytes pageFrom (getD (t .pages) p noPageRecord)
+  pages-kept p h = page-kept _ (all-at shaped (t .pages) p noPageRecord pages-shaped h)
+
+  pub bytes-length : length (tablesBytes t) ≡ 2690
+  unfolding tablesBytes
+  bytes-length = omega (arith, row-length 42 pageBytes pageFrom noPageRecord (t .pages) pages-kept)
+
+  pub from-bytes : tablesFrom (tablesBytes t) ≡ t
+  unfolding tablesBytes tablesFrom
+  from-bytes =
+      let e = row-back 42 pageBytes pageFrom noPageRecord (t .pages) [] pages-kept in
+      let pages : fromEach 64 42 pageFrom (flatMap pageBytes (t .pages)) ≡ t .pages = rw (pages-long, append-nil) at e in
+      rw pages
+
+rule-shaped : (limit : ℕ) (g : Page) → pageRule limit g ≡ true → shaped g ≡ true
+unfolding pageRule
+rule-shaped limit g e = and-left (shaped g) _ e
+
+-- sound tables have their shape
+pub sound-shaped : (t : Tables) → sound t ≡ true → all shaped (t .pages) ≡ true
+sound-shaped t e =
+    let s = sound-of t e in
+    all-of shaped (t .pages) noPageRecord (λ p h. rule-shaped (frames t) (pageAt t p) (s .page-ok p (rw (s .pages-long) at h)))
+
+pub sound-from-bytes : (t : Tables) → sound t ≡ true → tablesFrom (tablesBytes t) ≡ t
+sound-from-bytes t e = from-bytes t (sound-of t e .pages-long) (sound-shaped t e)

@@ -1,0 +1,64 @@
+-- `reel_answer` answers on the tables in the lent bytes, and puts them back.
+use mathlib.Core.Path.{_∙_}
+use native.Mathlib.Omega.{arith}
+use lib.ListN.{length}
+use borrow.Author.Needs.{needs}
+use Rattle.steps.specs.Promises.{stateOf}
+use Rattle.messages.specs.Promises.{sentAlone}
+use Rattle.embed.proofs.ReplyShort.{reply-short}
+use Rattle.embed.proofs.reel_answer.Statement.{statement}
+use Rattle.embed.proofs.reel_answer.Tie as tie
+
+tables-of-requires : tie.Need-tables-of-requires
+tables-of-requires c κs = search needs
+
+answer-requires : tie.Need-answer-requires
+answer-requires c κs = search needs
+
+put-back-requires : tie.Need-put-back-requires
+put-back-requires c κs = search needs
+
+packed-requires : tie.Need-packed-requires
+packed-requires c κs =
+    let d = c .before .before .before .before .before .before .before .before .before .before in
+    let a = d .before .before .before .before .before .before .before .before .before .before .before .args in
+    let t = d .before .before .before .before .tables-of .result in
+    omega (arith, d .answer .ensures .len-told, reply-short (length (a .out .now)) (stateOf t (a .fast .now) (a .slow .now)) (sentAlone (a .message .now)))
+
+same-length : tie.Need-same-length
+same-length c = search needs
+
+same-length-2 : tie.Need-same-length-2
+same-length-2 c = search needs
+
+same-length-3 : tie.Need-same-length-3
+same-length-3 c = search needs
+
+same-length-4 : tie.Need-same-length-4
+same-length-4 c = search needs
+
+returns : tie.Need-returns
+returns c =
+    let d = c .before .before .before .before .before .before .before .before .before .before .before in
+    let q = rw (d .before .before .before .before .tables-of .ensures) at (d .answer .ensures) in
+    record {
+      told = c .packed .ensures ∙ rw (q .number-told, q .len-told, q .laid-told);
+      tables-out = c .before .before .before .put-back .ensures ∙ rw (q .tables-out);
+      fast-out = q .fast-out;
+      slow-out = q .slow-out;
+      reply-out = q .reply-out;
+    }
+
+pub reel-answer-spec : {M : Type 1} → statement M
+reel-answer-spec =
+    tie.close
+    (tie.spec
+    tables-of-requires
+    answer-requires
+    put-back-requires
+    packed-requires
+    same-length
+    same-length-2
+    same-length-3
+    same-length-4
+    returns)

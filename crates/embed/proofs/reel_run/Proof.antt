@@ -1,0 +1,63 @@
+-- `reel_run` runs on the tables in the lent bytes, and puts them and the tally back.
+use mathlib.Core.Path.{_∙_}
+use borrow.Author.Needs.{needs}
+use Rattle.embed.proofs.reel_run.Statement.{statement}
+use Rattle.embed.proofs.reel_run.Tie as tie
+
+tables-of-requires : tie.Need-tables-of-requires
+tables-of-requires c κs = search needs
+
+tally-of-requires : tie.Need-tally-of-requires
+tally-of-requires c κs = search needs
+
+run-requires : tie.Need-run-requires
+run-requires c κs = search needs
+
+put-back-requires : tie.Need-put-back-requires
+put-back-requires c κs = search needs
+
+put-tally-requires : tie.Need-put-tally-requires
+put-tally-requires c κs = search needs
+
+same-length : tie.Need-same-length
+same-length c = search needs
+
+same-length-2 : tie.Need-same-length-2
+same-length-2 c = search needs
+
+same-length-3 : tie.Need-same-length-3
+same-length-3 c = search needs
+
+same-length-4 : tie.Need-same-length-4
+same-length-4 c = search needs
+
+same-length-5 : tie.Need-same-length-5
+same-length-5 c = search needs
+
+returns : tie.Need-returns
+returns c =
+    let d = c .before .before .before .before .before .before .before .before .before .before .before .before .before .before in
+    let q = rw (d .before .before .before .before .before .before .tables-of .ensures, d .before .before .before .before .tally-of .ensures) at (d .run .ensures) in
+    record {
+      tables-out = c .before .before .before .before .before .before .put-back .ensures ∙ rw (q .tables-out);
+      fast-out = q .fast-out;
+      slow-out = q .slow-out;
+      buffer-out = q .buffer-out;
+      tally-out = c .before .before .put-tally .ensures ∙ rw (q .tally-out);
+    }
+
+pub reel-run-spec : {M : Type 1} → statement M
+reel-run-spec =
+    tie.close
+    (tie.spec
+    tables-of-requires
+    tally-of-requires
+    run-requires
+    put-back-requires
+    put-tally-requires
+    same-length
+    same-length-2
+    same-length-3
+    same-length-4
+    same-length-5
+    returns)

@@ -1,0 +1,44 @@
+-- The tables as 2690 bytes: P, S, then 42 bytes a page, which are the sixteen rights, the eight entries of three bytes, the owner and n.
+use Prim.Native.Nat.{ℕ, zero, suc}
+use mathlib.Core.Bool.{Bool, not, cond}
+use mathlib.Core.List.{List, [], _∷_, _++_, flatMap}
+use lib.ListN.{getD, take, drop}
+use lib.Dec.{eqb}
+use Rattle.tables.specs.declared.Copy.{Copy}
+use Rattle.tables.specs.declared.Page.{Page}
+use Rattle.tables.specs.declared.Tables.{Tables}
+
+-- ---- laid out
+
+abbrev pub markByte : Bool → ℕ
+markByte b = cond b 1 0
+
+-- an entry: its frame, CURRENT and MOST RECENT
+abbrev pub copyBytes : Copy → List ℕ
+copyBytes c = c .frame ∷ markByte (c .current) ∷ markByte (c .recent) ∷ []
+
+unfoldable pub pageBytes : Page → List ℕ
+pageBytes g = g .rights ++ (flatMap copyBytes (g .copies) ++ (g .owner ∷ g .n ∷ []))
+
+unfoldable pub tablesBytes : Tables → List ℕ
+tablesBytes t = t .fast ∷ t .slow ∷ flatMap pageBytes (t .pages)
+
+-- ---- read back
+
+-- any byte but 0 is a mark
+abbrev pub markFrom : ℕ → Bool
+markFrom b = not (eqb b 0)
+
+-- k values, one from each `size` bytes
+unfoldable pub fromEach : {A : Type 0} → ℕ → ℕ → (List ℕ → A) → List ℕ → List A
+fromEach zero size from bytes = []
+fromEach (suc k) size from bytes = from bytes ∷ fromEach k size from (drop size bytes)
+
+abbrev pub copyFrom : List ℕ → Copy
+copyFrom b = record { frame = getD b 0 0; current = markFrom (getD b 1 0); recent = markFrom (getD b 2 0) }
+
+unfoldable pub pageFrom : List ℕ → Page
+pageFrom b = record { rights = take 16 b; copies = fromEach 8 3 copyFrom (drop 16 b); owner = getD b 40 0; n = getD b 41 0 }
+
+unfoldable pub tablesFrom : List ℕ → Tables
+tablesFrom b = record { fast = getD b 0 0; slow = getD b 1 0; pages = fromEach 64 42 pageFrom (drop 2 b) }

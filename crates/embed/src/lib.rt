@@ -1,0 +1,287 @@
+// The kernel for programs in C or Rust. The tables are lent as 2690 bytes, so a caller needs no
+// type of ours: P, S, then for each of the 64 pages 42 bytes, which are the sixteen rights, the
+// eight entries (frame, CURRENT, MOST RECENT), the owner and n.
+use messages::Tally;
+use messages::answer;
+use messages::run;
+use tables::Copy;
+use tables::Page;
+use tables::Tables;
+ghost use mathlib.Core.Path.{_≡_};
+ghost use mathlib.Core.List.{flatMap};
+ghost use Prim.Native.Nat.{_+_, _≤_, _<_};
+ghost use lib.ListN.{length, take, drop};
+ghost use lib.Seq.{sets};
+ghost use Rattle.messages.specs.Run.{turn, run};
+ghost use Rattle.messages.specs.Promises.{sentAlone};
+ghost use Rattle.embed.specs.Bytes.{markByte, copyBytes, pageBytes, tablesBytes, fromEach, copyFrom, pageFrom, tablesFrom};
+ghost use Rattle.embed.specs.Exports.{noTables, tablesOf, withTables, freshInto, tallyOf, withTally, packed, lentState, AnswerLent, RunLent};
+
+// Number 5 of document 01's table.
+const BROKEN_TABLES: u8 = 5;
+
+// How many bytes the tables take.
+const TABLES_SIZE: usize = 2690;
+
+// ---- the tables from bytes
+
+fn rights_from(bytes: &[u8], at: usize) -> [u8; 16]
+    requires { ⌜ at + 16 ≤ length (now bytes) ⌝ }
+    ensures { λ r. ⌜ r ≡ take 16 (drop at (now (bytes .entry))) ⌝ }
+{
+    let mut rights = [0; 16];
+    let mut i: usize = 0;
+    while i < 16 {
+        rights[i] = bytes[at + i];
+        i += 1;
+    }
+    rights
+}
+
+fn copy_from(bytes: &[u8], at: usize) -> Copy
+    requires { ⌜ at + 3 ≤ length (now bytes) ⌝ }
+    ensures { λ r. ⌜ r ≡ copyFrom (drop at (now (bytes .entry))) ⌝ }
+{
+    Copy {
+        frame: bytes[at],
+        current: bytes[at + 1] != 0,
+        recent: bytes[at + 2] != 0,
+    }
+}
+
+fn copies_from(bytes: &[u8], at: usize) -> [Copy; 8]
+    requires { ⌜ at + 24 ≤ length (now bytes) ⌝ }
+    ensures { λ r. ⌜ r ≡ fromEach 8 3 copyFrom (drop at (now (bytes .entry))) ⌝ }
+{
+    let first = copy_from(bytes, at);
+    let mut copies = [first; 8];
+    let mut i: usize = 1;
+    while i < 8 {
+        let c = copy_from(bytes, at + 3 * i);
+        copies[i] = c;
+        i += 1;
+    }
+    copies
+}
+
+fn page_from(bytes: &[u8], at: usize) -> Page
+    requires { ⌜ at + 42 ≤ length (now bytes) ⌝ }
+    ensures { λ r. ⌜ r ≡ pageFrom (drop at (now (bytes .entry))) ⌝ }
+{
+    let rights = rights_from(bytes, at);
+    let copies = copies_from(bytes, at + 16);
+    Page {
+        rights: rights,
+        copies: copies,
+        owner: bytes[at + 40],
+        n: bytes[at + 41],
+    }
+}
+
+fn tables_from(bytes: &[u8]) -> Tables
+    requires { ⌜ length (now bytes) ≡ 2690 ⌝ }
+    ensures { λ r. ⌜ r ≡ tablesFrom (now (bytes .entry)) ⌝ }
+{
+    let first = page_from(bytes, 2);
+    let mut pages = [first; 64];
+    let mut i: usize = 1;
+    while i < 64 {
+        let g = page_from(bytes, 2 + 42 * i);
+        pages[i] = g;
+        i += 1;
+    }
+    Tables {
+        fast: bytes[0],
+        slow: bytes[1],
+        pages: pages,
+    }
+}
+
+// ---- the tables into bytes
+
+fn put_rights(rights: [u8; 16], bytes: &mut [u8], at: usize)
+    requires { ⌜ at + 16 ≤ length (now bytes) ⌝ }
+    ensures { λ _. ⌜ now (bytes .exit) ≡ sets (now (bytes .entry)) at rights ⌝ }
+{
+    let mut i: usize = 0;
+    while i < 16 {
+        bytes[at + i] = rights[i];
+        i += 1;
+    }
+}
+
+fn mark_byte(mark: bool) -> u8
+    ensures { λ r. ⌜ r ≡ markByte mark ⌝ }
+{
+    if mark { 1 } else { 0 }
+}
+
+fn put_copy(c: Copy, bytes: &mut [u8], at: usize)
+    requires { ⌜ at + 3 ≤ length (now bytes) ⌝ }
+    ensures { λ _. ⌜ now (bytes .exit) ≡ sets (now (bytes .entry)) at (copyBytes c) ⌝ }
+{
+    bytes[at] = c.frame;
+    bytes[at + 1] = mark_byte(c.current);
+    bytes[at + 2] = mark_byte(c.recent);
+}
+
+fn put_copies(copies: [Copy; 8], bytes: &mut [u8], at: usize)
+    requires { ⌜ at + 24 ≤ length (now bytes) ⌝ }
+    ensures { λ _. ⌜ now (bytes .exit) ≡ sets (now (bytes .entry)) at (flatMap copyBytes copies) ⌝ }
+{
+    let mut i: usize = 0;
+    while i < 8 {
+        let c = copies[i];
+        put_copy(c, bytes, at + 3 * i);
+        i += 1;
+    }
+}
+
+fn put_page(g: Page, bytes: &mut [u8], at: usize)
+    requires { ⌜ at + 42 ≤ length (now bytes) ⌝ }
+    ensures { λ _. ⌜ now (bytes .exit) ≡ sets (now (bytes .entry)) at (pageBytes g) ⌝ }
+    ensures { λ _. ⌜ length (pageBytes g) ≡ 42 ⌝ }
+{
+    let rights = g.rights;
+    let copies = g.copies;
+    put_rights(rights, bytes, at);
+    put_copies(copies, bytes, at + 16);
+    bytes[at + 40] = g.owner;
+    bytes[at + 41] = g.n;
+}
+
+fn put_tables(tables: Tables, bytes: &mut [u8])
+    requires { ⌜ length (now bytes) ≡ 2690 ⌝ }
+    ensures { λ _. ⌜ now (bytes .exit) ≡ tablesBytes tables ⌝ }
+{
+    bytes[0] = tables.fast;
+    bytes[1] = tables.slow;
+    let mut i: usize = 0;
+    while i < 64 {
+        let g = tables.pages[i];
+        put_page(g, bytes, 2 + 42 * i);
+        i += 1;
+    }
+}
+
+// ---- lent bytes of any length
+
+// Tables that break a rule: P is above 127.
+fn no_tables() -> Tables
+    ensures { λ r. ⌜ r ≡ noTables ⌝ }
+{
+    let made = Tables::fresh(0, 0);
+    let mut t = made.tables;
+    t.fast = 255;
+    t
+}
+
+fn tables_of(bytes: &[u8]) -> Tables
+    ensures { λ r. ⌜ r ≡ tablesOf (now (bytes .entry)) ⌝ }
+{
+    if bytes.len() == TABLES_SIZE {
+        tables_from(bytes)
+    } else {
+        no_tables()
+    }
+}
+
+fn put_back(tables: Tables, bytes: &mut [u8])
+    ensures { λ _. ⌜ now (bytes .exit) ≡ withTables (now (bytes .entry)) tables ⌝ }
+{
+    if bytes.len() == TABLES_SIZE {
+        put_tables(tables, bytes);
+    }
+}
+
+fn tally_of(numbers: &[u32]) -> Tally
+    ensures { λ r. ⌜ r ≡ tallyOf (now (numbers .entry)) ⌝ }
+{
+    if numbers.len() == 3 {
+        Tally {
+            messages: numbers[0],
+            refusals: numbers[1],
+            laid: numbers[2],
+        }
+    } else {
+        Tally {
+            messages: 0,
+            refusals: 0,
+            laid: 0,
+        }
+    }
+}
+
+fn put_tally(tally: Tally, numbers: &mut [u32])
+    ensures { λ _. ⌜ now (numbers .exit) ≡ withTally (now (numbers .entry)) tally ⌝ }
+{
+    if numbers.len() == 3 {
+        numbers[0] = tally.messages;
+        numbers[1] = tally.refusals;
+        numbers[2] = tally.laid;
+    }
+}
+
+fn packed(number: u8, len: usize, laid: u16) -> u32
+    requires { ⌜ len < 256 ⌝ }
+    ensures { λ r. ⌜ r ≡ packed number len laid ⌝ }
+{
+    number as u32 + 256 * len as u32 + 65536 * laid as u32
+}
+
+// ---- for C and Rust
+
+// Makes fresh tables: 0, or 19 with P = S = 0. A buffer of another length is left alone: 5.
+#[no_mangle]
+pub extern "C" fn reel_fresh(fast: u8, slow: u8, tables: &mut [u8]) -> u8
+    ensures { λ r. ⌜ r ≡ freshInto fast slow (now (tables .entry)) .number ⌝ }
+    ensures { λ _. ⌜ now (tables .exit) ≡ freshInto fast slow (now (tables .entry)) .bytes ⌝ }
+{
+    if tables.len() != TABLES_SIZE {
+        return BROKEN_TABLES;
+    }
+    let made = Tables::fresh(fast, slow);
+    put_tables(made.tables, tables);
+    made.number
+}
+
+// Answers one message, its length first. Tables of another length are left alone, as broken ones.
+#[no_mangle]
+pub extern "C" fn reel_answer(
+    tables: &mut [u8],
+    fast: &mut [u8],
+    slow: &mut [u8],
+    message: &[u8],
+    out: &mut [u8],
+) -> u32
+    ensures { λ r. ⌜ AnswerLent (now (tables .entry)) (lentState (now (tables .entry)) (now (fast .entry)) (now (slow .entry)))
+        (turn (length (now (out .entry))) (lentState (now (tables .entry)) (now (fast .entry)) (now (slow .entry))) (sentAlone (now (message .entry))))
+        (now (out .entry)) (now (tables .exit)) (now (fast .exit)) (now (slow .exit)) (now (out .exit)) r ⌝ }
+{
+    let before = tables_of(&tables[..]);
+    let a = answer(before, fast, slow, message, out);
+    put_back(a.tables, tables);
+    packed(a.number, a.len, a.laid)
+}
+
+// Runs a call file, and counts its messages on in a tally of three numbers: messages, refusals and
+// bytes laid. Tables of another length are left alone, as broken ones, and so is such a tally.
+#[no_mangle]
+pub extern "C" fn reel_run(
+    tables: &mut [u8],
+    fast: &mut [u8],
+    slow: &mut [u8],
+    file: &[u8],
+    out: &mut [u8],
+    tally: &mut [u32],
+)
+    ensures { λ _. ⌜ RunLent (now (tables .entry))
+        (run (length (now (out .entry))) (now (file .entry)) (lentState (now (tables .entry)) (now (fast .entry)) (now (slow .entry))))
+        (now (out .entry)) (now (tally .entry)) (now (tables .exit)) (now (fast .exit)) (now (slow .exit)) (now (out .exit)) (now (tally .exit)) ⌝ }
+{
+    let before = tables_of(&tables[..]);
+    let counted = tally_of(&tally[..]);
+    let ran = run(before, fast, slow, file, out, counted);
+    put_back(ran.tables, tables);
+    put_tally(ran.tally, tally);
+}
