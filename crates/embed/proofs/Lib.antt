@@ -1,5 +1,4 @@
 pub mod LayLaws
 pub mod FromLaws
 pub mod RoundTrip
-pub mod ReplyShort
 pub mod LentLaws

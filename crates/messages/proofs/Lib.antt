@@ -4,3 +4,4 @@ pub mod ReplyLaws
 pub mod ReaderLaws
 pub mod TurnLaws
 pub mod RunLaws
+pub mod ReplyShort

@@ -25,7 +25,7 @@ six-set (_ ∷ _ ∷ _ ∷ _ ∷ _ ∷ []) a b c d e f h = absurd (omega arith)
 six-set (_ ∷ _ ∷ _ ∷ _ ∷ _ ∷ _ ∷ l) a b c d e f h = refl
 
 -- a reply is its first six bytes and its data
-pub reply-is : {A : Type 0} (o : Outcome A) → reply o ≡ heading (numberOf o) (laidBy o) (length (dataOf o)) ++ dataOf o
+reply-is : {A : Type 0} (o : Outcome A) → reply o ≡ heading (numberOf o) (laidBy o) (length (dataOf o)) ++ dataOf o
 unfolding reply
 reply-is (refuse n) = refl
 reply-is (accept a laid bs) = refl

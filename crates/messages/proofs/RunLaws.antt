@@ -1,9 +1,8 @@
 -- The run over a call file: the rules hold all along, a refusal has a number, and what is left to do gives the whole.
-use Prim.Native.Nat.{ℕ, _-_, _≤_}
+use Prim.Native.Nat.{ℕ, _-_}
 use mathlib.Core.Path.{_≡_, refl, sym, ap, _∙_}
 use mathlib.Core.Bool.{Bool, true, false, not, _||_, _&&_, cond}
 use mathlib.Core.List.{List, [], _∷_, _++_}
-use native.Mathlib.Omega.{arith}
 use lib.ListN.{length, drop, getD}
 use lib.Dec.{leb, ltb, eqb}
 use Rattle.tables.specs.declared.Page.{Page}
@@ -30,7 +29,7 @@ use Rattle.messages.specs.Replies.{reply, replyIn, counted, isRefusal}
 use Rattle.messages.specs.Run.{Sent, cut, whole, asked, bytesOf, answer, turn, leftBy, messagesOf, turnsOf, endOf, run, buffer, tally}
 use Rattle.messages.specs.Promises.{RunEnded}
 use Rattle.messages.specs.Private.{rulesNumber, roomed, TurnedBack}
-use Rattle.messages.proofs.ReaderLaws.{reader-yields, message-at}
+use Rattle.messages.proofs.ReaderLaws.{reader-yields}
 use Rattle.messages.proofs.TurnLaws.{Served}
 
 -- ---- the rules
@@ -172,7 +171,6 @@ module _ (room : ℕ) (s : State) where
 
 -- from state s, buffer out and tally n at a place of the file, the rest of the run gives what the whole run does
 pub record Rest (room : ℕ) (file : List ℕ) (s₀ : State) (out₀ : List ℕ) (n₀ : Tally) (at : ℕ) (s : State) (out : List ℕ) (n : Tally) : Type 0 where
-  pub in-file : at ≤ length file
   pub same-end : endOf room s (messagesOf (drop at file)) ≡ endOf room s₀ (messagesOf file)
   pub same-buffer : buffer room (turnsOf room s (messagesOf (drop at file))) out ≡ buffer room (turnsOf room s₀ (messagesOf file)) out₀
   pub same-tally : tally (turnsOf room s (messagesOf (drop at file))) n ≡ tally (turnsOf room s₀ (messagesOf file)) n₀
@@ -184,7 +182,7 @@ pub record Ended (room : ℕ) (file : List ℕ) (s₀ : State) (out₀ : List �
   pub tally-is : n ≡ tally (turnsOf room s₀ (messagesOf file)) n₀
 
 pub rest-all : (room : ℕ) (file : List ℕ) (s : State) (out : List ℕ) (n : Tally) → Rest room file s out n 0 s out n
-rest-all room file s out n = record { in-file = omega arith; same-end = refl; same-buffer = refl; same-tally = refl }
+rest-all room file s out n = record { same-end = refl; same-buffer = refl; same-tally = refl }
 
 module _ (room : ℕ) (file : List ℕ) (s₀ : State) (out₀ : List ℕ) (n₀ : Tally) (at : ℕ) (s : State) (out : List ℕ) (n : Tally)
     (q : Rest room file s₀ out₀ n₀ at s out n) where
@@ -204,21 +202,20 @@ module _ (room : ℕ) (file : List ℕ) (s₀ : State) (out₀ : List ℕ) (n₀
     unfolding turnsOf tally
     tally-after = rw follows at (q .same-tally)
 
-  pub rest-message : (start len next : ℕ) (s′ : State) (out′ : List ℕ) (n′ : Tally) → Message start len next ≡ nextAt file at
+  rest-message : (start len next : ℕ) (s′ : State) (out′ : List ℕ) (n′ : Tally) → Message start len next ≡ nextAt file at
       → let o = turn room s (whole (part file start len)) in
       s′ ≡ left s o → out′ ≡ over (replyIn room o) out → n′ ≡ counted n (isRefusal o) (laidBy o)
       → Rest room file s₀ out₀ n₀ next s′ out′ n′
   rest-message start len next s′ out′ n′ e es eo en =
       let follows : messagesOf (drop at file) ≡ whole (part file start len) ∷ messagesOf (drop next file) = reader-yields file at ∙ rw (← e) in
       record {
-        in-file = message-at file at start len next e .inside;
         same-end = rw es (end-after _ _ follows);
         same-buffer = rw (es, eo) (buffer-after _ _ follows);
         same-tally = rw (es, en) (tally-after _ _ follows);
       }
 
   -- one cut short ends the file
-  pub rest-cut : (out′ : List ℕ) (n′ : Tally) → Cut ≡ nextAt file at → out′ ≡ over (replyIn room (turn room s cut)) out
+  rest-cut : (out′ : List ℕ) (n′ : Tally) → Cut ≡ nextAt file at → out′ ≡ over (replyIn room (turn room s cut)) out
       → n′ ≡ counted n (isRefusal (turn room s cut)) (laidBy (turn room s cut)) → Ended room file s₀ out₀ n₀ (leftBy room s cut) out′ n′
   unfolding endOf turnsOf buffer tally
   rest-cut out′ n′ e eo en =
@@ -229,7 +226,7 @@ module _ (room : ℕ) (file : List ℕ) (s₀ : State) (out₀ : List ℕ) (n₀
         tally-is = en ∙ tally-after _ _ follows;
       }
 
-  pub rest-none : End ≡ nextAt file at → Ended room file s₀ out₀ n₀ s out n
+  rest-none : End ≡ nextAt file at → Ended room file s₀ out₀ n₀ s out n
   unfolding endOf turnsOf buffer tally
   rest-none e =
       let none : messagesOf (drop at file) ≡ [] = reader-yields file at ∙ rw (← e) in
@@ -249,13 +246,17 @@ pub record Going (s₀ : State) (file out₀ : List ℕ) (n₀ : Tally) (known a
   pub rules : known ≡ rulesNumber s
   pub rest : Rest (length out₀) file s₀ out₀ n₀ at s out n
 
-module _ {s₀ : State} {file out₀ : List ℕ} {n₀ : Tally} {known at : ℕ} {s : State} {out : List ℕ} {n : Tally} (q : Going s₀ file out₀ n₀ known at s out n) where
+module _ {s₀ : State} {file out₀ : List ℕ} {n₀ : Tally} {known at : ℕ} {s : State} {out : List ℕ} {n : Tally}
+    (q : Going s₀ file out₀ n₀ known at s out n) where
   -- after a message
   pub going-on : (start len next : ℕ) (x′ y′ out′ : List ℕ) (t′ : Tables) (n′ : Tally) (d : Decision) → Message start len next ≡ nextAt file at
       → Served s (turn (length out) s (whole (part file start len))) out x′ y′ out′ t′ d
       → length x′ ≡ length (s .fast) → length y′ ≡ length (s .slow) → length out′ ≡ length out
       → n′ ≡ counted n (not (eqb (d .number) 0)) (d .laid) → Going s₀ file out₀ n₀ known next (stateOf t′ x′ y′) out′ n′
   going-on start len next x′ y′ out′ t′ n′ d e v lx ly lo en =
+      let x : Sent = whole (part file start len) in
+      let o : Outcome State = turn (length out) s x in
+      let counts : n′ ≡ counted n (isRefusal o) (laidBy o) = en ∙ rw (turn-told (length out) s x, v .number-told, v .laid-told) in
       record {
         fast-long = lx ∙ q .fast-long;
         slow-long = ly ∙ q .slow-long;
@@ -265,12 +266,6 @@ module _ {s₀ : State} {file out₀ : List ℕ} {n₀ : Tally} {known at : ℕ}
             rest-message (length out₀) file s₀ out₀ n₀ at s out n (q .rest) start len next (stateOf t′ x′ y′) out′ n′ e
             (rw (q .out-long) at (v .state-left)) (rw (q .out-long) at (v .reply-out)) (rw (q .out-long) at counts);
       }
-    where
-      x : Sent
-      x = whole (part file start len)
-
-      counts : n′ ≡ counted n (isRefusal (turn (length out) s (whole (part file start len)))) (laidBy (turn (length out) s (whole (part file start len))))
-      counts = en ∙ rw (turn-told (length out) s (whole (part file start len)), v .number-told, v .laid-told)
 
   ended : (out′ : List ℕ) (n′ : Tally) → Ended (length out₀) file s₀ out₀ n₀ s out′ n′
       → RunEnded (run (length out₀) file s₀) n₀ out₀ (s .fast) (s .slow) out′ (record { tables = s .tables; tally = n′ })

@@ -170,7 +170,7 @@ holder-none t (Asked (LookPage p)) e = refl
 holder-none t (Asked (LookFrame f)) e = absurd (false≢true (sym e))
 
 -- neither 5 nor 6
-pub rules-hold : (s : State) → rulesNumber s ≡ 0 → (sound (s .tables) ≡ true) × (fits (s .tables) (s .fast) (s .slow) ≡ true)
+rules-hold : (s : State) → rulesNumber s ≡ 0 → (sound (s .tables) ≡ true) × (fits (s .tables) (s .fast) (s .slow) ≡ true)
 rules-hold s = by (sound (s .tables)) (fits (s .tables) (s .fast) (s .slow))
   where
     by : (a b : Bool) → cond a (cond b accepted misfitStore) brokenTables ≡ 0 → (a ≡ true) × (b ≡ true)
@@ -179,7 +179,7 @@ rules-hold s = by (sound (s .tables)) (fits (s .tables) (s .fast) (s .slow))
     by false b e = absurd (omega arith)
 
 -- the frames of sound tables, as the code counts them for any tables
-pub frames-counted : (t : Tables) → sound t ≡ true → t .fast % 128 + t .slow % 128 ≡ frames t
+frames-counted : (t : Tables) → sound t ≡ true → t .fast % 128 + t .slow % 128 ≡ frames t
 frames-counted t e =
     let s = sound-of t e in
     let p : t .fast % 128 ≡ t .fast = omega arith in
@@ -236,7 +236,7 @@ module _ (s : State) (known : ℕ) (rules : known ≡ rulesNumber s) where
       by true = refl
       by false = e
 
-  pub turn-mapped : (room : ℕ) (x : Sent) (h : Holder) → h ≡ holderNamed (s .tables) (asked x)
+  turn-mapped : (room : ℕ) (x : Sent) (h : Holder) → h ≡ holderNamed (s .tables) (asked x)
       → turn room s x
       ≡ mapped (applied s (pageNamed (asked x)))
       (roomed room
@@ -249,7 +249,7 @@ module _ (s : State) (known : ℕ) (rules : known ≡ rulesNumber s) where
       (answer s (asked x) (bytesOf x)) (answer-mapped (asked x) h (bytesOf x) e)
 
 -- a message on a page that there is not changes no record
-pub far-kept : (room known limit : ℕ) (g : Page) (h : Holder) (st : List ℕ) (m : Parsed) (bs : List ℕ) → 63 < pageNamed m
+far-kept : (room known limit : ℕ) (g : Page) (h : Holder) (st : List ℕ) (m : Parsed) (bs : List ℕ) → 63 < pageNamed m
     → decided (roomed room (onPage known limit g h st m bs)) .change ≡ Kept
 far-kept room known limit g h st (Refused n) bs far = absurd (omega arith)
 far-kept room known limit g h st (Asked c) bs far = rw (page-outside c far) (by (ltb room 70) (not (eqb known 0)))
@@ -290,7 +290,7 @@ pub record Served (s : State) (w : Outcome State) (out x′ y′ out′ : List �
   pub state-left : stateOf t′ x′ y′ ≡ left s w
   pub reply-out : out′ ≡ over (replyIn (length out) w) out
 
-pub served : (s : State) (p : ℕ) (o : Outcome Effect) (w : Outcome State) (out x′ y′ out′ : List ℕ) (t′ : Tables) (d : Decision)
+served : (s : State) (p : ℕ) (o : Outcome Effect) (w : Outcome State) (out x′ y′ out′ : List ℕ) (t′ : Tables) (d : Decision)
     → Turned o (s .fast) (s .slow) out x′ y′ out′ d → w ≡ mapped (applied s p) o → t′ ≡ after (s .tables) p (d .change)
     → Served s w out x′ y′ out′ t′ d
 served s p o w out x′ y′ out′ t′ d q e f =

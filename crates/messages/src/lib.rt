@@ -47,8 +47,8 @@ pub enum Parsed {
     Asked { call: Call },
 }
 
-// What the reader yields at a place of the file: a message, with its first byte after the length, its length and the place past it;
-// a message that is cut short; or the end.
+// What the reader yields at a place of the file: a message, with the place of its first byte after
+// the length, its length and the place past it; a message that is cut short; or the end.
 pub enum Next {
     Message {
         start: usize,
@@ -213,7 +213,8 @@ fn call_of(kind: u8, m: &[u8]) -> Call
     }
 }
 
-pub fn parse(m: &[u8]) -> Parsed
+// What a message asks for by its own bytes.
+fn parse(m: &[u8]) -> Parsed
     ensures { λ r. ⌜ r ≡ parse (now (m .entry)) ⌝ }
 {
     let n = m.len();
@@ -394,6 +395,7 @@ pub fn tally_after(t: Tally, refused: bool, laid: u16) -> Tally
 
 // ---- what a message names
 
+// The page; 0 where none is named.
 fn page_named(parsed: Parsed) -> u8
     ensures { λ r. ⌜ r ≡ pageNamed parsed ⌝ }
 {
@@ -440,6 +442,7 @@ fn frame_of(call: Call) -> u8
     }
 }
 
+// The frame; 0 where none is named.
 fn frame_named(parsed: Parsed) -> u8
     ensures { λ r. ⌜ r ≡ frameNamed parsed ⌝ }
 {
@@ -564,6 +567,8 @@ pub fn answer(
 
 // ---- the run over a call file
 
+// Message after message, each on the tables and stores that the one before it left. The buffer has
+// the replies in turn, and the tally is brought up to date after each.
 pub fn run(
     mut tables: Tables,
     fast: &mut [u8],

@@ -5,7 +5,7 @@ use lib.ListN.{length}
 use borrow.Author.Needs.{needs}
 use Rattle.steps.specs.Promises.{stateOf}
 use Rattle.messages.specs.Promises.{sentAlone}
-use Rattle.embed.proofs.ReplyShort.{reply-short}
+use Rattle.messages.proofs.ReplyShort.{reply-short}
 use Rattle.embed.proofs.reel_answer.Statement.{statement}
 use Rattle.embed.proofs.reel_answer.Tie as tie
 

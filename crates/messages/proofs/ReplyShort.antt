@@ -13,7 +13,7 @@ use Rattle.tables.specs.declared.Tables.{Tables}
 use Rattle.tables.specs.declared.Holder.{Holder}
 use Rattle.tables.specs.declared.Holder.the-variants.{At, Free}
 use Rattle.tables.specs.Model.{frames, isNull, absent, pageAt, noPageRecord}
-use Rattle.tables.specs.Rules.{shaped, sound}
+use Rattle.tables.specs.Rules.{shaped, pageRule, sound}
 use Rattle.tables.specs.Search.{holderOf, shown, isFree}
 use Rattle.steps.specs.declared.Call.{Call}
 use Rattle.steps.specs.declared.Call.the-variants.{Create, DeletePage, Grant, Read, Write, MakeCopy, DeleteCopy, SetCurrent, RemoveCurrent, LookPage, LookFrame}
@@ -22,12 +22,12 @@ use Rattle.steps.specs.Stores.{part, fits}
 use Rattle.steps.specs.Steps.{Outcome, refuse, accept, test, mapped, Effect, mayRead, mayWrite, owns, copyAt, currents, recents, standing, numbered, perform, State, applied, step}
 use Rattle.steps.proofs.CopyLaws.{length-entries}
 use Rattle.steps.proofs.RangeLaws.{span-within}
 use Rattle.messages.specs.declared.Parsed.{Parsed}
 use Rattle.messages.specs.declared.Parsed.the-variants.{Refused, Asked}
 use Rattle.messages.specs.Replies.{reply, replyIn}
 use Rattle.messages.specs.Run.{Sent, asked, bytesOf, answer, turn}
-use Rattle.tables.proofs.ListLaws.{and-right, all-at}
-use Rattle.embed.proofs.RoundTrip.{sound-shaped}
+use Rattle.tables.proofs.ListLaws.{and-left, and-right}
+use Rattle.tables.proofs.RuleLaws.{sound-of}
 
 -- ---- an outcome with no more data than that
 
@@ -79,11 +79,19 @@ short-perform g h st (LookFrame f) bs few span = accepted (short-shown h)
 
 -- a page of sound tables has no more than eight entries
 few-copies : (t : Tables) → sound t ≡ true → (p : ℕ) → length (pageAt t p .copies) ≤ 8
-few-copies t e p = by (decLt p (length (t .pages)))
+unfolding pageRule
+few-copies t e p = by (decLt p 64)
   where
-    by : Dec (p < length (t .pages)) → length (pageAt t p .copies) ≤ 8
-    by (yes h) = let k = eqb-true (length (pageAt t p .copies)) 8 (and-right (eqb (length (pageAt t p .rights)) 16) (eqb (length (pageAt t p .copies)) 8) (all-at shaped (t .pages) p noPageRecord (sound-shaped t e) h)) in omega arith
-    by (no h) = rw (List·getD-eq-default (t .pages) noPageRecord {n = p} (omega arith)) zero-le
+    by : Dec (p < 64) → length (pageAt t p .copies) ≤ 8
+    by (yes h) =
+        let g = pageAt t p in
+        let long : length (g .copies) ≡ 8 =
+        eqb-true (length (g .copies)) 8
+        (and-right (eqb (length (g .rights)) 16) (eqb (length (g .copies)) 8) (and-left (shaped g) _ (sound-of t e .page-ok p h))) in
+        omega arith
+    by (no h) =
+        let long = sound-of t e .pages-long in
+        rw (List·getD-eq-default (t .pages) noPageRecord {n = p} (omega arith)) zero-le
 
 short-step : (s : State) (c : Call) (bs : List ℕ) → Short (step s c bs)
 unfolding step
