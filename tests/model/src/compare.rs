@@ -1,0 +1,493 @@
+//! The comparison of a kernel with the model, on every call and every byte.
+
+use crate::flat::Demand3;
+use crate::gen::{self, Moves, Rng, DAMAGES, SHORT_SLIPS, SLIPS};
+use crate::kernel::{packed, Kernel, Modelled};
+use crate::model::{
+    self, Call, Lent, Reader, Refusal, Tables, ENTRIES, FRAME, RAW, RECORD, STATIONS,
+};
+use crate::words::{describe, hex, WORDS};
+
+/// Each number must be given this often.
+pub const LEAST: u64 = 100;
+
+/// States and events that a run should reach, counted message by message.
+pub const DEPTHS: [&str; 7] = [
+    "eight copies",
+    "stale copies",
+    "several current copies",
+    "all frames held",
+    "owner's right lowered",
+    "frames used anew",
+    "pages used anew",
+];
+
+#[derive(Default)]
+pub struct Counts {
+    pub messages: u64,
+    /// How often each number was given: 0 to 18 by answers, 19 by fresh tables.
+    pub numbers: [u64; WORDS.len()],
+    pub depths: [u64; DEPTHS.len()],
+    /// Whole files run, and those of them on which demand 3 was checked.
+    pub runs: u64,
+    pub runs_from_fresh: u64,
+}
+
+impl Counts {
+    /// The numbers and depths that came up too seldom.
+    pub fn too_few(&self) -> Vec<String> {
+        let numbers = self.numbers.iter().zip(WORDS);
+        let depths = self.depths.iter().zip(DEPTHS);
+        let few = numbers.chain(depths).filter(|(&count, _)| count < LEAST);
+        few.map(|(count, word)| format!("\"{word}\" came up {count} times only"))
+            .collect()
+    }
+}
+
+/// Compares the kernel with the model on at least so many messages; an error tells the first
+/// difference.
+pub fn compare(kernel: &dyn Kernel, seed: u64, messages: u64) -> Result<Counts, String> {
+    let mut compare = Compare {
+        kernel,
+        rng: Rng::new(seed),
+        limit: messages,
+        counts: Counts::default(),
+    };
+    compare.sweeps()?;
+    compare.fresh_tables()?;
+    while compare.counts.messages < messages {
+        compare.trial()?;
+    }
+    Ok(compare.counts)
+}
+
+struct Compare<'k> {
+    kernel: &'k dyn Kernel,
+    rng: Rng,
+    limit: u64,
+    counts: Counts,
+}
+
+impl Compare<'_> {
+    // ---- Single calls ----
+
+    /// `reel_fresh` with every P and S, and with buffers of wrong lengths.
+    fn fresh_tables(&mut self) -> Result<(), String> {
+        for sizes in 0..=u16::MAX {
+            let [fast, slow] = sizes.to_be_bytes();
+            let length = match self.rng.below(64) {
+                0 => self.rng.pick(&[0, 1, 2, RAW - 1, RAW + 1, 2 * RAW]),
+                _ => RAW,
+            };
+            let mut by_kernel = self.rng.bytes(length);
+            let mut by_model = by_kernel.clone();
+            let number = self.kernel.fresh(fast, slow, &mut by_kernel);
+            let due = Modelled.fresh(fast, slow, &mut by_model);
+            if number != due || by_kernel != by_model {
+                return Err(format!(
+                    "fresh tables of P {fast}, S {slow} in {length} bytes: number {number}, \
+                     by the model {due}{}",
+                    first_difference("tables", &by_kernel, &by_model).unwrap_or_default()
+                ));
+            }
+            if number == Refusal::TooManyFrames.number() {
+                self.counts.numbers[usize::from(number)] += 1;
+            }
+        }
+        Ok(())
+    }
+
+    /// One message's bytes given to kernel and model; what the kernel left.
+    fn answer(&mut self, lent: &Lent, bytes: &[u8]) -> Result<Lent, String> {
+        let mut by_kernel = lent.clone();
+        let mut by_model = lent.clone();
+        let given = self.kernel.answer(&mut by_kernel, bytes);
+        let answer = model::answer(&mut by_model, bytes);
+        let due = packed(answer);
+        self.counts.messages += 1;
+        self.counts.numbers[usize::from(answer.number)] += 1;
+        let mut difference = difference(lent, &by_kernel, &by_model);
+        if given != due {
+            difference.insert_str(0, &format!("\n  answer: {}", in_words(given, due)));
+        }
+        let is_refused = given.to_le_bytes()[0] != 0;
+        if is_refused && is_changed(lent, &by_kernel) {
+            difference.push_str("\n  a refused message changed the tables or a store");
+        }
+        if difference.is_empty() {
+            return Ok(by_kernel);
+        }
+        Err(format!(
+            "message {}, {}\n  bytes: {}{}{difference}",
+            self.counts.messages,
+            describe(bytes),
+            hex(&bytes[..bytes.len().min(80)]),
+            lent_in_words(lent)
+        ))
+    }
+
+    /// A whole file given to kernel and model; what the kernel left.
+    fn run(&mut self, lent: &Lent, file: &[u8]) -> Result<Lent, String> {
+        let tally: Vec<u32> = match self.rng.below(8) {
+            0 => vec![7; self.rng.pick(&[0, 1, 2, 4])],
+            1 => (0..3)
+                .map(|_| u32::MAX - self.rng.below(9) as u32)
+                .collect(),
+            2 => (0..3).map(|_| self.rng.below(1 << 32) as u32).collect(),
+            _ => vec![0; 3],
+        };
+        let (mut kernels, mut models) = (tally.clone(), tally.clone());
+        let mut by_kernel = lent.clone();
+        let mut by_model = lent.clone();
+        self.kernel.run(&mut by_kernel, file, &mut kernels);
+        Modelled.run(&mut by_model, file, &mut models);
+        self.counts.runs += 1;
+        let mut difference = difference(lent, &by_kernel, &by_model);
+        if kernels != models {
+            difference.push_str(&format!(
+                "\n  tally from {tally:?}: kernel {kernels:?}, model {models:?}"
+            ));
+        }
+        if difference.is_empty() {
+            return Ok(by_kernel);
+        }
+        Err(format!(
+            "run of a file of {} bytes, {} messages\n  bytes: {}{}{difference}",
+            file.len(),
+            Reader::new(file).count(),
+            hex(&file[..file.len().min(400)]),
+            lent_in_words(lent)
+        ))
+    }
+
+    // ---- Sweeps ----
+
+    /// Every sort of message on shaped tables, every hindrance with every kind of message.
+    fn sweeps(&mut self) -> Result<(), String> {
+        let lent = gen::shaped(&mut self.rng);
+        for message in gen::shaped_sweep(&mut self.rng) {
+            self.answer(&lent, &message)?;
+        }
+        for length in SHORT_SLIPS.into_iter().chain(SLIPS) {
+            let out = self.rng.bytes(length);
+            self.every_kind(&Lent {
+                out,
+                ..lent.clone()
+            })?;
+        }
+        for (name, damage) in DAMAGES {
+            let named = |difference| format!("damage: {name}\n{difference}");
+            for _ in 0..8 {
+                let mut damaged = lent.clone();
+                damage(&mut self.rng, &mut damaged);
+                self.every_kind(&damaged).map_err(named)?;
+            }
+        }
+        for doubled in gen::doubled(&lent) {
+            let calls = gen::shaped_calls(&mut self.rng);
+            let call = self.rng.pick(&calls);
+            self.answer(&doubled, &call.encode())?;
+        }
+        for at in 0..RAW {
+            let mut damaged = lent.clone();
+            damaged.tables[at] ^= self.rng.within(1, 255);
+            let calls = gen::shaped_calls(&mut self.rng);
+            let call = self.rng.pick(&calls);
+            self.answer(&damaged, &call.encode())?;
+        }
+        for _ in 0..64 {
+            let mut hindered = lent.clone();
+            match self.rng.below(4) {
+                0 => gen::misfit_tables(&mut self.rng, &mut hindered),
+                1 => gen::odd_marks(&mut self.rng, &mut hindered),
+                _ => gen::misfit(&mut self.rng, &mut hindered),
+            }
+            self.every_kind(&hindered)?;
+        }
+        Ok(())
+    }
+
+    /// A call of every kind, a broken and a cut message, one by one and as a file.
+    fn every_kind(&mut self, lent: &Lent) -> Result<(), String> {
+        let calls = gen::shaped_calls(&mut self.rng);
+        let mut messages: Vec<Vec<u8>> = calls.iter().map(Call::encode).collect();
+        messages.push(vec![0, 0]);
+        messages.push(vec![0, 3, 1, 1, 0]);
+        messages.push(gen::cut(&mut self.rng, &calls[0].encode()));
+        for message in &messages {
+            self.answer(lent, message)?;
+        }
+        self.answer(lent, &[])?;
+        self.run(lent, &[])?;
+        self.run(lent, &messages.concat())?;
+        Ok(())
+    }
+
+    // ---- Trials ----
+
+    /// One whole file, message by message and then at once.
+    fn trial(&mut self) -> Result<(), String> {
+        let rng = &mut self.rng;
+        match rng.below(16) {
+            0..=9 => {
+                let start = self.fresh_start();
+                let length = self.rng.pick(&[0, 3, 30, 300, 1500]);
+                self.moves(start, Some(Demand3::start()), length)
+            }
+            10 | 11 => {
+                let start = self.fresh_start();
+                let file = gen::nonsense(&mut self.rng);
+                let mut trial = Trial::new(start, Some(Demand3::start()));
+                self.turns(&mut trial, &file)?;
+                self.whole_run(&trial)
+            }
+            12 | 13 => {
+                let start = gen::lawful(rng);
+                let length = rng.pick(&[10, 100]);
+                self.moves(start, None, length)
+            }
+            _ => {
+                let mut start = match rng.below(2) {
+                    0 => gen::shaped(rng),
+                    _ => gen::lawful(rng),
+                };
+                gen::hinder(rng, &mut start);
+                let length = rng.below(12);
+                self.moves(start, None, length)
+            }
+        }
+    }
+
+    /// Fresh tables of the kernel.
+    fn fresh_start(&mut self) -> Lent {
+        let mut start = gen::fresh(&mut self.rng);
+        let (fast, slow) = (start.tables[0], start.tables[1]);
+        self.rng.fill(&mut start.tables);
+        self.kernel.fresh(fast, slow, &mut start.tables);
+        start
+    }
+
+    fn moves(
+        &mut self,
+        start: Lent,
+        demand3: Option<Demand3>,
+        length: usize,
+    ) -> Result<(), String> {
+        let mut moves = Moves::new(&mut self.rng);
+        let mut trial = Trial::new(start, demand3);
+        for turn in 0..length {
+            if self.counts.messages >= self.limit {
+                break;
+            }
+            let tables = trial.tables();
+            let last = turn + 1 == length;
+            let bytes = moves.next(&mut self.rng, &tables, &trial.lent, last);
+            self.turns(&mut trial, &bytes)?;
+        }
+        self.whole_run(&trial)
+    }
+
+    /// The next messages of a trial.
+    fn turns(&mut self, trial: &mut Trial, bytes: &[u8]) -> Result<(), String> {
+        for message in Reader::new(bytes) {
+            if self.rng.once_in(12) {
+                self.probe(&trial.lent, message)?;
+            }
+            let mut bytes = message.to_vec();
+            let is_cut = Call::decode(message) == Err(Refusal::CutShort);
+            if !is_cut && self.rng.once_in(4) {
+                let past = self.rng.below(9);
+                bytes.extend(self.rng.bytes(past));
+            }
+            self.rng.fill(&mut trial.lent.out);
+            let before = trial.tables();
+            trial.lent = self.answer(&trial.lent, &bytes)?;
+            trial.file.extend(message);
+            if let Some(demand3) = &mut trial.demand3 {
+                let out = &trial.lent.out;
+                let end = 2 + usize::from(u16::from_be_bytes([out[0], out[1]]));
+                let checked = demand3.turn(&before, message, &out[..end]);
+                checked.map_err(|error| format!("{}\n  {error}", describe(message)))?;
+                let accepted = out[3] == 0;
+                trial.reach(&mut self.counts, &before, message, accepted);
+            }
+        }
+        Ok(())
+    }
+
+    /// A message with some hindrance, or cut short; the trial does not go on from it.
+    fn probe(&mut self, lent: &Lent, message: &[u8]) -> Result<(), String> {
+        if self.rng.once_in(4) && message.len() > 2 {
+            let cut = gen::cut(&mut self.rng, message);
+            self.answer(lent, &cut)?;
+        } else {
+            let mut hindered = lent.clone();
+            gen::hinder(&mut self.rng, &mut hindered);
+            self.answer(&hindered, message)?;
+        }
+        Ok(())
+    }
+
+    /// The file of a trial run at once, which must come to the same end.
+    fn whole_run(&mut self, trial: &Trial) -> Result<(), String> {
+        let end = self.run(&trial.start, &trial.file)?;
+        let same = (&end.fast, &end.slow) == (&trial.lent.fast, &trial.lent.slow)
+            && marks_as_read(&end.tables) == marks_as_read(&trial.lent.tables);
+        if !same {
+            return Err("a run came to another end than its messages one by one".into());
+        }
+        if let Some(demand3) = &trial.demand3 {
+            self.counts.runs_from_fresh += 1;
+            let tables = Tables::from_raw(&end.tables).ok_or("a run left broken tables")?;
+            demand3.end(&tables, &end.fast, &end.slow)?;
+        }
+        Ok(())
+    }
+}
+
+/// A whole file in the making.
+struct Trial {
+    start: Lent,
+    lent: Lent,
+    file: Vec<u8>,
+    /// For a run from fresh tables.
+    demand3: Option<Demand3>,
+    frames_used: [bool; 256],
+    pages_used: [bool; 256],
+}
+
+impl Trial {
+    fn new(start: Lent, demand3: Option<Demand3>) -> Trial {
+        Trial {
+            lent: start.clone(),
+            start,
+            file: Vec::new(),
+            demand3,
+            frames_used: [false; 256],
+            pages_used: [false; 256],
+        }
+    }
+
+    /// The tables, or fresh ones instead of broken ones.
+    fn tables(&self) -> Tables {
+        Tables::from_raw(&self.lent.tables).unwrap_or_else(|| Tables::fresh(4, 4))
+    }
+
+    /// Counts the depths that a message found or reached.
+    fn reach(&mut self, counts: &mut Counts, before: &Tables, message: &[u8], accepted: bool) {
+        let pages = || before.pages.iter().flatten();
+        let anew = |used: &mut [bool; 256], number: u8| {
+            accepted && std::mem::replace(&mut used[usize::from(number)], true)
+        };
+        let (frame_anew, page_anew) = match Call::decode(message) {
+            Ok(Call::MakeCopy { frame, .. }) => (anew(&mut self.frames_used, frame), false),
+            Ok(Call::Create { page, .. }) => (false, anew(&mut self.pages_used, page)),
+            _ => (false, false),
+        };
+        let held = before.copies().filter(|(_, _, copy)| copy.frame.is_some());
+        let reached = [
+            pages().any(|page| page.copies.len() == ENTRIES),
+            pages().any(|page| page.copies.iter().any(|copy| !copy.recent)),
+            pages().any(|page| page.current_frames().len() > 1),
+            before.frames() > 0 && held.count() == before.frames(),
+            pages().any(|page| page.rights[usize::from(page.owner)] < 2),
+            frame_anew,
+            page_anew,
+        ];
+        for (count, reached) in counts.depths.iter_mut().zip(reached) {
+            *count += u64::from(reached);
+        }
+    }
+}
+
+// ---- Differences ----
+
+/// Raw tables with each mark as it is read: any byte that is not 0 counts as 1.
+fn marks_as_read(tables: &[u8]) -> Vec<u8> {
+    let mut tables = tables.to_vec();
+    if tables.len() == RAW {
+        for record in tables[2..].chunks_mut(RECORD) {
+            for entry in record[STATIONS..STATIONS + 3 * ENTRIES].chunks_mut(3) {
+                entry[1] = entry[1].min(1);
+                entry[2] = entry[2].min(1);
+            }
+        }
+    }
+    tables
+}
+
+/// Tables compare byte for byte, except where marks were lent as other bytes than 0 and 1: the
+/// paper does not say how those are given back.
+fn table_difference(lent: &[u8], kernel: &[u8], model: &[u8]) -> Option<String> {
+    if kernel == model {
+        return None;
+    }
+    if marks_as_read(lent) == lent {
+        return first_difference("tables", kernel, model);
+    }
+    first_difference("tables", &marks_as_read(kernel), &marks_as_read(model))
+}
+
+fn difference(lent: &Lent, kernel: &Lent, model: &Lent) -> String {
+    let parts = [
+        table_difference(&lent.tables, &kernel.tables, &model.tables),
+        first_difference("fast store", &kernel.fast, &model.fast),
+        first_difference("slow store", &kernel.slow, &model.slow),
+        first_difference("reply buffer", &kernel.out, &model.out),
+    ];
+    parts.into_iter().flatten().collect()
+}
+
+fn first_difference(name: &str, kernel: &[u8], model: &[u8]) -> Option<String> {
+    if kernel == model {
+        return None;
+    }
+    let at = kernel.iter().zip(model).position(|(k, m)| k != m)?;
+    let place = match name {
+        "tables" if at >= 2 => {
+            let (page, byte) = ((at - 2) / RECORD, (at - 2) % RECORD);
+            format!("byte {at} (page {page}, byte {byte} of its record)")
+        }
+        "fast store" | "slow store" => format!("byte {at} (frame {} of it)", at / FRAME),
+        _ => format!("byte {at}"),
+    };
+    let (kernel, model) = (kernel[at], model[at]);
+    Some(format!(
+        "\n  {name}, {place}: kernel {kernel:02X}, model {model:02X}"
+    ))
+}
+
+fn is_changed(before: &Lent, after: &Lent) -> bool {
+    (&before.fast, &before.slow) != (&after.fast, &after.slow)
+        || table_difference(&before.tables, &after.tables, &before.tables).is_some()
+}
+
+fn in_words(given: u32, due: u32) -> String {
+    let [given, due] = [given, due].map(|answer| {
+        let (number, length, laid) = (answer % 256, answer / 256 % 256, answer / 65536);
+        let word = WORDS.get(number as usize).unwrap_or(&"unknown");
+        format!("{number} {word}, reply of {length}, {laid} laid")
+    });
+    format!("kernel {given}; model {due}")
+}
+
+fn lent_in_words(lent: &Lent) -> String {
+    let mut words = format!(
+        "\n  lent: tables of {} bytes, stores of {} and {}, a reply buffer of {}",
+        lent.tables.len(),
+        lent.fast.len(),
+        lent.slow.len(),
+        lent.out.len()
+    );
+    match Tables::from_raw(&lent.tables) {
+        None => words.push_str(", broken tables"),
+        Some(tables) => {
+            for (number, page) in tables.pages.iter().enumerate() {
+                if let Some(page) = page {
+                    words.push_str(&format!("\n  page {number}: {page:?}"));
+                }
+            }
+        }
+    }
+    words
+}

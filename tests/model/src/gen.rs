@@ -1,0 +1,773 @@
+//! Generators of messages, call files, tables and stores, all from one seed.
+
+use crate::model::{
+    frame_bytes, message, Call, Lent, Page, PageCopy, Tables, ENTRIES, FRAME, KINDS, MOST_FRAMES,
+    NO_FRAME, PAGES, RAW, RECORD, SLIP, STATIONS, VERSION,
+};
+
+/// A small generator of random numbers (splitmix64).
+pub struct Rng(u64);
+
+impl Rng {
+    pub fn new(seed: u64) -> Rng {
+        Rng(seed)
+    }
+
+    fn draw(&mut self) -> u64 {
+        self.0 = self.0.wrapping_add(0x9E37_79B9_7F4A_7C15);
+        let mut z = self.0;
+        z = (z ^ (z >> 30)).wrapping_mul(0xBF58_476D_1CE4_E5B9);
+        z = (z ^ (z >> 27)).wrapping_mul(0x94D0_49BB_1331_11EB);
+        z ^ (z >> 31)
+    }
+
+    /// A number below `bound`.
+    pub fn below(&mut self, bound: usize) -> usize {
+        (self.draw() % bound as u64) as usize
+    }
+
+    /// A number from `low` to `high`.
+    pub fn within(&mut self, low: u8, high: u8) -> u8 {
+        low + self.below(usize::from(high - low) + 1) as u8
+    }
+
+    pub fn byte(&mut self) -> u8 {
+        self.draw() as u8
+    }
+
+    /// True once in `times`.
+    pub fn once_in(&mut self, times: usize) -> bool {
+        self.below(times) == 0
+    }
+
+    pub fn pick<T: Clone>(&mut self, from: &[T]) -> T {
+        from[self.below(from.len())].clone()
+    }
+
+    pub fn fill(&mut self, bytes: &mut [u8]) {
+        for part in bytes.chunks_mut(8) {
+            part.copy_from_slice(&self.draw().to_le_bytes()[..part.len()]);
+        }
+    }
+
+    pub fn bytes(&mut self, length: usize) -> Vec<u8> {
+        let mut bytes = vec![0; length];
+        self.fill(&mut bytes);
+        bytes
+    }
+
+    fn shuffle<T>(&mut self, items: &mut [T]) {
+        for last in (1..items.len()).rev() {
+            items.swap(last, self.below(last + 1));
+        }
+    }
+}
+
+// ---- What a caller lends ----
+
+/// Reply buffers that serve, and those that are short slips.
+pub const SLIPS: [usize; 3] = [SLIP, 71, 200];
+pub const SHORT_SLIPS: [usize; 4] = [0, 1, 6, 69];
+
+/// P or S: mostly of the four named sizes.
+fn size(rng: &mut Rng) -> u8 {
+    match rng.below(8) {
+        0 => rng.within(0, MOST_FRAMES),
+        _ => rng.pick(&[0, 1, 4, MOST_FRAMES]),
+    }
+}
+
+/// Tables with stores that fit them; stores and reply buffer hold random bytes.
+fn lend(rng: &mut Rng, tables: &Tables) -> Lent {
+    let slip = rng.pick(&SLIPS);
+    Lent {
+        tables: tables.to_raw(),
+        fast: rng.bytes(FRAME * usize::from(tables.fast)),
+        slow: rng.bytes(FRAME * usize::from(tables.slow)),
+        out: rng.bytes(slip),
+    }
+}
+
+pub fn fresh(rng: &mut Rng) -> Lent {
+    let tables = Tables::fresh(size(rng), size(rng));
+    lend(rng, &tables)
+}
+
+/// Any tables that keep the rules, reached by a run or not: copies that should be equal have
+/// different bytes.
+pub fn lawful(rng: &mut Rng) -> Lent {
+    let mut tables = Tables::fresh(size(rng), size(rng));
+    let mut free: Vec<u8> = (0..tables.frames() as u8).collect();
+    rng.shuffle(&mut free);
+    let share = rng.within(1, 4);
+    for page in &mut tables.pages {
+        if rng.within(1, 4) <= share {
+            let n = rng.below(ENTRIES + 1).min(free.len());
+            let frames = free.split_off(free.len() - n);
+            *page = Some(lawful_page(rng, &frames));
+        }
+    }
+    lend(rng, &tables)
+}
+
+/// A page with copies on these frames, or with a null copy if there are none.
+fn lawful_page(rng: &mut Rng, frames: &[u8]) -> Page {
+    let mut copies: Vec<PageCopy> = Vec::new();
+    for &frame in frames {
+        let recent = rng.once_in(2);
+        copies.push(PageCopy {
+            frame: Some(frame),
+            current: recent && rng.once_in(2),
+            recent,
+        });
+    }
+    if copies.is_empty() {
+        copies.push(PageCopy {
+            frame: None,
+            current: false,
+            recent: true,
+        });
+    }
+    let sure = rng.below(copies.len());
+    copies[sure].recent = true;
+    Page {
+        owner: rng.within(0, 15),
+        rights: std::array::from_fn(|_| rng.within(0, 2)),
+        copies,
+    }
+}
+
+/// Lawful tables with every shape of page, for the sweeps: page 0 with two CURRENT copies and a
+/// stale one, page 1 with a null copy, page 2 with eight copies, page 5 with one CURRENT copy,
+/// page 63 with a MOST RECENT one that is not CURRENT; frames 12 to 14 free, the rest absent.
+pub fn shaped(rng: &mut Rng) -> Lent {
+    let copy = |frame, current, recent| PageCopy {
+        frame,
+        current,
+        recent,
+    };
+    let page = |owner, copies| {
+        let rights = std::array::from_fn(|station| (station % 3) as u8);
+        Some(Page {
+            owner,
+            rights,
+            copies,
+        })
+    };
+    let eight = [1, 2, 4, 5, 6, 7, 9, 10].into_iter();
+    let mut tables = Tables::fresh(7, 9);
+    tables.pages[0] = page(
+        5,
+        vec![
+            copy(Some(3), false, false),
+            copy(Some(8), true, true),
+            copy(Some(0), true, true),
+        ],
+    );
+    tables.pages[1] = page(2, vec![copy(None, false, true)]);
+    tables.pages[2] = page(
+        15,
+        eight.map(|f| copy(Some(f), f == 4, f % 2 == 0)).collect(),
+    );
+    tables.pages[5] = page(0, vec![copy(Some(11), true, true)]);
+    tables.pages[63] = page(3, vec![copy(Some(15), false, true)]);
+    lend(rng, &tables)
+}
+
+// ---- Damage ----
+
+fn record(page: usize) -> usize {
+    2 + RECORD * page
+}
+
+fn entry(page: usize, copy: usize) -> usize {
+    record(page) + STATIONS + 3 * copy
+}
+
+fn owner(page: usize) -> usize {
+    record(page) + RECORD - 2
+}
+
+fn n(page: usize) -> usize {
+    record(page) + RECORD - 1
+}
+
+/// A number above `limit` up to `most`, often the next one.
+fn above(rng: &mut Rng, limit: u8, most: u8) -> u8 {
+    match rng.below(2) {
+        0 => limit + 1,
+        _ => rng.within(limit + 1, most),
+    }
+}
+
+/// A way to break one table rule of `shaped` tables.
+pub type Damage = (&'static str, fn(&mut Rng, &mut Lent));
+
+/// Every table rule broken in turn.
+pub const DAMAGES: [Damage; 28] = [
+    ("P above 127", |rng, lent| {
+        lent.tables[0] = above(rng, MOST_FRAMES, 255);
+        lent.fast = rng.bytes(FRAME * usize::from(lent.tables[0]));
+    }),
+    ("S above 127", |rng, lent| {
+        lent.tables[1] = above(rng, MOST_FRAMES, 255);
+        lent.slow = rng.bytes(FRAME * usize::from(lent.tables[1]));
+    }),
+    ("owner above 15", |rng, lent| {
+        lent.tables[owner(5)] = above(rng, 15, 255);
+    }),
+    ("right above 2", |rng, lent| {
+        lent.tables[record(0) + rng.below(STATIONS)] = above(rng, 2, 255);
+    }),
+    ("n above 8, eight copies", |rng, lent| {
+        lent.tables[n(2)] = above(rng, 8, 255);
+    }),
+    ("n above 8, one copy", |rng, lent| {
+        lent.tables[n(5)] = above(rng, 8, 255);
+    }),
+    ("n too small", |_, lent| lent.tables[n(0)] = 2),
+    ("n too large", |_, lent| lent.tables[n(0)] = 4),
+    ("n 0 on a standing page", |_, lent| lent.tables[n(5)] = 0),
+    ("n 1 on an absent page", |_, lent| lent.tables[n(9)] = 1),
+    ("frame out of range", |rng, lent| {
+        lent.tables[entry(5, 0)] = above(rng, 15, 254);
+    }),
+    ("a frame twice in one page", |_, lent| {
+        lent.tables[entry(0, 0)] = 8;
+    }),
+    ("a frame under two pages", |_, lent| {
+        lent.tables[entry(63, 0)] = 10;
+    }),
+    ("the same frame under neighbours", |_, lent| {
+        lent.tables[entry(2, 7)] = 9;
+    }),
+    ("CURRENT without MOST RECENT", |_, lent| {
+        lent.tables[entry(0, 0) + 1] = 1;
+    }),
+    ("no MOST RECENT", |_, lent| {
+        lent.tables[entry(63, 0) + 2] = 0;
+    }),
+    ("no MOST RECENT of three", |_, lent| {
+        for copy in 0..3 {
+            lent.tables[entry(0, copy) + 1] = 0;
+            lent.tables[entry(0, copy) + 2] = 0;
+        }
+    }),
+    ("a null copy not alone, recent", |_, lent| {
+        lent.tables[entry(0, 1)] = NO_FRAME;
+        lent.tables[entry(0, 1) + 1] = 0;
+    }),
+    ("a null copy not alone, stale", |_, lent| {
+        lent.tables[entry(0, 0)] = NO_FRAME;
+    }),
+    ("two null copies", |_, lent| {
+        lent.tables[n(1)] = 2;
+        lent.tables[entry(1, 1) + 2] = 1;
+    }),
+    ("a null copy not recent", |_, lent| {
+        lent.tables[entry(1, 0) + 2] = 0;
+    }),
+    ("a null copy current", |_, lent| {
+        lent.tables[entry(1, 0) + 1] = 1;
+    }),
+    ("a frame in an unused entry", |rng, lent| {
+        lent.tables[entry(0, rng.within(3, 7).into())] = rng.within(0, 254);
+    }),
+    ("a mark in an unused entry", |rng, lent| {
+        let mark = 1 + rng.below(2);
+        lent.tables[entry(0, rng.within(3, 7).into()) + mark] = rng.within(1, 255);
+    }),
+    ("an absent page's owner", |rng, lent| {
+        lent.tables[owner(62)] = rng.within(1, 255);
+    }),
+    ("an absent page's right", |rng, lent| {
+        lent.tables[record(4) + rng.below(STATIONS)] = rng.within(1, 255);
+    }),
+    ("an absent page's frame", |rng, lent| {
+        lent.tables[entry(3, rng.below(ENTRIES))] = rng.within(0, 254);
+    }),
+    ("an absent page's mark", |rng, lent| {
+        let mark = 1 + rng.below(2);
+        lent.tables[entry(3, rng.below(ENTRIES)) + mark] = rng.within(1, 255);
+    }),
+];
+
+/// Tables with two copies on one frame, for every two copies of lawful tables.
+pub fn doubled(lent: &Lent) -> Vec<Lent> {
+    let tables = Tables::from_raw(&lent.tables).expect("lawful tables");
+    let with_frames = tables.copies().filter(|(_, _, copy)| copy.frame.is_some());
+    let places: Vec<usize> = with_frames.map(|(p, c, _)| entry(p, c)).collect();
+    let mut doubled = Vec::new();
+    for &from in &places {
+        for &to in places.iter().filter(|&&to| to != from) {
+            let mut lent = lent.clone();
+            lent.tables[to] = lent.tables[from];
+            doubled.push(lent);
+        }
+    }
+    doubled
+}
+
+/// One byte of the tables set to another value, often a small one.
+pub fn damage_byte(rng: &mut Rng, lent: &mut Lent) {
+    let at = rng.below(lent.tables.len());
+    lent.tables[at] = match rng.below(3) {
+        0 => rng.byte(),
+        1 => lent.tables[at] ^ (1 << rng.below(8)),
+        _ => rng.within(0, 9),
+    };
+}
+
+/// Marks that stand as other bytes than 0 and 1, which is no damage.
+pub fn odd_marks(rng: &mut Rng, lent: &mut Lent) {
+    for page in 0..PAGES {
+        for copy in 0..ENTRIES {
+            for mark in &mut lent.tables[entry(page, copy) + 1..][..2] {
+                if *mark != 0 && rng.once_in(2) {
+                    *mark = rng.within(1, 255);
+                }
+            }
+        }
+    }
+}
+
+/// A store of a wrong length, or the two stores exchanged.
+pub fn misfit(rng: &mut Rng, lent: &mut Lent) {
+    if rng.once_in(5) {
+        std::mem::swap(&mut lent.fast, &mut lent.slow);
+        return;
+    }
+    let store = if rng.once_in(2) {
+        &mut lent.fast
+    } else {
+        &mut lent.slow
+    };
+    let length = store.len();
+    let wrong = [0, 1, length.saturating_sub(FRAME), length.saturating_sub(1)];
+    let wrong = [&wrong[..], &[length + 1, length + FRAME, 2 * length]].concat();
+    let length = rng.pick(&wrong);
+    *store = rng.bytes(length);
+}
+
+/// Tables of another length.
+pub fn misfit_tables(rng: &mut Rng, lent: &mut Lent) {
+    let length = rng.pick(&[
+        0,
+        1,
+        2,
+        RAW - RECORD,
+        RAW - 1,
+        RAW + 1,
+        RAW + RECORD,
+        2 * RAW,
+    ]);
+    lent.tables.resize(length, 0);
+}
+
+/// A hindrance of any sort, one that may turn every message back; none on top of tables of a
+/// wrong length.
+pub fn hinder(rng: &mut Rng, lent: &mut Lent) {
+    if lent.tables.len() != RAW {
+        return;
+    }
+    match rng.below(8) {
+        0 | 1 => {
+            let slip = rng.pick(&SHORT_SLIPS);
+            lent.out = rng.bytes(slip);
+        }
+        2..=4 => damage_byte(rng, lent),
+        5 => odd_marks(rng, lent),
+        6 => misfit(rng, lent),
+        _ => misfit_tables(rng, lent),
+    }
+}
+
+// ---- Messages ----
+
+/// How much each kind of message is wanted, before a phase sets its own weights.
+const WEIGHTS: [usize; KINDS] = [1, 1, 6, 12, 16, 20, 6, 20, 5, 4, 4];
+
+/// The moves of one run, in phases that each have pages, stations and kinds of their own.
+pub struct Moves {
+    pages: Vec<u8>,
+    stations: Vec<u8>,
+    weights: [usize; KINDS],
+    left: usize,
+}
+
+impl Moves {
+    pub fn new(rng: &mut Rng) -> Moves {
+        let mut moves = Moves {
+            pages: Vec::new(),
+            stations: Vec::new(),
+            weights: WEIGHTS,
+            left: 0,
+        };
+        moves.new_phase(rng);
+        moves
+    }
+
+    fn new_phase(&mut self, rng: &mut Rng) {
+        self.left = rng.pick(&[20, 60, 200, 400]);
+        let pages = rng.pick(&[1, 2, 4, 12, PAGES]);
+        let stations = rng.pick(&[1, 2, 3, STATIONS]);
+        // The hot pages and stations of every run overlap, so that phases build on each other.
+        self.pages = (0..pages as u8).map(|page| 63 - page).collect();
+        self.stations = (0..stations as u8).collect();
+        self.weights = WEIGHTS.map(|weight| weight * rng.pick(&[0, 1, 1, 2, 4]));
+        self.weights[3] += 1;
+    }
+
+    /// The next bytes of the file: one message, broken or not; if `last`, perhaps one cut short.
+    pub fn next(&mut self, rng: &mut Rng, tables: &Tables, lent: &Lent, last: bool) -> Vec<u8> {
+        if self.left == 0 {
+            self.new_phase(rng);
+        }
+        self.left -= 1;
+        let call = match rng.below(12) {
+            0 => any_call(rng),
+            _ => self.sensible(rng, tables, lent),
+        };
+        if last && rng.once_in(2) {
+            return cut(rng, &call.encode());
+        }
+        match rng.below(24) {
+            0 => broken(rng, &call),
+            _ => call.encode(),
+        }
+    }
+
+    /// A call that mostly makes sense on these tables.
+    fn sensible(&self, rng: &mut Rng, tables: &Tables, lent: &Lent) -> Call {
+        let page = rng.pick(&self.pages);
+        let any_station = rng.pick(&self.stations);
+        let Some(record) = &tables.pages[usize::from(page)] else {
+            if rng.once_in(8) {
+                return any_call(rng);
+            }
+            let station = any_station;
+            return Call::Create { station, page };
+        };
+        let owner = match rng.below(8) {
+            0 => any_station,
+            _ => record.owner,
+        };
+        let reader = entitled(rng, record, 1).unwrap_or(any_station);
+        let writer = entitled(rng, record, 2).unwrap_or(any_station);
+        let copy = rng.below(record.copies.len()) as u8;
+        // A page with nothing current is often brought forward first.
+        if record.current_frames().is_empty() && rng.once_in(3) {
+            let frame = frame(rng, tables);
+            return match record.copies[0].frame {
+                None => Call::MakeCopy { page, copy, frame },
+                Some(_) => Call::SetCurrent {
+                    page,
+                    copy: recent(rng, record).unwrap_or(copy),
+                },
+            };
+        }
+        match weighted(rng, &self.weights) {
+            0 => Call::Create {
+                station: any_station,
+                page,
+            },
+            1 => Call::DeletePage {
+                station: owner,
+                page,
+            },
+            2 => Call::Grant {
+                station: owner,
+                page,
+                other: rng.pick(&self.stations),
+                right: rng.within(0, 2),
+            },
+            3 => {
+                let (offset, count) = part(rng);
+                Call::Read {
+                    station: reader,
+                    page,
+                    offset,
+                    count,
+                }
+            }
+            4 => {
+                let (offset, count) = part(rng);
+                Call::Write {
+                    station: writer,
+                    page,
+                    offset,
+                    bytes: written(rng, tables, lent, record, offset.into(), count.into()),
+                }
+            }
+            5 => match frame(rng, tables) {
+                // In full stores a copy rather makes room.
+                frame if !tables.is_free(frame) && rng.once_in(2) => {
+                    Call::DeleteCopy { page, copy }
+                }
+                frame => Call::MakeCopy { page, copy, frame },
+            },
+            6 => Call::DeleteCopy { page, copy },
+            7 => Call::SetCurrent {
+                page,
+                copy: recent(rng, record).unwrap_or(copy),
+            },
+            8 => Call::RemoveCurrent { page, copy },
+            9 => Call::LookPage { page },
+            _ => Call::LookFrame {
+                frame: rng.below(tables.frames().max(1)) as u8,
+            },
+        }
+    }
+}
+
+fn weighted(rng: &mut Rng, weights: &[usize]) -> usize {
+    let mut left = rng.below(weights.iter().sum());
+    weights
+        .iter()
+        .position(|&weight| {
+            let found = left < weight;
+            left = left.saturating_sub(weight);
+            found
+        })
+        .expect("a draw below the sum")
+}
+
+/// An offset and a count that fit a page, often up to its ends.
+fn part(rng: &mut Rng) -> (u8, u8) {
+    let inner = rng.within(0, 63);
+    let offset = rng.pick(&[0, inner, inner, 63]);
+    let count = rng.within(1, 64 - offset);
+    (offset, rng.pick(&[1, count, count, 64 - offset]))
+}
+
+/// Mostly a station with this right on the page or a higher one.
+fn entitled(rng: &mut Rng, page: &Page, right: u8) -> Option<u8> {
+    let stations = (0..STATIONS as u8).filter(|&s| page.rights[usize::from(s)] >= right);
+    let stations: Vec<u8> = stations.collect();
+    (!stations.is_empty() && !rng.once_in(6)).then(|| rng.pick(&stations))
+}
+
+/// Mostly a MOST RECENT copy.
+fn recent(rng: &mut Rng, page: &Page) -> Option<u8> {
+    let copies = (0..page.copies.len() as u8).filter(|&c| page.copies[usize::from(c)].recent);
+    let copies: Vec<u8> = copies.collect();
+    (!rng.once_in(4)).then(|| rng.pick(&copies))
+}
+
+/// Mostly a free frame, and rather a low one, so that frames are used anew.
+fn frame(rng: &mut Rng, tables: &Tables) -> u8 {
+    let mut held = [false; 256];
+    for (_, _, copy) in tables.copies() {
+        held[usize::from(copy.frame.unwrap_or(NO_FRAME))] = true;
+    }
+    let all = tables.frames().min(255) as u8;
+    let free: Vec<u8> = (0..all).filter(|&f| !held[usize::from(f)]).collect();
+    match rng.below(12) {
+        0 => rng.below(usize::from(all).max(1)) as u8,
+        1..=5 if !free.is_empty() => free[0],
+        _ if !free.is_empty() => rng.pick(&free),
+        _ => rng.below(usize::from(all).max(1)) as u8,
+    }
+}
+
+/// Bytes to write: random ones, zeros, or the very bytes that stand there.
+fn written(
+    rng: &mut Rng,
+    tables: &Tables,
+    lent: &Lent,
+    page: &Page,
+    offset: usize,
+    count: usize,
+) -> Vec<u8> {
+    match (rng.below(4), page.current_frames().first()) {
+        (0, Some(&frame)) if stores_fit(tables, lent) => {
+            frame_bytes(tables, &lent.fast, &lent.slow, frame)[offset..][..count].to_vec()
+        }
+        (1, _) => vec![0; count],
+        _ => rng.bytes(count),
+    }
+}
+
+fn stores_fit(tables: &Tables, lent: &Lent) -> bool {
+    lent.fast.len() == FRAME * usize::from(tables.fast)
+        && lent.slow.len() == FRAME * usize::from(tables.slow)
+}
+
+/// A call with any arguments, mostly such as lie at a border.
+fn any_call(rng: &mut Rng) -> Call {
+    let station = border(rng, &[0, 1, 2, 15, 16, 17, 255]);
+    let page = border(rng, &[0, 1, 62, 63, 63, 63, 64, 65, 128, 255]);
+    let copy = border(rng, &[0, 0, 1, 2, 7, 8, 9, 255]);
+    let frame = border(rng, &[0, 1, 2, 4, 5, 7, 8, 9, 126, 127, 128, 253, 254, 255]);
+    let offset = border(rng, &[0, 1, 31, 32, 62, 63, 64, 65, 255]);
+    match 1 + rng.below(KINDS) {
+        1 => Call::Create { station, page },
+        2 => Call::DeletePage { station, page },
+        3 => Call::Grant {
+            station,
+            page,
+            other: border(rng, &[0, 1, 2, 15, 16, 17, 255]),
+            right: border(rng, &[0, 1, 2, 3, 255]),
+        },
+        4 => Call::Read {
+            station,
+            page,
+            offset,
+            count: border(rng, &[0, 1, 2, 32, 33, 63, 64, 65, 192, 193, 255]),
+        },
+        5 => {
+            let count = rng.pick(&[1, 2, 32, 33, 63, 64]);
+            Call::Write {
+                station,
+                page,
+                offset,
+                bytes: rng.bytes(count),
+            }
+        }
+        6 => Call::MakeCopy { page, copy, frame },
+        7 => Call::DeleteCopy { page, copy },
+        8 => Call::SetCurrent { page, copy },
+        9 => Call::RemoveCurrent { page, copy },
+        10 => Call::LookPage { page },
+        _ => Call::LookFrame { frame },
+    }
+}
+
+fn border(rng: &mut Rng, values: &[u8]) -> u8 {
+    match rng.below(10) {
+        0 => rng.byte(),
+        _ => rng.pick(values),
+    }
+}
+
+/// A whole message that is mostly broken.
+fn broken(rng: &mut Rng, call: &Call) -> Vec<u8> {
+    let mut body = call.encode().split_off(2);
+    match rng.below(8) {
+        0 => body[0] = rng.byte(),
+        1 => body[1] = rng.pick(&[0, 12, 13, 128, 255, body[0].wrapping_add(11)]),
+        2 => body[1] = rng.within(0, 12),
+        3 => body.truncate(rng.below(body.len())),
+        4 => {
+            let more = rng.within(1, 70).into();
+            body.extend(rng.bytes(more));
+        }
+        5 => body = of_length(rng, 75),
+        6 if rng.once_in(8) => body = of_length(rng, usize::from(u16::MAX)),
+        _ => {
+            let at = rng.below(body.len());
+            body[at] = rng.byte();
+        }
+    }
+    with_length(&body)
+}
+
+/// A body of a length up to `most`, with a sound version and kind where it reaches so far.
+fn of_length(rng: &mut Rng, most: usize) -> Vec<u8> {
+    let length = rng.below(most + 1);
+    let mut body = rng.bytes(length);
+    let front = [VERSION, rng.within(1, KINDS as u8)];
+    for (byte, sound) in body.iter_mut().zip(front) {
+        *byte = sound;
+    }
+    body
+}
+
+fn with_length(body: &[u8]) -> Vec<u8> {
+    let length = u16::try_from(body.len()).expect("a length of two bytes");
+    [&length.to_be_bytes(), body].concat()
+}
+
+/// A message cut short: somewhere in it, or by an L that is too large.
+pub fn cut(rng: &mut Rng, message: &[u8]) -> Vec<u8> {
+    match rng.below(4) {
+        0 => vec![rng.byte()],
+        1 => {
+            let more = rng.pick(&[1, 2, 64, 255, 256, 60000]);
+            let length = (message.len() - 2 + more) as u16;
+            [&length.to_be_bytes(), &message[2..]].concat()
+        }
+        _ => message[..1 + rng.below(message.len() - 1)].to_vec(),
+    }
+}
+
+/// A file of no sense: small bytes at random, so that some pass for lengths.
+pub fn nonsense(rng: &mut Rng) -> Vec<u8> {
+    let length = rng.pick(&[0, 1, 2, 3, 30, 300, 1000]);
+    let most = rng.pick(&[1, 6, 12, 70, 255]);
+    (0..length).map(|_| rng.within(0, most)).collect()
+}
+
+/// One accepted call of each kind for `shaped` tables.
+pub fn shaped_calls(rng: &mut Rng) -> [Call; KINDS] {
+    let bytes = rng.bytes(7);
+    #[rustfmt::skip]
+    let calls = [
+        Call::Create { station: 9, page: 7 },
+        Call::DeletePage { station: 5, page: 0 },
+        Call::Grant { station: 5, page: 0, other: 4, right: 2 },
+        Call::Read { station: 4, page: 0, offset: 11, count: 20 },
+        Call::Write { station: 5, page: 0, offset: 50, bytes },
+        Call::MakeCopy { page: 0, copy: 1, frame: 13 },
+        Call::DeleteCopy { page: 0, copy: 1 },
+        Call::SetCurrent { page: 63, copy: 0 },
+        Call::RemoveCurrent { page: 0, copy: 2 },
+        Call::LookPage { page: 2 },
+        Call::LookFrame { frame: 10 },
+    ];
+    calls
+}
+
+/// Every sweep over `shaped` tables: each L from 0 to 75 with each kind and each version, each
+/// value of each argument, each offset with each count, and cuts everywhere.
+pub fn shaped_sweep(rng: &mut Rng) -> Vec<Vec<u8>> {
+    let mut messages = Vec::new();
+    for length in 0..=75 {
+        for value in 0..=255 {
+            for front in [[VERSION, value], [value, rng.within(1, KINDS as u8)]] {
+                let mut body = rng.bytes(length);
+                let known = length.min(2);
+                body[..known].copy_from_slice(&front[..known]);
+                messages.push(with_length(&body));
+            }
+        }
+    }
+    for length in [76, 255, 256, 257, 4096, 65535] {
+        let mut body = rng.bytes(length);
+        body[..2].copy_from_slice(&[VERSION, rng.within(1, KINDS as u8)]);
+        messages.push(with_length(&body));
+    }
+    for call in shaped_calls(rng) {
+        let sound = call.encode();
+        messages.extend((0..sound.len()).map(|length| sound[..length].to_vec()));
+        for at in 4..sound.len().min(8) {
+            for value in 0..=255 {
+                let mut changed = sound.clone();
+                changed[at] = value;
+                messages.push(changed);
+            }
+        }
+    }
+    for page in [0, 1, 2, 5, 63] {
+        for copy in 0..=9 {
+            let frame = rng.within(11, 16);
+            let calls = [
+                Call::MakeCopy { page, copy, frame },
+                Call::DeleteCopy { page, copy },
+                Call::SetCurrent { page, copy },
+                Call::RemoveCurrent { page, copy },
+            ];
+            messages.extend(calls.map(|call| call.encode()));
+        }
+    }
+    for offset in 0..=65 {
+        for count in 0..=66 {
+            let (station, page) = (5, rng.pick(&[0, 2, 5]));
+            messages.push(message(VERSION, 4, &[station, page, offset, count]));
+            let bytes = rng.bytes(count.into());
+            let arguments = [&[station, page, offset], bytes.as_slice()].concat();
+            messages.push(message(VERSION, 5, &arguments));
+        }
+    }
+    messages
+}

@@ -1,0 +1,55 @@
+//! `compare [--seed N] [--messages N]`: compares the kernel with the model.
+
+use model::compare::{compare, DEPTHS};
+use model::kernel::{Subject, SUBJECT};
+use model::words::WORDS;
+use std::process::ExitCode;
+
+const SEED: u64 = 1;
+const MESSAGES: u64 = 1_000_000;
+
+/// The seed and the number of messages.
+fn arguments(mut given: impl Iterator<Item = String>) -> Option<(u64, u64)> {
+    let (mut seed, mut messages) = (SEED, MESSAGES);
+    while let Some(name) = given.next() {
+        let value = given.next()?.parse().ok()?;
+        match name.as_str() {
+            "--seed" => seed = value,
+            "--messages" => messages = value,
+            _ => return None,
+        }
+    }
+    Some((seed, messages))
+}
+
+fn main() -> ExitCode {
+    let Some((seed, messages)) = arguments(std::env::args().skip(1)) else {
+        eprintln!("usage: compare [--seed N] [--messages N]");
+        return ExitCode::from(2);
+    };
+    println!("compare: seed {seed}, kernel: {SUBJECT}");
+    let counts = match compare(&Subject, seed, messages) {
+        Ok(counts) => counts,
+        Err(difference) => {
+            println!("compare: MISMATCH, seed {seed}\n{difference}");
+            return ExitCode::FAILURE;
+        }
+    };
+    for (number, (count, word)) in counts.numbers.iter().zip(WORDS).enumerate() {
+        println!("{number:4} {word:24} {count:9}");
+    }
+    for (count, depth) in counts.depths.iter().zip(DEPTHS) {
+        println!("     {depth:24} {count:9}");
+    }
+    println!(
+        "{} whole files run, demand 3 checked on {} of them from fresh tables",
+        counts.runs, counts.runs_from_fresh
+    );
+    let too_few = counts.too_few();
+    if !too_few.is_empty() {
+        println!("compare: TOO FEW, seed {seed}\n{}", too_few.join("\n"));
+        return ExitCode::FAILURE;
+    }
+    println!("compare: ok, {} messages", counts.messages);
+    ExitCode::SUCCESS
+}

@@ -1,0 +1,817 @@
+//! The harness tried on itself: `compare` must catch every one of these wrong kernels, each the
+//! model with one flaw.
+
+use ::model::compare::compare;
+use ::model::flat::Demand3;
+use ::model::gen::{self, Moves, Rng};
+use ::model::kernel::{packed, Kernel, Modelled};
+use ::model::model::{
+    self, frame_bytes, Answer, Call, Lent, Page, Reader, Tables, ENTRIES, FRAME, NO_FRAME, RAW,
+    RECORD, STATIONS,
+};
+
+/// One message answered by the model, to be spoiled.
+struct Turn<'a> {
+    call: Option<Call>,
+    before: &'a Lent,
+    after: &'a mut Lent,
+    answer: &'a mut Answer,
+}
+
+enum Flaw {
+    /// Spoils an answer.
+    Answer(fn(&mut Turn)),
+    /// Mends broken tables that it should refuse.
+    Mend(fn(&mut [u8])),
+    /// Takes this much of a file.
+    File(fn(&[u8]) -> usize),
+    /// Counts in its own way.
+    Tally(fn(&mut [u32], Answer)),
+    /// Spoils fresh tables of too many frames.
+    Fresh(fn(&mut [u8]) -> u8),
+}
+
+struct Mutant(Flaw);
+
+impl Kernel for Mutant {
+    fn fresh(&self, fast: u8, slow: u8, tables: &mut [u8]) -> u8 {
+        let number = Modelled.fresh(fast, slow, tables);
+        match self.0 {
+            Flaw::Fresh(spoil) if number == 19 => spoil(tables),
+            _ => number,
+        }
+    }
+
+    fn answer(&self, lent: &mut Lent, message: &[u8]) -> u32 {
+        packed(self.turn(lent, message))
+    }
+
+    fn run(&self, lent: &mut Lent, file: &[u8], tally: &mut [u32]) {
+        let taken = match self.0 {
+            Flaw::File(taken) => taken(file),
+            _ => file.len(),
+        };
+        for message in Reader::new(&file[..taken]) {
+            let answer = self.turn(lent, message);
+            if tally.len() != 3 {
+                continue;
+            }
+            if let Flaw::Tally(count) = self.0 {
+                count(tally, answer);
+                continue;
+            }
+            tally[0] = tally[0].saturating_add(1);
+            tally[1] = tally[1].saturating_add((answer.number != 0).into());
+            tally[2] = tally[2].saturating_add(answer.laid as u32);
+        }
+    }
+}
+
+impl Mutant {
+    fn turn(&self, lent: &mut Lent, message: &[u8]) -> Answer {
+        let before = lent.clone();
+        match self.0 {
+            Flaw::Mend(mend) if lent.tables.len() == RAW => {
+                mend(&mut lent.tables);
+                let answer = model::answer(lent, message);
+                if answer.number != 0 {
+                    lent.tables = before.tables;
+                }
+                answer
+            }
+            Flaw::Answer(spoil) => {
+                let mut answer = model::answer(lent, message);
+                spoil(&mut Turn {
+                    call: Call::decode(message).ok(),
+                    before: &before,
+                    after: lent,
+                    answer: &mut answer,
+                });
+                answer
+            }
+            _ => model::answer(lent, message),
+        }
+    }
+}
+
+impl Turn<'_> {
+    /// The page of the call as it was before, if the call was accepted.
+    fn accepted_page(&self) -> Option<(usize, Page)> {
+        let page = match self.call.as_ref()? {
+            Call::Create { .. } | Call::LookFrame { .. } => return None,
+            Call::DeletePage { page, .. }
+            | Call::Grant { page, .. }
+            | Call::Read { page, .. }
+            | Call::Write { page, .. }
+            | Call::MakeCopy { page, .. }
+            | Call::DeleteCopy { page, .. }
+            | Call::SetCurrent { page, .. }
+            | Call::RemoveCurrent { page, .. }
+            | Call::LookPage { page } => usize::from(*page),
+        };
+        let before = Tables::from_raw(&self.before.tables)?;
+        (self.answer.number == 0).then(|| (page, before.pages[page].clone().expect("a page")))
+    }
+
+    fn change_page(&mut self, page: usize, change: impl FnOnce(&mut Page)) {
+        let mut tables = Tables::from_raw(&self.after.tables).expect("lawful tables");
+        change(tables.pages[page].as_mut().expect("a page"));
+        self.after.tables = tables.to_raw();
+    }
+
+    /// Gives a number, with all as before.
+    fn refuse(&mut self, number: u8) {
+        let out = std::mem::take(&mut self.after.out);
+        *self.after = self.before.clone();
+        self.after.out = out;
+        self.reply(&[0, 4, 1, number, 0, 0]);
+        self.answer.number = number;
+        self.answer.laid = 0;
+    }
+
+    /// Gives another number where one was given.
+    fn swap(&mut self, given: u8, other: u8) {
+        if self.answer.number == given {
+            self.refuse(other);
+        }
+    }
+
+    fn reply(&mut self, reply: &[u8]) {
+        let tail = self.before.out[reply.len()..].to_vec();
+        self.after.out = [reply, &tail].concat();
+        self.answer.length = reply.len();
+    }
+
+    /// Puts back the bytes that a frame had before.
+    fn put_back(&mut self, frame: u8) {
+        let tables = Tables::from_raw(&self.before.tables).expect("lawful tables");
+        let old = frame_bytes(&tables, &self.before.fast, &self.before.slow, frame).to_vec();
+        self.lay(&tables, frame, &old);
+    }
+
+    fn lay(&mut self, tables: &Tables, frame: u8, bytes: &[u8]) {
+        let (store, frame) = match frame.checked_sub(tables.fast) {
+            None => (&mut self.after.fast, frame),
+            Some(slow) => (&mut self.after.slow, slow),
+        };
+        store[FRAME * usize::from(frame)..][..bytes.len()].copy_from_slice(bytes);
+    }
+}
+
+/// The raw record's entries in use.
+fn used(record: &mut [u8]) -> std::slice::ChunksMut<'_, u8> {
+    let n = usize::from(record[RECORD - 1]).min(ENTRIES);
+    record[STATIONS..STATIONS + 3 * n].chunks_mut(3)
+}
+
+fn records(tables: &mut [u8]) -> std::slice::ChunksMut<'_, u8> {
+    tables[2..].chunks_mut(RECORD)
+}
+
+/// The wrong kernels.
+const MUTANTS: [(&str, Flaw); 58] = [
+    // The traps of the paper.
+    (
+        "a new copy takes its source's CURRENT mark",
+        Flaw::Answer(|turn| {
+            if let (Some(Call::MakeCopy { copy, .. }), Some((number, page))) =
+                (turn.call.clone(), turn.accepted_page())
+            {
+                let current = page.copies[usize::from(copy)].current;
+                turn.change_page(number, |page| {
+                    page.copies.last_mut().expect("a copy").current = current;
+                });
+            }
+        }),
+    ),
+    (
+        "stale marks spared when equal bytes are written",
+        Flaw::Answer(|turn| {
+            if let (Some(Call::Write { .. }), Some((number, page))) =
+                (&turn.call, turn.accepted_page())
+            {
+                if turn.after.fast == turn.before.fast && turn.after.slow == turn.before.slow {
+                    turn.change_page(number, |after| *after = page);
+                }
+            }
+        }),
+    ),
+    (
+        "one current copy of two written",
+        Flaw::Answer(|turn| {
+            if let (Some(Call::Write { .. }), Some((_, page))) = (&turn.call, turn.accepted_page())
+            {
+                for &frame in &page.current_frames()[1..] {
+                    turn.put_back(frame);
+                }
+            }
+        }),
+    ),
+    (
+        "last current spared for last recent",
+        Flaw::Answer(|turn| {
+            if let (Some(Call::DeleteCopy { copy, .. }), Some((_, page))) =
+                (turn.call.clone(), turn.accepted_page())
+            {
+                let only_current = page.current_frames().len() == 1;
+                if page.copies[usize::from(copy)].current && only_current {
+                    turn.refuse(15);
+                }
+            }
+        }),
+    ),
+    (
+        "a free frame's old bytes taken for zeros",
+        Flaw::Answer(|turn| {
+            if let (Some(Call::MakeCopy { frame, .. }), Some((_, page))) =
+                (turn.call.clone(), turn.accepted_page())
+            {
+                if page.copies[0].frame.is_none() {
+                    turn.put_back(frame);
+                }
+            }
+        }),
+    ),
+    // The impostors of the paper.
+    (
+        "nothing current before looking",
+        Flaw::Answer(|turn| {
+            if let Some(Call::Read { .. } | Call::Write { .. }) = turn.call {
+                turn.swap(0, 11);
+            }
+        }),
+    ),
+    ("refuses all", Flaw::Answer(|turn| turn.swap(0, 9))),
+    (
+        "a constant reply",
+        Flaw::Answer(|turn| {
+            if turn.answer.number == 0 {
+                turn.reply(&[0, 4, 1, 0, 0, 0]);
+            }
+        }),
+    ),
+    (
+        "drops moves",
+        Flaw::Answer(|turn| {
+            if let Some(Call::MakeCopy { .. }) = turn.call {
+                turn.after.tables = turn.before.tables.clone();
+            }
+        }),
+    ),
+    (
+        "serves the first message and then only acknowledges",
+        Flaw::Answer(|turn| {
+            let begun = Tables::from_raw(&turn.before.tables)
+                .is_some_and(|tables| tables.copies().count() > 0);
+            if begun && turn.answer.number == 0 {
+                turn.refuse(0);
+            }
+        }),
+    ),
+    (
+        "invents bytes laid",
+        Flaw::Answer(|turn| {
+            if turn.answer.laid == 64 {
+                turn.answer.laid = 63;
+            }
+        }),
+    ),
+    (
+        "a reader that reports the end too early",
+        Flaw::File(|file| {
+            let last = Reader::new(file).last().unwrap_or_default();
+            file.len() - last.len()
+        }),
+    ),
+    // Other steps gone wrong.
+    (
+        "reads zeros where nothing is current",
+        Flaw::Answer(|turn| {
+            if let (Some(Call::Read { count, .. }), 11) = (&turn.call, turn.answer.number) {
+                let zeros = vec![0; usize::from(*count)];
+                turn.reply(&[&[0, 4 + count, 1, 0, 0, 0], zeros.as_slice()].concat());
+                turn.answer.number = 0;
+            }
+        }),
+    ),
+    (
+        "reads the last current copy",
+        Flaw::Answer(|turn| {
+            if let (Some(Call::Read { offset, count, .. }), Some((_, page))) =
+                (turn.call.clone(), turn.accepted_page())
+            {
+                let tables = Tables::from_raw(&turn.before.tables).expect("lawful tables");
+                let last = *page.current_frames().last().expect("a current copy");
+                let bytes = frame_bytes(&tables, &turn.before.fast, &turn.before.slow, last);
+                let bytes = bytes[offset.into()..][..count.into()].to_vec();
+                turn.reply(&[&[0, 4 + count, 1, 0, 0, 0], bytes.as_slice()].concat());
+            }
+        }),
+    ),
+    (
+        "wipes a freed frame",
+        Flaw::Answer(|turn| {
+            if let (Some(Call::DeleteCopy { copy, .. }), Some((_, page))) =
+                (turn.call.clone(), turn.accepted_page())
+            {
+                let tables = Tables::from_raw(&turn.before.tables).expect("lawful tables");
+                let frame = page.copies[usize::from(copy)].frame.expect("a frame");
+                turn.lay(&tables, frame, &[0; FRAME]);
+            }
+        }),
+    ),
+    (
+        "a new copy is always recent",
+        Flaw::Answer(|turn| {
+            if let (Some(Call::MakeCopy { .. }), Some((number, _))) =
+                (&turn.call, turn.accepted_page())
+            {
+                turn.change_page(number, |page| {
+                    page.copies.last_mut().expect("a copy").recent = true;
+                });
+            }
+        }),
+    ),
+    (
+        "a new copy goes to the front",
+        Flaw::Answer(|turn| {
+            if let (Some(Call::MakeCopy { .. }), Some((number, _))) =
+                (&turn.call, turn.accepted_page())
+            {
+                turn.change_page(number, |page| page.copies.rotate_right(1));
+            }
+        }),
+    ),
+    (
+        "the last copy fills the gap",
+        Flaw::Answer(|turn| {
+            if let (Some(Call::DeleteCopy { copy, .. }), Some((number, mut page))) =
+                (turn.call.clone(), turn.accepted_page())
+            {
+                page.copies.swap_remove(copy.into());
+                turn.change_page(number, |after| *after = page);
+            }
+        }),
+    ),
+    (
+        "set current takes the mark from the others",
+        Flaw::Answer(|turn| {
+            if let (Some(Call::SetCurrent { copy, .. }), Some((number, _))) =
+                (turn.call.clone(), turn.accepted_page())
+            {
+                turn.change_page(number, |page| {
+                    for (other, entry) in page.copies.iter_mut().enumerate() {
+                        entry.current &= other == usize::from(copy);
+                    }
+                });
+            }
+        }),
+    ),
+    (
+        "set current twice refused",
+        Flaw::Answer(|turn| {
+            if let Some(Call::SetCurrent { .. }) = turn.call {
+                if turn.after.tables == turn.before.tables {
+                    turn.swap(0, 16);
+                }
+            }
+        }),
+    ),
+    (
+        "remove current without effect refused",
+        Flaw::Answer(|turn| {
+            if let Some(Call::RemoveCurrent { .. }) = turn.call {
+                if turn.after.tables == turn.before.tables {
+                    turn.swap(0, 11);
+                }
+            }
+        }),
+    ),
+    (
+        "remove current takes MOST RECENT too",
+        Flaw::Answer(|turn| {
+            if let (Some(Call::RemoveCurrent { copy, .. }), Some((number, _))) =
+                (turn.call.clone(), turn.accepted_page())
+            {
+                turn.change_page(number, |page| {
+                    let recent = page.copies.iter().filter(|copy| copy.recent).count();
+                    page.copies[usize::from(copy)].recent &= recent == 1;
+                });
+            }
+        }),
+    ),
+    (
+        "an owner needs right 2 to grant",
+        Flaw::Answer(|turn| {
+            if let (Some(Call::Grant { station, .. }), Some((_, page))) =
+                (turn.call.clone(), turn.accepted_page())
+            {
+                if page.rights[usize::from(station)] < 2 {
+                    turn.refuse(10);
+                }
+            }
+        }),
+    ),
+    (
+        "a grant of right 2 gives the page away",
+        Flaw::Answer(|turn| {
+            if let (
+                Some(Call::Grant {
+                    other, right: 2, ..
+                }),
+                Some((number, _)),
+            ) = (turn.call.clone(), turn.accepted_page())
+            {
+                turn.change_page(number, |page| page.owner = other);
+            }
+        }),
+    ),
+    (
+        "the owner's own right stays",
+        Flaw::Answer(|turn| {
+            if let (Some(Call::Grant { station, other, .. }), Some((number, page))) =
+                (turn.call.clone(), turn.accepted_page())
+            {
+                if station == other {
+                    turn.change_page(number, |after| *after = page);
+                }
+            }
+        }),
+    ),
+    (
+        "bytes laid counted once for several copies",
+        Flaw::Answer(|turn| {
+            if let (Some(Call::Write { bytes, .. }), Some(_)) =
+                (turn.call.clone(), turn.accepted_page())
+            {
+                turn.answer.laid = bytes.len();
+                turn.reply(&[0, 4, 1, 0, 0, bytes.len() as u8]);
+            }
+        }),
+    ),
+    (
+        "right 1 cannot read",
+        Flaw::Answer(|turn| {
+            if let (Some(Call::Read { station, .. }), Some((_, page))) =
+                (turn.call.clone(), turn.accepted_page())
+            {
+                if page.rights[usize::from(station)] == 1 {
+                    turn.refuse(10);
+                }
+            }
+        }),
+    ),
+    (
+        "a read of 64 bytes refused",
+        Flaw::Answer(|turn| {
+            if let Some(Call::Read { count: 64, .. }) = turn.call {
+                turn.swap(0, 7);
+            }
+        }),
+    ),
+    (
+        "the last frame out of range",
+        Flaw::Answer(|turn| {
+            if let Some(Call::LookFrame { frame } | Call::MakeCopy { frame, .. }) = turn.call {
+                let tables = Tables::from_raw(&turn.before.tables);
+                if tables.is_some_and(|tables| usize::from(frame) + 1 == tables.frames()) {
+                    turn.swap(0, 7);
+                }
+            }
+        }),
+    ),
+    (
+        "a free frame told as held",
+        Flaw::Answer(|turn| {
+            if turn.after.out.get(6..9) == Some(&[0, 255, 255]) && turn.answer.length == 9 {
+                turn.after.out[6] = 1;
+            }
+        }),
+    ),
+    // Refusals and their order.
+    (
+        "eight copies before frame held",
+        Flaw::Answer(|turn| {
+            if let Some(Call::MakeCopy { page, .. }) = turn.call {
+                let n = turn
+                    .before
+                    .tables
+                    .get(2 + RECORD * usize::from(page) + RECORD - 1);
+                if n == Some(&8) {
+                    turn.swap(13, 14);
+                }
+            }
+        }),
+    ),
+    (
+        "frame held before no copy",
+        Flaw::Answer(|turn| {
+            if let (Some(Call::MakeCopy { frame, .. }), 12) = (&turn.call, turn.answer.number) {
+                let tables = Tables::from_raw(&turn.before.tables).expect("lawful tables");
+                if !tables.is_free(*frame) {
+                    turn.refuse(13);
+                }
+            }
+        }),
+    ),
+    (
+        "nothing current before no right",
+        Flaw::Answer(|turn| {
+            if let (Some(Call::Read { page, .. }), 10) = (&turn.call, turn.answer.number) {
+                let tables = Tables::from_raw(&turn.before.tables).expect("lawful tables");
+                let page = tables.pages[usize::from(*page)].as_ref();
+                if page.is_some_and(|page| page.current_frames().is_empty()) {
+                    turn.refuse(11);
+                }
+            }
+        }),
+    ),
+    (
+        "no page before out of range",
+        Flaw::Answer(|turn| {
+            if let Some(Call::Read { page, .. }) = turn.call {
+                let n = turn
+                    .before
+                    .tables
+                    .get(2 + RECORD * usize::from(page) + RECORD - 1);
+                if page < 64 && n == Some(&0) {
+                    turn.swap(7, 9);
+                }
+            }
+        }),
+    ),
+    (
+        "misfit store before broken tables",
+        Flaw::Answer(|turn| {
+            let due = turn.before.tables.first().map(|&p| FRAME * usize::from(p));
+            if due != Some(turn.before.fast.len()) {
+                turn.swap(5, 6);
+            }
+        }),
+    ),
+    (
+        "broken tables before wrong length",
+        Flaw::Answer(|turn| {
+            if Tables::from_raw(&turn.before.tables).is_none() {
+                turn.swap(4, 5);
+            }
+        }),
+    ),
+    (
+        "a foreign version taken for cut short",
+        Flaw::Answer(|turn| {
+            if turn.call.is_none() {
+                turn.swap(2, 1);
+            }
+        }),
+    ),
+    (
+        "a store of more than 127 frames out of range",
+        Flaw::Answer(|turn| {
+            if turn.before.fast.len() > 64 * 127 {
+                turn.swap(6, 7);
+            }
+        }),
+    ),
+    (
+        "only the sum of the stores tested",
+        Flaw::Answer(|turn| {
+            let Some(tables) = Tables::from_raw(&turn.before.tables) else {
+                return;
+            };
+            if turn.before.fast.len() + turn.before.slow.len() == FRAME * tables.frames() {
+                turn.swap(6, 7);
+            }
+        }),
+    ),
+    (
+        "a refused write leaves marks",
+        Flaw::Answer(|turn| {
+            if let (Some(Call::Write { page, .. }), 11) = (turn.call.clone(), turn.answer.number) {
+                turn.change_page(page.into(), |page| page.rights[0] ^= 1);
+            }
+        }),
+    ),
+    // Replies.
+    (
+        "the reply's tail wiped",
+        Flaw::Answer(|turn| {
+            if let Some(byte) = turn.after.out.get_mut(turn.answer.length) {
+                *byte = 0;
+            }
+        }),
+    ),
+    (
+        "a short slip written on",
+        Flaw::Answer(|turn| {
+            if turn.answer.number == 18 && turn.after.out.len() >= 6 {
+                turn.after.out[..6].copy_from_slice(&[0, 4, 1, 18, 0, 0]);
+            }
+        }),
+    ),
+    (
+        "a slip of 70 refused",
+        Flaw::Answer(|turn| {
+            if turn.before.out.len() == 70 {
+                *turn.after = turn.before.clone();
+                *turn.answer = Answer {
+                    number: 18,
+                    length: 0,
+                    laid: 0,
+                };
+            }
+        }),
+    ),
+    // Table rules let pass.
+    (
+        "CURRENT without MOST RECENT let pass",
+        Flaw::Mend(|tables| {
+            for record in records(tables) {
+                used(record).for_each(|entry| entry[2] = entry[2].max(entry[1]));
+            }
+        }),
+    ),
+    (
+        "no MOST RECENT let pass",
+        Flaw::Mend(|tables| {
+            for record in records(tables) {
+                if used(record).all(|entry| entry[2] == 0) {
+                    used(record).take(1).for_each(|entry| entry[2] = 1);
+                }
+            }
+        }),
+    ),
+    (
+        "unused entries let pass",
+        Flaw::Mend(|tables| {
+            for record in records(tables).filter(|record| record[RECORD - 1] > 0) {
+                let n = used(record).count();
+                for entry in record[STATIONS + 3 * n..RECORD - 2].chunks_mut(3) {
+                    entry.copy_from_slice(&[NO_FRAME, 0, 0]);
+                }
+            }
+        }),
+    ),
+    (
+        "absent pages let pass",
+        Flaw::Mend(|tables| {
+            for record in records(tables).filter(|record| record[RECORD - 1] == 0) {
+                record.copy_from_slice(&Tables::fresh(0, 0).to_raw()[2..2 + RECORD]);
+            }
+        }),
+    ),
+    (
+        "an absent page's owner let pass",
+        Flaw::Mend(|tables| {
+            for record in records(tables).filter(|record| record[RECORD - 1] == 0) {
+                record[RECORD - 2] = 0;
+            }
+        }),
+    ),
+    (
+        "rights above 2 let pass",
+        Flaw::Mend(|tables| {
+            for record in records(tables) {
+                record[..STATIONS]
+                    .iter_mut()
+                    .for_each(|right| *right = (*right).min(2));
+            }
+        }),
+    ),
+    (
+        "an owner above 15 let pass",
+        Flaw::Mend(|tables| {
+            for record in records(tables) {
+                record[RECORD - 2] &= 15;
+            }
+        }),
+    ),
+    (
+        "n above 8 let pass",
+        Flaw::Mend(|tables| {
+            for record in records(tables) {
+                record[RECORD - 1] = record[RECORD - 1].min(8);
+            }
+        }),
+    ),
+    (
+        "a null copy with a mark let pass",
+        Flaw::Mend(|tables| {
+            for record in records(tables) {
+                for entry in used(record).filter(|entry| entry[0] == NO_FRAME) {
+                    entry[1] = 0;
+                }
+            }
+        }),
+    ),
+    // Runs, tallies, fresh tables.
+    (
+        "a cut end passed over",
+        Flaw::File(|file| {
+            let last = Reader::new(file).last().unwrap_or_default();
+            let cut = Call::decode(last) == Err(model::Refusal::CutShort);
+            file.len() - if cut { last.len() } else { 0 }
+        }),
+    ),
+    (
+        "a tally that wraps",
+        Flaw::Tally(|tally, answer| {
+            tally[0] = tally[0].wrapping_add(1);
+            tally[1] = tally[1].wrapping_add((answer.number != 0).into());
+            tally[2] = tally[2].wrapping_add(answer.laid as u32);
+        }),
+    ),
+    (
+        "short slips not counted",
+        Flaw::Tally(|tally, answer| {
+            if answer.number != 18 {
+                tally[0] = tally[0].saturating_add(1);
+                tally[1] = tally[1].saturating_add((answer.number != 0).into());
+                tally[2] = tally[2].saturating_add(answer.laid as u32);
+            }
+        }),
+    ),
+    (
+        "a tally stopped one by one, bytes laid all or nothing",
+        Flaw::Tally(|tally, answer| {
+            tally[0] = tally[0].saturating_add(1);
+            tally[1] = tally[1].saturating_add((answer.number != 0).into());
+            tally[2] = tally[2].checked_add(answer.laid as u32).unwrap_or(tally[2]);
+        }),
+    ),
+    ("too many frames accepted", Flaw::Fresh(|_| 0)),
+    (
+        "too many frames cut to 127",
+        Flaw::Fresh(|tables| {
+            tables[..2].fill(127);
+            19
+        }),
+    ),
+];
+
+const SEED: u64 = 1;
+const MESSAGES: u64 = 200_000;
+
+#[test]
+fn the_model_passes() {
+    let counts = compare(&Modelled, SEED, MESSAGES).expect("no difference");
+    assert!(counts.too_few().is_empty(), "{:?}", counts.too_few());
+}
+
+/// For each mutant whether a check caught it.
+fn caught(check: impl Fn(&Mutant) -> Result<(), String> + Sync) -> Vec<(&'static str, bool)> {
+    let check = &check;
+    std::thread::scope(|scope| {
+        let checks =
+            MUTANTS.map(|(name, flaw)| (name, scope.spawn(move || check(&Mutant(flaw)).is_err())));
+        let joined = checks.map(|(name, check)| (name, check.join().expect("a check")));
+        joined.to_vec()
+    })
+}
+
+#[test]
+fn every_mutant_is_caught() {
+    let caught = caught(|mutant| compare(mutant, SEED, MESSAGES).map(drop));
+    let missed = caught.iter().filter(|(_, caught)| !caught);
+    assert_eq!(missed.collect::<Vec<_>>(), Vec::<&(&str, bool)>::new());
+}
+
+/// Runs from fresh tables on which demand 3 alone looks.
+fn demand3(kernel: &dyn Kernel) -> Result<(), String> {
+    let mut rng = Rng::new(SEED);
+    for _ in 0..100 {
+        let mut lent = gen::fresh(&mut rng);
+        let mut demand3 = Demand3::start();
+        let mut moves = Moves::new(&mut rng);
+        for _ in 0..300 {
+            let tables = Tables::from_raw(&lent.tables).ok_or("broken tables")?;
+            let message = moves.next(&mut rng, &tables, &lent, false);
+            let length = kernel.answer(&mut lent, &message) as usize / 256 % 256;
+            demand3.turn(&tables, &message, &lent.out[..length])?;
+        }
+        let tables = Tables::from_raw(&lent.tables).ok_or("broken tables")?;
+        demand3.end(&tables, &lent.fast, &lent.slow)?;
+    }
+    Ok(())
+}
+
+#[test]
+fn demand_3_catches_what_breaks_it() {
+    demand3(&Modelled).expect("demand 3");
+    let caught = caught(|mutant| demand3(mutant));
+    for name in [
+        "one current copy of two written",
+        "a free frame's old bytes taken for zeros",
+        "nothing current before looking",
+        "refuses all",
+        "a constant reply",
+        "reads zeros where nothing is current",
+        "a grant of right 2 gives the page away",
+        "the owner's own right stays",
+        "right 1 cannot read",
+        "a read of 64 bytes refused",
+        "nothing current before no right",
+    ] {
+        assert!(caught.contains(&(name, true)), "{name}");
+    }
+}
