@@ -9,11 +9,13 @@ use lib.Seq.{drop-drop}
 use Rattle.embed.specs.Bytes.{fromEach}
 
 module _ {A : Type 0} (size : ℕ) (from : List ℕ → A) where
+  -- how many
   pub each-length : (k : ℕ) (b : List ℕ) → length (fromEach k size from b) ≡ k
   unfolding fromEach
   each-length zero b = refl
   each-length (suc k) b = ap suc (each-length k (drop size b))
 
+  -- the one at i
   pub each-at : (k i : ℕ) (b : List ℕ) (d : A) → i < k → getD (fromEach k size from b) i d ≡ from (drop (size * i) b)
   unfolding fromEach
   each-at zero i b d h = absurd (not-suc-le-zero h)

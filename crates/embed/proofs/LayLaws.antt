@@ -10,7 +10,8 @@ use lib.Seq.{sets, sets-eq}
 
 module _ {A : Type 0} where
   -- a second list right behind the first
-  pub sets-then : (l : List A) (i : ℕ) (xs : List A) (k : ℕ) (ys : List A) → k ≡ i + length xs → sets (sets l i xs) k ys ≡ sets l i (xs ++ ys)
+  pub sets-then : (l : List A) (i : ℕ) (xs : List A) (k : ℕ) (ys : List A) → k ≡ i + length xs
+      → sets (sets l i xs) k ys ≡ sets l i (xs ++ ys)
   sets-then l i [] k ys e = let z : k ≡ i = omega arith in rw z
   sets-then l i (x ∷ xs) k ys e = sets-then _ (suc i) xs k ys (omega arith)
 
@@ -29,4 +30,6 @@ module _ {A B : Type 0} (f : A → List B) where
       go : (l : List A) (i : ℕ) → i < length l → flatMap f (take (suc i) l) ≡ flatMap f (take i l) ++ f (getD l i d)
       go [] i h = absurd (not-suc-le-zero h)
       go (x ∷ xs) zero h = append-nil (f x)
-      go (x ∷ xs) (suc i) h = ap (λ (r : List B). f x ++ r) (go xs i (le-of-suc-le-suc h)) ∙ sym (append-assoc (f x) (flatMap f (take i xs)) (f (getD xs i d)))
+      go (x ∷ xs) (suc i) h =
+          ap (λ (r : List B). f x ++ r) (go xs i (le-of-suc-le-suc h))
+          ∙ sym (append-assoc (f x) (flatMap f (take i xs)) (f (getD xs i d)))

@@ -27,6 +27,7 @@ pub record Kept {A : Type 0} (size : ℕ) (to : A → List ℕ) (from : List ℕ
   pub back : (rest : List ℕ) → from (to x ++ rest) ≡ x
 
 module _ {A : Type 0} (size : ℕ) (to : A → List ℕ) (from : List ℕ → A) (d : A) where
+  -- their length
   pub row-length : (l : List A) → ((i : ℕ) → i < length l → Kept size to from (getD l i d)) → length (flatMap to l) ≡ size * length l
   unfolding flatMap
   row-length [] k = sym (mul-zero size)
@@ -34,7 +35,9 @@ module _ {A : Type 0} (size : ℕ) (to : A → List ℕ) (from : List ℕ → A)
       rw (length-append (to x) (flatMap to xs), k zero (suc-le-suc zero-le) .long, row-length xs (λ i h. k (suc i) (suc-le-suc h)), mul-suc)
       (omega arith)
 
-  pub row-back : (l : List A) (rest : List ℕ) → ((i : ℕ) → i < length l → Kept size to from (getD l i d)) → fromEach (length l) size from (flatMap to l ++ rest) ≡ l
+  -- read back, whatever follows
+  pub row-back : (l : List A) (rest : List ℕ) → ((i : ℕ) → i < length l → Kept size to from (getD l i d))
+      → fromEach (length l) size from (flatMap to l ++ rest) ≡ l
   unfolding flatMap fromEach
   row-back [] rest k = refl
   row-back (x ∷ xs) rest k =
@@ -73,8 +76,11 @@ module _ (g : Page) (rights-long : length (g .rights) ≡ 16) (copies-long : len
       let cs = flatMap copyBytes (g .copies) in
       let end = g .owner ∷ g .n ∷ rest in
       let e : pageBytes g ++ rest ≡ g .rights ++ (cs ++ end) = simp append-assoc in
-      let copies : fromEach 8 3 copyFrom (cs ++ end) ≡ g .copies = rw copies-long at (row-back 3 copyBytes copyFrom noCopyEntry (g .copies) end (λ i h. copy-kept _)) in
-      rw (e, take-at (g .rights) (cs ++ end) 16 rights-long, drop-at (g .rights) (cs ++ end) 16 rights-long, copies, behind end 0, behind end 1)
+      let back = row-back 3 copyBytes copyFrom noCopyEntry (g .copies) end (λ i h. copy-kept _) in
+      let copies : fromEach 8 3 copyFrom (cs ++ end) ≡ g .copies = rw copies-long at back in
+      let r = take-at (g .rights) (cs ++ end) 16 rights-long in
+      let d = drop-at (g .rights) (cs ++ end) 16 rights-long in
+      rw (e, r, d, copies, behind end 0, behind end 1)
 
 page-kept : (g : Page) → shaped g ≡ true → Kept 42 pageBytes pageFrom g
 page-kept g e =
@@ -107,5 +113,6 @@ sound-shaped t e =
     let s = sound-of t e in
     all-of shaped (t .pages) noPageRecord (λ p h. rule-shaped (frames t) (pageAt t p) (s .page-ok p (rw (s .pages-long) at h)))
 
+-- so they are what their bytes give back
 pub sound-from-bytes : (t : Tables) → sound t ≡ true → tablesFrom (tablesBytes t) ≡ t
 sound-from-bytes t e = from-bytes t (sound-of t e .pages-long) (sound-shaped t e)

@@ -9,7 +9,7 @@ use Rattle.tables.specs.declared.Tables.{Tables}
 use Rattle.tables.specs.Numbers.{brokenTables}
 use Rattle.tables.specs.Model.{freshTables, made}
 use Rattle.steps.specs.Stores.{over}
-use Rattle.steps.specs.Steps.{Outcome, State, left, numberOf, laidBy}
+use Rattle.steps.specs.Steps.{Outcome, refuse, accept, State, left, numberOf, laidBy}
 use Rattle.steps.specs.Promises.{stateOf}
 use Rattle.messages.specs.declared.Tally.{Tally}
 use Rattle.messages.specs.Replies.{replyIn}
@@ -68,15 +68,19 @@ withTally l n = cond (tallySized l) (n .messages ∷ n .refusals ∷ n .laid ∷
 abbrev pub lentState : List ℕ → List ℕ → List ℕ → State
 lentState b fast slow = stateOf (tablesOf b) fast slow
 
--- the number, the length of the reply and the bytes laid, in one
+-- lent bytes after a message that comes to o: a refusal leaves every byte as it was
+abbrev pub leftIn : List ℕ → Outcome State → List ℕ
+leftIn b (refuse n) = b
+leftIn b (accept s laid bs) = withTables b (s .tables)
 
+-- the number, the length of the reply and the bytes laid, in one
 abbrev pub packed : ℕ → ℕ → ℕ → ℕ
 packed number len laid = number + 256 * len + 65536 * laid
 
 -- what `reel_answer` leaves of a message on state s that comes to o
 pub record AnswerLent (b : List ℕ) (s : State) (o : Outcome State) (out b′ fast′ slow′ out′ : List ℕ) (r : ℕ) : Type 0 where
   pub told : r ≡ packed (numberOf o) (length (replyIn (length out) o)) (laidBy o)
-  pub tables-out : b′ ≡ withTables b (left s o .tables)
+  pub tables-out : b′ ≡ leftIn b o
   pub fast-out : fast′ ≡ left s o .fast
   pub slow-out : slow′ ≡ left s o .slow
   pub reply-out : out′ ≡ over (replyIn (length out) o) out

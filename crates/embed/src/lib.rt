@@ -4,21 +4,23 @@
 use messages::Tally;
 use messages::answer;
 use messages::run;
+use steps::ACCEPTED;
+use steps::BROKEN_TABLES;
 use tables::Copy;
 use tables::Page;
 use tables::Tables;
 ghost use mathlib.Core.Path.{_≡_};
+ghost use mathlib.Core.Bool.{cond};
 ghost use mathlib.Core.List.{flatMap};
 ghost use Prim.Native.Nat.{_+_, _≤_, _<_};
 ghost use lib.ListN.{length, take, drop};
 ghost use lib.Seq.{sets};
+ghost use lib.Dec.{eqb};
+ghost use Rattle.tables.specs.Numbers.{accepted};
 ghost use Rattle.messages.specs.Run.{turn, run};
 ghost use Rattle.messages.specs.Promises.{sentAlone};
 ghost use Rattle.embed.specs.Bytes.{markByte, copyBytes, pageBytes, tablesBytes, fromEach, copyFrom, pageFrom, tablesFrom};
 ghost use Rattle.embed.specs.Exports.{noTables, tablesOf, withTables, freshInto, tallyOf, withTally, packed, lentState, AnswerLent, RunLent};
-
-// Number 5 of document 01's table.
-const BROKEN_TABLES: u8 = 5;
 
 // How many bytes the tables take.
 const TABLES_SIZE: usize = 2690;
@@ -194,6 +196,15 @@ fn put_back(tables: Tables, bytes: &mut [u8])
     }
 }
 
+// A refusal leaves every byte as it was, also a mark that is neither 0 nor 1.
+fn put_accepted(number: u8, tables: Tables, bytes: &mut [u8])
+    ensures { λ _. ⌜ now (bytes .exit) ≡ cond (eqb number accepted) (withTables (now (bytes .entry)) tables) (now (bytes .entry)) ⌝ }
+{
+    if number == ACCEPTED {
+        put_back(tables, bytes);
+    }
+}
+
 fn tally_of(numbers: &[u32]) -> Tally
     ensures { λ r. ⌜ r ≡ tallyOf (now (numbers .entry)) ⌝ }
 {
@@ -245,7 +256,8 @@ pub extern "C" fn reel_fresh(fast: u8, slow: u8, tables: &mut [u8]) -> u8
     made.number
 }
 
-// Answers one message, its length first. Tables of another length are left alone, as broken ones.
+// Answers one message, its length first: the number, 256 times the length of the reply and 65536
+// times the bytes laid, in one. Tables of another length are broken ones, and are left alone.
 #[no_mangle]
 pub extern "C" fn reel_answer(
     tables: &mut [u8],
@@ -255,17 +267,18 @@ pub extern "C" fn reel_answer(
     out: &mut [u8],
 ) -> u32
     ensures { λ r. ⌜ AnswerLent (now (tables .entry)) (lentState (now (tables .entry)) (now (fast .entry)) (now (slow .entry)))
-        (turn (length (now (out .entry))) (lentState (now (tables .entry)) (now (fast .entry)) (now (slow .entry))) (sentAlone (now (message .entry))))
+        (turn (length (now (out .entry))) (lentState (now (tables .entry)) (now (fast .entry)) (now (slow .entry)))
+        (sentAlone (now (message .entry))))
         (now (out .entry)) (now (tables .exit)) (now (fast .exit)) (now (slow .exit)) (now (out .exit)) r ⌝ }
 {
     let before = tables_of(&tables[..]);
     let a = answer(before, fast, slow, message, out);
-    put_back(a.tables, tables);
+    put_accepted(a.number, a.tables, tables);
     packed(a.number, a.len, a.laid)
 }
 
-// Runs a call file, and counts its messages on in a tally of three numbers: messages, refusals and
-// bytes laid. Tables of another length are left alone, as broken ones, and so is such a tally.
+// Runs a call file, and counts on in a tally of three numbers: messages, refusals and bytes laid.
+// Tables of another length are broken ones, and are left alone; so is a tally of another length.
 #[no_mangle]
 pub extern "C" fn reel_run(
     tables: &mut [u8],

@@ -17,7 +17,7 @@ use Rattle.tables.specs.declared.Tables.{Tables}
 use Rattle.tables.specs.declared.Change.{Change}
 use Rattle.tables.specs.declared.Change.the-variants.{Kept, Created, Deleted, Granted, Staled, Placed, Added, Removed, Marked}
 use Rattle.tables.specs.Lists.{all, count}
-use Rattle.tables.specs.Model.{frames, inUse, freshCopy, freshPage, noCopyEntry, noPageRecord, pageAt}
+use Rattle.tables.specs.Model.{inUse, freshCopy, freshPage, noCopyEntry, noPageRecord, pageAt}
 use Rattle.tables.specs.Changes.{created, withCopies, staleCopy, newCopy, closeGap, markedCopy, changed, after}
 use Rattle.tables.proofs.GapLaws.{gap-length}
 use Rattle.tables.proofs.ListLaws.{and-left, and-right, and-intro}
@@ -206,13 +206,3 @@ module _ (t : Tables) (p : ℕ) (c : Change) where
   pub after-other : (q : ℕ) → q ≢ p → pageAt (after t p c) q ≡ pageAt t q
   unfolding after
   after-other q d = getD-set-other (t .pages) p q (changed (pageAt t p) c) noPageRecord d
-
-  -- as many pages
-  pub after-long : length (after t p c .pages) ≡ length (t .pages)
-  unfolding after
-  after-long = length-set (t .pages) p (changed (pageAt t p) c)
-
-  -- and as many frames
-  pub after-frames : frames (after t p c) ≡ frames t
-  unfolding after
-  after-frames = refl

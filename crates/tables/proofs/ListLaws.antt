@@ -86,10 +86,6 @@ module _ {A : Type 0} (f : A → Bool) where
   pub all-cut : (n : ℕ) (l : List A) → all f l ≡ (all f (take n l) && all f (drop n l))
   all-cut n l = ap (all f) (sym (take-append-drop n l)) ∙ all-append (take n l) (drop n l)
 
-  -- of the first n elements
-  pub all-take : (n : ℕ) (l : List A) → all f l ≡ true → all f (take n l) ≡ true
-  all-take n l e = and-left (all f (take n l)) (all f (drop n l)) (sym (all-cut n l) ∙ e)
-
   -- of the elements from n on
   pub all-drop : (n : ℕ) (l : List A) → all f l ≡ true → all f (drop n l) ≡ true
   all-drop n l e = and-right (all f (take n l)) (all f (drop n l)) (sym (all-cut n l) ∙ e)

@@ -1,13 +1,11 @@
 -- A loop that goes through a list: at index j what is left is `drop j` of it.
-use Prim.Native.Nat.{ℕ, _+_, _≤_, _<_, min}
-use mathlib.Core.Path.{_≡_, sym, ap, _∙_}
+use Prim.Native.Nat.{ℕ, _+_, _≤_, _<_}
+use mathlib.Core.Path.{_≡_, ap, _∙_}
 use mathlib.Core.List.{List, [], _∷_}
 use native.Mathlib.Numerals.{add-one}
 use native.Mathlib.Omega.{arith}
-use native.Mathlib.Decide.{decLe}
-use native.Mathlib.Nat.{min-eq-left, min-eq-right}
 use lib.ListN.{length, getD, take, drop, length-take, drop-of-length-le}
-use lib.Seq.{drop-cons, getD-take, take-all}
+use lib.Seq.{drop-cons, getD-take}
 
 module _ {A : Type 0} where
   -- one element more
@@ -25,13 +23,3 @@ module _ {A : Type 0} where
 
   pub first-end : (n : ℕ) (l : List A) (j : ℕ) → n ≤ j → drop j (take n l) ≡ []
   first-end n l j h = drop-end (take n l) j (simp length-take (omega arith))
-
-  -- no more elements than there are
-  pub take-min : (n m : ℕ) (l : List A) → length l ≡ m → take n l ≡ take (min n m) l
-  take-min n m l e = go (decLe n m)
-    where
-      go : Dec (n ≤ m) → take n l ≡ take (min n m) l
-      go (yes h) = rw (min-eq-left h)
-      go (no h) =
-          let k : m ≤ n = omega arith in
-          rw (min-eq-right k) (take-all n l (omega arith) ∙ sym (take-all m l (omega arith)))

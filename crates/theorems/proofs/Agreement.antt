@@ -24,7 +24,7 @@ use Rattle.steps.specs.Calls.{pageOf, frameOf}
 use Rattle.steps.specs.Stores.{block}
 use Rattle.steps.specs.Steps.{Outcome, refuse, accept, test, mapped, Effect, keeping, ranged, State, applied, left}
 use Rattle.messages.specs.Replies.{reply}
-use Rattle.theorems.specs.Flat.{Flat, FlatPage, Slot, gone, here, slotAt, Reaction, over, no, yes, unless, onPage, react, flatLeft, answersOf, accepts}
+use Rattle.theorems.specs.Flat.{Flat, FlatPage, Slot, gone, here, slotAt, Reaction, silent, no, yes, unless, onPage, react, flatLeft, answersOf, accepts}
 use Rattle.theorems.specs.Demand3.{Holds, numberIn, taken, flatKind, lacks}
 use Rattle.steps.proofs.StepSound.{Good, joined, page-stands}
 use Rattle.theorems.proofs.Holding.{holds-kept}
@@ -54,8 +54,8 @@ pub record Inv (s : State) (f : Flat) : Type 0 where
 -- P says of what is left, and of the flat memory after it, that they agree. The flat memory is f before the call.
 -- The first index: the flat memory answers calls of this kind. The second: the call is a read or write of a page with no CURRENT copy.
 pub data Agree {A : Type 0} (P : A → Flat → Type 0) (f : Flat) : Bool → Bool → Outcome A → Reaction → Type 0 where
-  passed-over : {a : A} {laid : ℕ} {bs : List ℕ} → P a f → Agree P f false false (accept a laid bs) over
-  turned-back : {n : ℕ} → eqb n nothingCurrent ≡ false → Agree P f false false (refuse n) over
+  passed-over : {a : A} {laid : ℕ} {bs : List ℕ} → P a f → Agree P f false false (accept a laid bs) silent
+  turned-back : {n : ℕ} → eqb n nothingCurrent ≡ false → Agree P f false false (refuse n) silent
   both-accept : {a : A} {laid : ℕ} {bs : List ℕ} {f′ : Flat} → P a f′ → Agree P f true false (accept a laid bs) (yes f′ bs)
   both-refuse : {n : ℕ} {lack : Bool} → eqb n nothingCurrent ≡ false → Agree P f true lack (refuse n) (no n)
   kept-back : {f′ : Flat} {bs : List ℕ} → Agree P f true true (refuse nothingCurrent) (yes f′ bs)
@@ -83,7 +83,7 @@ module _ {A : Type 0} {P : A → Flat → Type 0} {f : Flat} where
 
   -- a test in a call that the flat memory passes over
   pub alone : {o : Outcome A} (b : Bool) (n : ℕ) → eqb n nothingCurrent ≡ false
-      → (b ≡ false → Agree P f false false o over) → Agree P f false false (test b n o) over
+      → (b ≡ false → Agree P f false false o silent) → Agree P f false false (test b n o) silent
   alone true n e k = turned-back e
   alone false n e k = k refl
 

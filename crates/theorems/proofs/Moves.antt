@@ -28,7 +28,7 @@ use Rattle.tables.proofs.PageChanges.{removed-ok}
 use Rattle.steps.specs.declared.Call.the-variants.{MakeCopy, DeleteCopy, SetCurrent, RemoveCurrent, LookPage, LookFrame}
 use Rattle.steps.specs.Stores.{lay, held}
 use Rattle.steps.specs.Steps.{Outcome, Effect, keeping, numbered, copyAt, recents, copied, perform, State, applied}
-use Rattle.theorems.specs.Flat.{Flat, Slot, gone, here, slotAt, over, react}
+use Rattle.theorems.specs.Flat.{Flat, Slot, gone, here, slotAt, silent, react}
 use Rattle.theorems.specs.Demand3.{Holds}
 use Rattle.steps.proofs.Blocks.{block-lay-whole, block-lay-other}
 use Rattle.steps.proofs.RangeLaws.{page-near}
@@ -109,7 +109,7 @@ module _ {limit : ℕ} (small : limit < 255) {g : Page} (d : StandingPage limit 
 
 -- 9 and 12
 alone-numbered : {P : Effect → Flat → Type 0} {f : Flat} {o : Outcome Effect} (g : Page) (k : ℕ)
-    → (absent g ≡ false → k < g .n → Agree P f false false o over) → Agree P f false false (numbered g k o) over
+    → (absent g ≡ false → k < g .n → Agree P f false false o silent) → Agree P f false false (numbered g k o) silent
 alone-numbered g k h =
     alone (absent g) noPage refl (λ some. alone (leb (g .n) k) noCopy refl (λ less. h some (leb-false (g .n) k less)))
 

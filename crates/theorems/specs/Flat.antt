@@ -31,7 +31,7 @@ none = replicate 64 gone
 
 -- "It passes over ..", or "Its answer .. is a number, and for an accepted read the bytes"
 pub data Reaction : Type 0 where
-  over : Reaction
+  silent : Reaction
   no : ℕ → Reaction
   yes : Flat → List ℕ → Reaction
 
@@ -77,21 +77,21 @@ react f (Write s p o) bs =
       rights = g .rights;
       bytes = take o (g .bytes) ++ (bs ++ drop (o + length bs) (g .bytes));
     }))) [])))
-react f (MakeCopy p k x) bs = over
-react f (DeleteCopy p k) bs = over
-react f (SetCurrent p k) bs = over
-react f (RemoveCurrent p k) bs = over
-react f (LookPage p) bs = over
-react f (LookFrame x) bs = over
+react f (MakeCopy p k x) bs = silent
+react f (DeleteCopy p k) bs = silent
+react f (SetCurrent p k) bs = silent
+react f (RemoveCurrent p k) bs = silent
+react f (LookPage p) bs = silent
+react f (LookFrame x) bs = silent
 
 -- "It passes over kinds 6 to 11 and every message that by its own bytes falls under 1 to 4"
 unfoldable pub reactTo : Flat → Parsed → List ℕ → Reaction
-reactTo f (Refused n) bs = over
+reactTo f (Refused n) bs = silent
 reactTo f (Asked c) bs = react f c bs
 
 -- "a refusal changes nothing"
 abbrev pub flatLeft : Flat → Reaction → Flat
-flatLeft f over = f
+flatLeft f silent = f
 flatLeft f (no n) = f
 flatLeft f (yes f′ bs) = f′
 
@@ -101,11 +101,11 @@ pub record Answer : Type 0 where
   pub bytes : List ℕ
 
 abbrev pub answersOf : Reaction → List Answer
-answersOf over = []
+answersOf silent = []
 answersOf (no n) = record { number = n; bytes = [] } ∷ []
 answersOf (yes f bs) = record { number = 0; bytes = bs } ∷ []
 
 abbrev pub accepts : Reaction → Bool
-accepts over = false
+accepts silent = false
 accepts (no n) = false
 accepts (yes f bs) = true

@@ -14,7 +14,8 @@ use Rattle.embed.proofs.put_copies.Tie as tie
 
 abbrev Inv-loop : tie.InvT-loop
 Inv-loop bytes₀ at copies i₀ bytes i =
-    (i ≤ 8) × (length bytes ≡ length bytes₀) × (bytes ≡ sets bytes₀ at (flatMap copyBytes (take i copies))) × (length (flatMap copyBytes (take i copies)) ≡ 3 * i)
+    (i ≤ 8) × (length bytes ≡ length bytes₀) × (bytes ≡ sets bytes₀ at (flatMap copyBytes (take i copies)))
+    × (length (flatMap copyBytes (take i copies)) ≡ 3 * i)
 
 abbrev μ-loop : tie.MeasureT-loop
 μ-loop bytes₀ at copies i₀ bytes i = 8 - i

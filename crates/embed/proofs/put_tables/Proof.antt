@@ -14,7 +14,8 @@ use Rattle.embed.proofs.put_tables.Tie as tie
 
 abbrev Inv-loop : tie.InvT-loop
 Inv-loop bytes₀ tables i₀ bytes i =
-    (i ≤ 64) × (length bytes ≡ 2690) × (bytes ≡ sets bytes₀ 2 (flatMap pageBytes (take i (tables .pages)))) × (length (flatMap pageBytes (take i (tables .pages))) ≡ 42 * i)
+    (i ≤ 64) × (length bytes ≡ 2690) × (bytes ≡ sets bytes₀ 2 (flatMap pageBytes (take i (tables .pages))))
+    × (length (flatMap pageBytes (take i (tables .pages))) ≡ 42 * i)
 
 abbrev μ-loop : tie.MeasureT-loop
 μ-loop bytes₀ tables i₀ bytes i = 64 - i

@@ -1,10 +1,14 @@
--- `reel_answer` answers on the tables in the lent bytes, and puts them back.
+-- `reel_answer` answers on the tables in the lent bytes, and puts them back where it accepts.
 use mathlib.Core.Path.{_∙_}
 use native.Mathlib.Omega.{arith}
 use lib.ListN.{length}
 use borrow.Author.Needs.{needs}
 use Rattle.steps.specs.Promises.{stateOf}
 use Rattle.messages.specs.Promises.{sentAlone}
+use Rattle.messages.specs.Run.{turn}
+use Rattle.embed.specs.Exports.{lentState}
+use Rattle.messages.proofs.RunLaws.{turn-told}
+use Rattle.embed.proofs.LentLaws.{left-in}
 use Rattle.messages.proofs.ReplyShort.{reply-short}
 use Rattle.embed.proofs.reel_answer.Statement.{statement}
 use Rattle.embed.proofs.reel_answer.Tie as tie
@@ -15,15 +19,16 @@ tables-of-requires c κs = search needs
 answer-requires : tie.Need-answer-requires
 answer-requires c κs = search needs
 
-put-back-requires : tie.Need-put-back-requires
-put-back-requires c κs = search needs
+put-accepted-requires : tie.Need-put-accepted-requires
+put-accepted-requires c κs = search needs
 
 packed-requires : tie.Need-packed-requires
 packed-requires c κs =
     let d = c .before .before .before .before .before .before .before .before .before .before in
     let a = d .before .before .before .before .before .before .before .before .before .before .before .args in
     let t = d .before .before .before .before .tables-of .result in
-    omega (arith, d .answer .ensures .len-told, reply-short (length (a .out .now)) (stateOf t (a .fast .now) (a .slow .now)) (sentAlone (a .message .now)))
+    let s = stateOf t (a .fast .now) (a .slow .now) in
+    omega (arith, d .answer .ensures .len-told, reply-short (length (a .out .now)) s (sentAlone (a .message .now)))
 
 same-length : tie.Need-same-length
 same-length c = search needs
@@ -40,10 +45,15 @@ same-length-4 c = search needs
 returns : tie.Need-returns
 returns c =
     let d = c .before .before .before .before .before .before .before .before .before .before .before in
+    let a = d .before .before .before .before .before .before .before .before .before .before .before .args in
     let q = rw (d .before .before .before .before .tables-of .ensures) at (d .answer .ensures) in
+    let room = length (a .out .now) in
+    let s = lentState (a .tables .now) (a .fast .now) (a .slow .now) in
+    let x = sentAlone (a .message .now) in
     record {
       told = c .packed .ensures ∙ rw (q .number-told, q .len-told, q .laid-told);
-      tables-out = c .before .before .before .put-back .ensures ∙ rw (q .tables-out);
+      tables-out = c .before .before .before .put-accepted .ensures
+          ∙ rw (q .number-told, q .tables-out) (left-in (a .tables .now) s (turn room s x) (turn-told room s x));
       fast-out = q .fast-out;
       slow-out = q .slow-out;
       reply-out = q .reply-out;
@@ -55,7 +65,7 @@ reel-answer-spec =
     (tie.spec
     tables-of-requires
     answer-requires
-    put-back-requires
+    put-accepted-requires
     packed-requires
     same-length
     same-length-2

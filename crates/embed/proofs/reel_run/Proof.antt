@@ -37,7 +37,8 @@ same-length-5 c = search needs
 returns : tie.Need-returns
 returns c =
     let d = c .before .before .before .before .before .before .before .before .before .before .before .before .before .before in
-    let q = rw (d .before .before .before .before .before .before .tables-of .ensures, d .before .before .before .before .tally-of .ensures) at (d .run .ensures) in
+    let n = d .before .before .before .before in
+    let q = rw (n .before .before .tables-of .ensures, n .tally-of .ensures) at (d .run .ensures) in
     record {
       tables-out = c .before .before .before .before .before .before .put-back .ensures ∙ rw (q .tables-out);
       fast-out = q .fast-out;
