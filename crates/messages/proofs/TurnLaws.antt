@@ -20,7 +20,8 @@ use Rattle.tables.specs.Numbers.{accepted, brokenTables, misfitStore, shortSlip
 use Rattle.tables.specs.Model.{frames, pageAt, withPage}
 use Rattle.tables.specs.Rules.{sound}
 use Rattle.tables.specs.Search.{holderOf}
-use Rattle.tables.specs.Changes.{changed, unchanged, after}
+use Rattle.tables.specs.Changes.{changed, after}
+use Rattle.tables.specs.Keep.{unchanged}
 use Rattle.tables.proofs.RuleLaws.{sound-of}
 use Rattle.tables.proofs.KeepLaws.{unchanged-after}
 use Rattle.steps.specs.declared.Call.{Call}

@@ -1,6 +1,6 @@
 -- Document 01, "The steps": what a call names, and number 7.
 use Prim.Native.Nat.{ℕ, _+_}
-use mathlib.Core.Bool.{Bool, true, false, not, _&&_, _||_}
+use mathlib.Core.Bool.{Bool, false, _||_}
 use lib.Dec.{leb, ltb, eqb}
 use Rattle.steps.specs.declared.Call.{Call}
 use Rattle.steps.specs.declared.Call.the-variants.{Create, DeletePage, Grant, Read, Write, MakeCopy, DeleteCopy, SetCurrent, RemoveCurrent, LookPage, LookFrame}
@@ -33,7 +33,7 @@ frameOf (RemoveCurrent p c) = 0
 frameOf (LookPage p) = 0
 frameOf (LookFrame f) = f
 
--- "out of range: station, page, right .. too large"
+-- 7: "station, page, right .. too large"
 abbrev pub nameOutside : Call → Bool
 nameOutside (Create s p) = ltb 15 s || ltb 63 p
 nameOutside (DeletePage s p) = ltb 15 s || ltb 63 p

@@ -1,9 +1,9 @@
 -- Document 01, "The steps": what each does to its page's record and to the stores, what it lays and what it replies.
-use Prim.Native.Nat.{ℕ, _+_, _*_}
-use mathlib.Core.Bool.{Bool, true, false, not, _&&_, _||_, cond}
+use Prim.Native.Nat.{ℕ, _*_}
+use mathlib.Core.Bool.{Bool, true, false, not, _&&_, cond}
 use mathlib.Core.List.{List, [], _∷_, _++_}
 use lib.ListN.{length, take, drop, getD}
-use lib.Dec.{leb, ltb, eqb}
+use lib.Dec.{leb, eqb}
 use Rattle.tables.specs.declared.Copy.{Copy}
 use Rattle.tables.specs.declared.Page.{Page}
 use Rattle.tables.specs.declared.Tables.{Tables}
@@ -77,11 +77,11 @@ unfoldable pub firstCurrent : List Copy → ℕ
 firstCurrent [] = 255
 firstCurrent (c ∷ cs) = cond (c .current) (c .frame) (firstCurrent cs)
 
--- step 10: "n, then for each copy the frame (255 for null), CURRENT and MOST RECENT as 0 or 1"
 abbrev pub bit : Bool → ℕ
 bit true = 1
 bit false = 0
 
+-- step 10: "n, then for each copy the frame (255 for null), CURRENT and MOST RECENT as 0 or 1"
 unfoldable pub entries : List Copy → List ℕ
 entries [] = []
 entries (c ∷ cs) = c .frame ∷ bit (c .current) ∷ bit (c .recent) ∷ entries cs

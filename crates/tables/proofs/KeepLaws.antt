@@ -14,7 +14,8 @@ use Rattle.tables.specs.declared.Change.{Change}
 use Rattle.tables.specs.declared.Change.the-variants.{Kept, Created, Deleted, Granted, Staled, Placed, Added, Removed, Marked}
 use Rattle.tables.specs.Lists.{all}
 use Rattle.tables.specs.Model.{noCopyEntry, pageAt}
-use Rattle.tables.specs.Changes.{staleCopy, markedCopy, withCopies, staysRecent, agree, isMarked, changed, unchanged, after}
+use Rattle.tables.specs.Changes.{staleCopy, markedCopy, withCopies, changed, after}
+use Rattle.tables.specs.Keep.{staysRecent, agree, isMarked, unchanged}
 use Rattle.tables.proofs.ListLaws.{and-left, and-right}
 
 copy-stays : (c : Copy) → staysRecent c ≡ true → staleCopy c ≡ c

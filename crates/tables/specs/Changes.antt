@@ -1,15 +1,14 @@
 -- The changes that the steps of document 01 make to a page's record, and to the tables.
 use Prim.Native.Nat.{ℕ, zero, suc, _+_, _-_}
-use mathlib.Core.Bool.{Bool, true, false, not, _&&_, _||_, cond}
+use mathlib.Core.Bool.{Bool, true, false, _&&_, cond}
 use mathlib.Core.List.{List, [], _∷_, _++_, map}
-use lib.ListN.{length, replicate, getD, set}
-use lib.Dec.{ltb, leb}
+use lib.ListN.{replicate, getD, set}
+use lib.Dec.{ltb}
 use Rattle.tables.specs.declared.Copy.{Copy}
 use Rattle.tables.specs.declared.Page.{Page}
 use Rattle.tables.specs.declared.Tables.{Tables}
 use Rattle.tables.specs.declared.Change.{Change}
 use Rattle.tables.specs.declared.Change.the-variants.{Kept, Created, Deleted, Granted, Staled, Placed, Added, Removed, Marked}
-use Rattle.tables.specs.Lists.{all}
 use Rattle.tables.specs.Model.{freshCopy, freshPage, noCopyEntry, pageAt, withPage}
 
 -- step 1: "the page stands with one null copy; the station is owner with right 2, others 0". The null copy is recent
@@ -64,27 +63,6 @@ changed g (Placed frame) = withCopies g (g .n) (set (g .copies) 0 (newCopy frame
 changed g (Added frame recent) = withCopy g (newCopy frame recent)
 changed g (Removed k) = withCopies g (g .n - 1) (closeGap (g .copies) k)
 changed g (Marked k current) = withCopies g (g .n) (set (g .copies) k (markedCopy (getD (g .copies) k noCopyEntry) current))
-
--- Whether a change is seen at a glance to leave the record as it is; `unchanged-same` proves that it then does.
-abbrev pub staysRecent : Copy → Bool
-staysRecent c = c .current || not (c .recent)
-
-abbrev pub agree : Bool → Bool → Bool
-agree a b = (a && b) || (not a && not b)
-
-abbrev pub isMarked : List Copy → ℕ → Bool → Bool
-isMarked cs k current = leb (length cs) k || agree (getD cs k noCopyEntry .current) current
-
-unfoldable pub unchanged : Page → Change → Bool
-unchanged g Kept = true
-unchanged g (Created station) = false
-unchanged g Deleted = false
-unchanged g (Granted station right) = false
-unchanged g Staled = all staysRecent (g .copies)
-unchanged g (Placed frame) = false
-unchanged g (Added frame recent) = false
-unchanged g (Removed k) = false
-unchanged g (Marked k current) = isMarked (g .copies) k current
 
 -- "Each change of the tables takes them and gives back the new ones."
 unfoldable pub after : Tables → ℕ → Change → Tables

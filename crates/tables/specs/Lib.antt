@@ -4,4 +4,5 @@ pub mod Model
 pub mod Rules
 pub mod Search
 pub mod Changes
+pub mod Keep
 pub mod Scan

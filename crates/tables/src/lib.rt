@@ -10,7 +10,8 @@ ghost use Rattle.tables.specs.Lists.{all, count};
 ghost use Rattle.tables.specs.Model.{freshCopy, freshPage, made, noCopyEntry, inUse, withPage};
 ghost use Rattle.tables.specs.Rules.{isFresh, isRecent, copyRule, atMost, absentRule, sound, free};
 ghost use Rattle.tables.specs.Search.{holderOf, shown, isFree};
-ghost use Rattle.tables.specs.Changes.{created, staleCopy, newCopy, withCopy, withCopies, closeGap, markedCopy, changed, unchanged, staysRecent, isMarked, after};
+ghost use Rattle.tables.specs.Changes.{created, staleCopy, newCopy, withCopy, withCopies, closeGap, markedCopy, changed, after};
+ghost use Rattle.tables.specs.Keep.{unchanged, staysRecent, isMarked};
 ghost use Rattle.tables.specs.Scan.{mark, scanCopies, scanStanding, scanPage, MarksAdded};
 
 // Number 19 of document 01's table.

@@ -10,11 +10,11 @@ use Rattle.messages.specs.Run.{Sent, turn, leftBy}
 
 -- of one message x, on any tables and stores, with a reply buffer of `room` bytes
 pub record Answered (room : ℕ) (s : State) (x : Sent) : Type 0 where
-  -- "Any message .. is answered with 0 or a number of document 01's table"; 19 is for making tables
+  -- the number is 0 or one of the table; 19 is for making tables
   pub in-table : numberOf (turn room s x) ≤ 18
   -- "Tables and stores remain exactly as they were in every row."
   pub unchanged : (n : ℕ) → turn room s x ≡ refuse n → leftBy room s x ≡ s
-  -- "A refusal is 00 04 01 nn 00 00"; none "where the lent reply buffer is shorter than 70"
+  -- "A refusal is 00 04 01 nn 00 00"; none where the lent reply buffer is shorter than 70
   pub fixed : (n : ℕ) → turn room s x ≡ refuse n → replyIn room (turn room s x) ≡ cond (ltb room 70) [] (0 ∷ 4 ∷ 1 ∷ n ∷ 0 ∷ 0 ∷ [])
 
 abbrev pub Demand1 : Type 0

@@ -138,7 +138,9 @@ pub record Agrees (p s room : ℕ) (file : List ℕ) (r : Run) : Type 0 where
   pub answers : flatAnswers none (messagesOf file) (elevens room (r .turns)) ≡ runAnswers room (r .turns)
   -- 11 exactly where it is due
   pub elevens-due : elevens room (r .turns) ≡ dues room none (r .turns)
-  -- the stores keep their lengths, so that frame f is the f-th block of both together
+  -- P, S and the lengths of the stores stay, so that frame f is the f-th block of both together
+  pub fast-kept : r .final .tables .fast ≡ p
+  pub slow-kept : r .final .tables .slow ≡ s
   pub fast-long : length (r .final .fast) ≡ 64 * p
   pub slow-long : length (r .final .slow) ≡ 64 * s
   pub pages : (q : ℕ) → q < 64

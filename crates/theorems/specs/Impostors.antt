@@ -47,7 +47,7 @@ flatSide k = flatAnswers none (messagesOf file₁) (elevens 70 (worked-by k))
 abbrev pub runSide : Kernel → List Answer
 runSide k = runAnswers 70 (worked-by k)
 
--- ---- "says nothing current before looking": 11 for every read and write
+-- ---- says "nothing current" before looking: 11 for every read and write
 
 abbrev pub hasty : State → Sent → Parsed → Outcome State
 hasty s x (Refused n) = rightTurn s x
@@ -115,6 +115,12 @@ pub tired-replies : repliesBy tired
     ∷ (0 ∷ 4 ∷ 1 ∷ 0 ∷ 0 ∷ 0 ∷ []) ∷ (0 ∷ 4 ∷ 1 ∷ 0 ∷ 0 ∷ 0 ∷ []) ∷ [])
 unfolding turnsBy messagesOf split rightTurn
 tired-replies = refl
+
+-- its read has no bytes, and the flat memory's has three, as beside the constant reply
+pub tired-run : runSide tired
+    ≡ (record { number = 0; bytes = [] } ∷ record { number = 0; bytes = [] } ∷ record { number = 0; bytes = [] } ∷ [])
+unfolding turnsBy messagesOf split rightTurn runAnswers
+tired-run = refl
 
 -- ---- "drops moves": kinds 6 to 9 are acknowledged and not carried out
 

@@ -6,7 +6,7 @@ use native.Mathlib.Omega.{arith}
 use lib.ListN.{length, drop}
 use borrow.Author.Needs.{needs}
 use Rattle.tables.proofs.Loops.{drop-more, drop-end}
-use Rattle.tables.specs.Changes.{staysRecent}
+use Rattle.tables.specs.Keep.{staysRecent}
 use Rattle.tables.specs.Model.{noCopyEntry}
 use Rattle.tables.specs.Lists.{all}
 use Rattle.tables.proofs.all_stay_recent.Statement.{statement}

@@ -1,6 +1,6 @@
 -- `Page::keeps` answers what `unchanged` says, case by case.
 use borrow.Author.Needs.{needs}
-use Rattle.tables.specs.Changes.{unchanged}
+use Rattle.tables.specs.Keep.{unchanged}
 use Rattle.tables.proofs.Page.keeps.Statement.{statement}
 use Rattle.tables.proofs.Page.keeps.Tie as tie
 

@@ -1,0 +1,34 @@
+-- Where the code need not put a record back, since the change leaves it as it is.
+-- Nothing here has to be believed: `unchanged-same` proves that such a change does leave it.
+use Prim.Native.Nat.{ℕ}
+use mathlib.Core.Bool.{Bool, true, false, not, _&&_, _||_}
+use mathlib.Core.List.{List}
+use lib.ListN.{length, getD}
+use lib.Dec.{leb}
+use Rattle.tables.specs.declared.Copy.{Copy}
+use Rattle.tables.specs.declared.Page.{Page}
+use Rattle.tables.specs.declared.Change.{Change}
+use Rattle.tables.specs.declared.Change.the-variants.{Kept, Created, Deleted, Granted, Staled, Placed, Added, Removed, Marked}
+use Rattle.tables.specs.Lists.{all}
+use Rattle.tables.specs.Model.{noCopyEntry}
+
+abbrev pub staysRecent : Copy → Bool
+staysRecent c = c .current || not (c .recent)
+
+abbrev pub agree : Bool → Bool → Bool
+agree a b = (a && b) || (not a && not b)
+
+abbrev pub isMarked : List Copy → ℕ → Bool → Bool
+isMarked cs k current = leb (length cs) k || agree (getD cs k noCopyEntry .current) current
+
+-- whether the code may leave the record where it is
+unfoldable pub unchanged : Page → Change → Bool
+unchanged g Kept = true
+unchanged g (Created station) = false
+unchanged g Deleted = false
+unchanged g (Granted station right) = false
+unchanged g Staled = all staysRecent (g .copies)
+unchanged g (Placed frame) = false
+unchanged g (Added frame recent) = false
+unchanged g (Removed k) = false
+unchanged g (Marked k current) = isMarked (g .copies) k current
