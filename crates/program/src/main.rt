@@ -6,12 +6,22 @@ use messages::Next;
 use messages::answer;
 use messages::read_turn;
 use tables::Tables;
-ghost use Prim.Native.Nat.{_<_, _≤_};
+ghost use mathlib.Core.Path.{_≡_};
+ghost use Prim.Native.Nat.{_≤_};
 ghost use lib.ListN.{length};
+ghost use Rattle.tables.specs.Model.{freshTables};
+ghost use Rattle.steps.specs.Steps.{left};
+ghost use Rattle.steps.specs.Promises.{stateOf};
+ghost use Rattle.messages.specs.Run.{messagesOf, turn, endOf};
+ghost use Rattle.messages.specs.Promises.{sentAlone};
+ghost use Rattle.program.specs.Served.{firstTakes, Left};
 
 // Answers one message and writes the reply.
 fn reply(tables: Tables, message: &[u8], fast: &mut [u8], slow: &mut [u8], out: &mut [u8]) -> Tables
     requires { ⌜ 70 ≤ length (now out) ⌝ }
+    ensures { λ r. ⌜ Left (left (stateOf tables (now (fast .entry)) (now (slow .entry)))
+        (turn (length (now (out .entry))) (stateOf tables (now (fast .entry)) (now (slow .entry))) (sentAlone (now (message .entry)))))
+        r (now (fast .exit)) (now (slow .exit)) ⌝ }
 {
     let a = answer(tables, fast, slow, message, out);
     let len = a.len;
@@ -19,29 +29,32 @@ fn reply(tables: Tables, message: &[u8], fast: &mut [u8], slow: &mut [u8], out: 
     a.tables
 }
 
-// The place past the message at a place of the file: the end, where that message is cut short.
-fn after(file: &[u8], at: usize) -> usize
-    requires { ⌜ at < length (now file) ⌝ }
-    ensures { λ r. ⌜ (at < r) × (r ≤ length (now (file .entry))) ⌝ }
+// How many bytes the first message takes: all of them, where it is cut short.
+fn first_takes(rest: &[u8]) -> usize
+    ensures { λ r. ⌜ r ≡ firstTakes (now (rest .entry)) ⌝ }
 {
-    match read_turn(file, at) {
+    match read_turn(rest, 0) {
         Next::Message { next, .. } => next,
-        Next::Cut => file.len(),
-        Next::End => file.len(),
+        Next::Cut => rest.len(),
+        Next::End => rest.len(),
     }
 }
 
 // Answers the messages of the file, one after the other, from fresh tables.
-fn serve(file: &[u8], fast: &mut [u8], slow: &mut [u8], out: &mut [u8])
+fn serve(file: &[u8], fast: &mut [u8], slow: &mut [u8], out: &mut [u8]) -> Tables
     requires { ⌜ 70 ≤ length (now out) ⌝ }
+    ensures { λ r. ⌜ Left (endOf (length (now (out .entry))) (stateOf (freshTables 4 4) (now (fast .entry)) (now (slow .entry))) (messagesOf (now (file .entry))))
+        r (now (fast .exit)) (now (slow .exit)) ⌝ }
 {
     let made = Tables::fresh(4, 4);
     let mut tables = made.tables;
     let mut at = 0;
     while at < file.len() {
-        tables = reply(tables, &file[at..], fast, slow, out);
-        at = after(file, at);
+        let rest = &file[at..];
+        tables = reply(tables, rest, fast, slow, out);
+        at += first_takes(rest);
     }
+    tables
 }
 
 fn main() {
