@@ -178,7 +178,7 @@ fn no_tables() -> Tables
     t
 }
 
-fn tables_of(bytes: &[u8]) -> Tables
+pub fn tables_of(bytes: &[u8]) -> Tables
     ensures { λ r. ⌜ r ≡ tablesOf (now (bytes .entry)) ⌝ }
 {
     if bytes.len() == TABLES_SIZE {
@@ -188,7 +188,7 @@ fn tables_of(bytes: &[u8]) -> Tables
     }
 }
 
-fn put_back(tables: Tables, bytes: &mut [u8])
+pub fn put_back(tables: Tables, bytes: &mut [u8])
     ensures { λ _. ⌜ now (bytes .exit) ≡ withTables (now (bytes .entry)) tables ⌝ }
 {
     if bytes.len() == TABLES_SIZE {

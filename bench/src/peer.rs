@@ -1,0 +1,409 @@
+//! The plain Rust peer: the same kernel, unproved, its tables changed in place behind `&mut`.
+
+use std::hint::black_box;
+
+pub const NULL_FRAME: u8 = 255;
+
+#[derive(Clone, Copy)]
+pub struct Entry {
+    pub frame: u8,
+    pub current: bool,
+    pub recent: bool,
+}
+
+#[derive(Clone, Copy)]
+pub struct Page {
+    pub rights: [u8; 16],
+    pub copies: [Entry; 8],
+    pub owner: u8,
+    pub n: u8,
+}
+
+#[derive(Clone)]
+pub struct Tables {
+    pub fast: u8,
+    pub slow: u8,
+    pub pages: [Page; 64],
+}
+
+/// Messages, refusals and bytes laid.
+pub type Tally = [u32; 3];
+
+const FRESH: Entry = Entry {
+    frame: NULL_FRAME,
+    current: false,
+    recent: false,
+};
+
+const ABSENT: Page = Page {
+    rights: [0; 16],
+    copies: [FRESH; 8],
+    owner: 0,
+    n: 0,
+};
+
+impl Entry {
+    fn is_fresh(&self) -> bool {
+        self.frame == NULL_FRAME && !self.current && !self.recent
+    }
+}
+
+impl Page {
+    pub fn used(&self) -> &[Entry] {
+        &self.copies[..usize::from(self.n)]
+    }
+
+    fn sound(&self, limit: u8, seen: &mut [bool; 256]) -> bool {
+        if self.n == 0 {
+            return self.owner == 0
+                && self.rights.iter().all(|&r| r == 0)
+                && self.copies.iter().all(Entry::is_fresh);
+        }
+        if self.owner > 15 || self.n > 8 || self.rights.iter().any(|&r| r > 2) {
+            return false;
+        }
+        let mut recent = false;
+        for c in self.used() {
+            if c.current && !c.recent {
+                return false;
+            }
+            recent |= c.recent;
+            if c.frame == NULL_FRAME {
+                if self.n != 1 || !c.recent || c.current {
+                    return false;
+                }
+            } else {
+                if c.frame >= limit || seen[usize::from(c.frame)] {
+                    return false;
+                }
+                seen[usize::from(c.frame)] = true;
+            }
+        }
+        recent
+            && self.copies[usize::from(self.n)..]
+                .iter()
+                .all(Entry::is_fresh)
+    }
+}
+
+impl Tables {
+    pub fn fresh(fast: u8, slow: u8) -> Tables {
+        Tables {
+            fast,
+            slow,
+            pages: [ABSENT; 64],
+        }
+    }
+
+    /// The test of the table rules.
+    pub fn sound(&self) -> bool {
+        if self.fast > 127 || self.slow > 127 {
+            return false;
+        }
+        let limit = self.fast + self.slow;
+        let mut seen = [false; 256];
+        self.pages.iter().all(|g| g.sound(limit, &mut seen))
+    }
+
+    /// The page and number of the copy on a frame.
+    pub fn holder(&self, frame: u8) -> Option<(u8, u8)> {
+        for (i, g) in self.pages.iter().enumerate() {
+            for (j, c) in g.used().iter().enumerate() {
+                if c.frame == frame {
+                    return Some((i as u8, j as u8));
+                }
+            }
+        }
+        None
+    }
+
+    /// The tables as the kernel lays them out in bytes.
+    pub fn bytes(&self) -> Vec<u8> {
+        let mut bytes = vec![self.fast, self.slow];
+        for g in &self.pages {
+            bytes.extend(g.rights);
+            for c in &g.copies {
+                bytes.extend([c.frame, c.current as u8, c.recent as u8]);
+            }
+            bytes.extend([g.owner, g.n]);
+        }
+        bytes
+    }
+}
+
+/// What a message works on.
+#[derive(Clone)]
+pub struct Peer {
+    pub tables: Tables,
+    pub fast: Vec<u8>,
+    pub slow: Vec<u8>,
+    pub out: Vec<u8>,
+    pub tally: Tally,
+}
+
+/// What a step comes to: the bytes laid and the length of its data, or a number.
+type Step = Result<(u16, usize), u8>;
+
+fn test(ok: bool, number: u8) -> Result<(), u8> {
+    if ok {
+        Ok(())
+    } else {
+        Err(number)
+    }
+}
+
+fn frame<'a>(p: u8, fast: &'a [u8], slow: &'a [u8], f: u8) -> &'a [u8] {
+    if f < p {
+        &fast[64 * usize::from(f)..][..64]
+    } else {
+        &slow[64 * usize::from(f - p)..][..64]
+    }
+}
+
+fn frame_mut<'a>(p: u8, fast: &'a mut [u8], slow: &'a mut [u8], f: u8) -> &'a mut [u8] {
+    if f < p {
+        &mut fast[64 * usize::from(f)..][..64]
+    } else {
+        &mut slow[64 * usize::from(f - p)..][..64]
+    }
+}
+
+/// The version, kind and length of a message.
+fn shape(m: &[u8]) -> Result<(), u8> {
+    test(!m.is_empty() && m[0] == 1, 2)?;
+    test(m.len() > 1, 3)?;
+    let ok = match m[1] {
+        1 | 2 | 7 | 8 | 9 => m.len() == 4,
+        3 | 4 => m.len() == 6,
+        5 => (6..=69).contains(&m.len()),
+        6 => m.len() == 5,
+        10 | 11 => m.len() == 3,
+        _ => return Err(3),
+    };
+    test(ok, 4)
+}
+
+/// Kinds 1 to 5, which name a station.
+fn station_step(
+    t: &mut Tables,
+    fast: &mut [u8],
+    slow: &mut [u8],
+    m: &[u8],
+    data: &mut [u8],
+) -> Step {
+    let p = t.fast;
+    let (station, page) = (m[2], m[3]);
+    test(station <= 15 && page <= 63, 7)?;
+    let g = &mut t.pages[usize::from(page)];
+    let s = usize::from(station);
+    match m[1] {
+        1 => {
+            test(g.n == 0, 8)?;
+            *g = ABSENT;
+            g.owner = station;
+            g.rights[s] = 2;
+            g.n = 1;
+            g.copies[0].recent = true;
+            Ok((0, 0))
+        }
+        2 => {
+            test(g.n != 0, 9)?;
+            test(g.owner == station, 10)?;
+            *g = ABSENT;
+            Ok((0, 0))
+        }
+        3 => {
+            let (other, right) = (m[4], m[5]);
+            test(other <= 15 && right <= 2, 7)?;
+            test(g.n != 0, 9)?;
+            test(g.owner == station, 10)?;
+            g.rights[usize::from(other)] = right;
+            Ok((0, 0))
+        }
+        4 => {
+            let (o, count) = (usize::from(m[4]), usize::from(m[5]));
+            test(o <= 63 && count != 0 && o + count <= 64, 7)?;
+            test(g.n != 0, 9)?;
+            test(g.rights[s] >= 1, 10)?;
+            let f = g.used().iter().find(|c| c.current).ok_or(11)?.frame;
+            data[..count].copy_from_slice(&frame(p, fast, slow, f)[o..o + count]);
+            Ok((0, count))
+        }
+        _ => {
+            let (o, bytes) = (usize::from(m[4]), &m[5..]);
+            test(o <= 63 && o + bytes.len() <= 64, 7)?;
+            test(g.n != 0, 9)?;
+            test(g.rights[s] >= 2, 10)?;
+            let used = &mut g.copies[..usize::from(g.n)];
+            let currents = used.iter().filter(|c| c.current).count();
+            test(currents != 0, 11)?;
+            for c in used {
+                if c.current {
+                    frame_mut(p, fast, slow, c.frame)[o..o + bytes.len()].copy_from_slice(bytes);
+                } else {
+                    c.recent = false;
+                }
+            }
+            Ok(((bytes.len() * currents) as u16, 0))
+        }
+    }
+}
+
+/// Kinds 6 to 11.
+fn placement_step(
+    t: &mut Tables,
+    fast: &mut [u8],
+    slow: &mut [u8],
+    m: &[u8],
+    data: &mut [u8],
+) -> Step {
+    let p = t.fast;
+    let limit = t.fast + t.slow;
+    let kind = m[1];
+    if kind == 11 {
+        let f = m[2];
+        test(f < limit, 7)?;
+        let shown = match t.holder(f) {
+            Some((page, copy)) => [1, page, copy],
+            None => [0, 255, 255],
+        };
+        data[..3].copy_from_slice(&shown);
+        return Ok((0, 3));
+    }
+    test(m[2] <= 63, 7)?;
+    let page = usize::from(m[2]);
+    if kind == 10 {
+        let g = &t.pages[page];
+        test(g.n != 0, 9)?;
+        data[0] = g.n;
+        for (c, shown) in g.used().iter().zip(data[1..].chunks_exact_mut(3)) {
+            shown.copy_from_slice(&[c.frame, c.current as u8, c.recent as u8]);
+        }
+        return Ok((0, 1 + 3 * usize::from(g.n)));
+    }
+    let number = m[3];
+    if kind == 6 {
+        let f = m[4];
+        test(f < limit, 7)?;
+        let g = &t.pages[page];
+        test(g.n != 0, 9)?;
+        test(number < g.n, 12)?;
+        test(t.holder(f).is_none(), 13)?;
+        let g = &mut t.pages[page];
+        test(g.n < 8, 14)?;
+        let from = g.copies[usize::from(number)];
+        if from.frame == NULL_FRAME {
+            frame_mut(p, fast, slow, f).fill(0);
+            g.copies[0].frame = f;
+        } else {
+            let mut bytes = [0; 64];
+            bytes.copy_from_slice(frame(p, fast, slow, from.frame));
+            frame_mut(p, fast, slow, f).copy_from_slice(&bytes);
+            g.copies[usize::from(g.n)] = Entry {
+                frame: f,
+                current: false,
+                recent: from.recent,
+            };
+            g.n += 1;
+        }
+        return Ok((64, 0));
+    }
+    let g = &mut t.pages[page];
+    test(g.n != 0, 9)?;
+    test(number < g.n, 12)?;
+    let (k, n) = (usize::from(number), usize::from(g.n));
+    match kind {
+        7 => {
+            let recents = g.used().iter().filter(|c| c.recent).count();
+            test(!g.copies[k].recent || recents != 1, 15)?;
+            g.copies.copy_within(k + 1..n, k);
+            g.copies[n - 1] = FRESH;
+            g.n -= 1;
+        }
+        8 => {
+            test(g.copies[k].frame != NULL_FRAME, 17)?;
+            test(g.copies[k].recent, 16)?;
+            g.copies[k].current = true;
+        }
+        _ => g.copies[k].current = false,
+    }
+    Ok((0, 0))
+}
+
+impl Peer {
+    pub fn fresh(fast: u8, slow: u8) -> Peer {
+        Peer {
+            tables: Tables::fresh(fast, slow),
+            fast: vec![0; 64 * usize::from(fast)],
+            slow: vec![0; 64 * usize::from(slow)],
+            out: vec![0; 70],
+            tally: [0; 3],
+        }
+    }
+
+    fn rules(&self) -> Result<(), u8> {
+        let t = &self.tables;
+        test(t.sound(), 5)?;
+        let fits = self.fast.len() == 64 * usize::from(t.fast)
+            && self.slow.len() == 64 * usize::from(t.slow);
+        test(fits, 6)
+    }
+
+    /// One message, or none where it is cut short; where CHECKED, the table rules are tested first.
+    #[inline]
+    pub fn message<const CHECKED: bool>(&mut self, m: Option<&[u8]>) {
+        let (number, laid, len) = match self.outcome::<CHECKED>(m) {
+            Ok((laid, len)) => (0, laid, len),
+            Err(number) => (number, 0, 0),
+        };
+        let [messages, refusals, bytes] = &mut self.tally;
+        *messages = messages.saturating_add(1);
+        *refusals = refusals.saturating_add(u32::from(number != 0));
+        *bytes = bytes.saturating_add(u32::from(laid));
+        if self.out.len() >= 70 {
+            let [high, low] = laid.to_be_bytes();
+            self.out[..6].copy_from_slice(&[0, 4 + len as u8, 1, number, high, low]);
+        }
+    }
+
+    #[inline]
+    fn outcome<const CHECKED: bool>(&mut self, m: Option<&[u8]>) -> Step {
+        test(self.out.len() >= 70, 18)?;
+        let m = m.ok_or(1)?;
+        shape(m)?;
+        if CHECKED {
+            self.rules()?;
+        }
+        let (fast, slow, data) = (&mut self.fast, &mut self.slow, &mut self.out[6..70]);
+        if m[1] <= 5 {
+            station_step(&mut self.tables, fast, slow, m, data)
+        } else {
+            placement_step(&mut self.tables, fast, slow, m, data)
+        }
+    }
+
+    /// A run over a call file; each reply goes over the one before it.
+    #[inline(never)]
+    pub fn run_by_rust<const CHECKED: bool>(&mut self, file: &[u8]) {
+        let mut rest = file;
+        while !rest.is_empty() {
+            let whole = rest.split_first_chunk().and_then(|(&length, after)| {
+                after.split_at_checked(usize::from(u16::from_be_bytes(length)))
+            });
+            self.message::<CHECKED>(whole.map(|(m, _)| m));
+            rest = whole.map_or(&[], |(_, after)| after);
+        }
+    }
+
+    /// Tests the rules so many times, each time with another owner of page 0; gives how often they
+    /// held.
+    #[inline(never)]
+    pub fn sound_by_rust(&mut self, times: u32) -> u32 {
+        let mut held = 0;
+        for i in 0..times {
+            self.tables.pages[0].owner = (i % 16) as u8;
+            held += u32::from(black_box(&self.tables).sound());
+        }
+        held
+    }
+}

@@ -1,0 +1,96 @@
+// For the benchmark: work on tables that are taken from lent bytes once, so that what is measured is
+// the kernel and not the bytes.
+use embed::put_back;
+use embed::tables_of;
+use messages::Next;
+use messages::Ran;
+use messages::Tally;
+use messages::answer;
+use messages::read_turn;
+use messages::tally_after;
+use tables::Tables;
+ghost use mathlib.Core.Path.{_≡_};
+ghost use lib.ListN.{length};
+ghost use Rattle.steps.specs.Promises.{stateOf};
+ghost use Rattle.messages.specs.Run.{run};
+ghost use Rattle.messages.specs.Promises.{RunEnded};
+ghost use Rattle.embed.specs.Exports.{tablesOf, lentState};
+ghost use Rattle.timing.specs.Timed.{soundTimes, AnsweredAll};
+
+// What a run does, but every message is answered as if by itself: the rules are tested at each.
+fn answers(
+    mut tables: Tables,
+    fast: &mut [u8],
+    slow: &mut [u8],
+    file: &[u8],
+    out: &mut [u8],
+    mut tally: Tally,
+) -> Ran
+    ensures { λ r. ⌜ RunEnded (run (length (now (out .entry))) (now (file .entry)) (stateOf tables (now (fast .entry)) (now (slow .entry)))) tally
+        (now (out .entry)) (now (fast .exit)) (now (slow .exit)) (now (out .exit)) r ⌝ }
+{
+    let mut at = 0;
+    loop {
+        match read_turn(file, at) {
+            Next::Message { next, .. } => {
+                let a = answer(tables, fast, slow, &file[at..], out);
+                tables = a.tables;
+                tally = tally_after(tally, a.number != 0, a.laid);
+                at = next;
+            }
+            Next::Cut => {
+                let a = answer(tables, fast, slow, &file[at..], out);
+                tables = a.tables;
+                tally = tally_after(tally, a.number != 0, a.laid);
+                return Ran { tables, tally };
+            }
+            Next::End => return Ran { tables, tally },
+        }
+    }
+}
+
+// Answers every message of the file by itself, and returns how many there were, counted as a tally
+// counts them.
+#[no_mangle]
+pub extern "C" fn reel_answers(
+    tables: &mut [u8],
+    fast: &mut [u8],
+    slow: &mut [u8],
+    file: &[u8],
+    out: &mut [u8],
+) -> u32
+    ensures { λ r. ⌜ AnsweredAll (now (tables .entry))
+        (run (length (now (out .entry))) (now (file .entry)) (lentState (now (tables .entry)) (now (fast .entry)) (now (slow .entry))))
+        (now (out .entry)) (now (tables .exit)) (now (fast .exit)) (now (slow .exit)) (now (out .exit)) r ⌝ }
+{
+    let before = tables_of(&tables[..]);
+    let none = Tally {
+        messages: 0,
+        refusals: 0,
+        laid: 0,
+    };
+    let ran = answers(before, fast, slow, file, out, none);
+    put_back(ran.tables, tables);
+    ran.tally.messages
+}
+
+// Tests the rules again and again, and returns how often they held. Each test finds another owner of
+// page 0, or the compiler would make one test of them all.
+#[no_mangle]
+pub extern "C" fn reel_sound(tables: &[u8], times: u32) -> u32
+    ensures { λ r. ⌜ r ≡ soundTimes (tablesOf (now (tables .entry))) times ⌝ }
+{
+    let mut t = tables_of(tables);
+    let mut first = t.pages[0];
+    let mut held = 0;
+    let mut i = 0;
+    while i < times {
+        first.owner = (i % 16) as u8;
+        t.pages[0] = first;
+        if t.sound() {
+            held += 1;
+        }
+        i += 1;
+    }
+    held
+}
