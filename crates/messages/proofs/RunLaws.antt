@@ -202,7 +202,7 @@ module _ (room : ℕ) (file : List ℕ) (s₀ : State) (out₀ : List ℕ) (n₀
     unfolding turnsOf tally
     tally-after = rw follows at (q .same-tally)
 
-  rest-message : (start len next : ℕ) (s′ : State) (out′ : List ℕ) (n′ : Tally) → Message start len next ≡ nextAt file at
+  pub rest-message : (start len next : ℕ) (s′ : State) (out′ : List ℕ) (n′ : Tally) → Message start len next ≡ nextAt file at
       → let o = turn room s (whole (part file start len)) in
       s′ ≡ left s o → out′ ≡ over (replyIn room o) out → n′ ≡ counted n (isRefusal o) (laidBy o)
       → Rest room file s₀ out₀ n₀ next s′ out′ n′
@@ -215,7 +215,7 @@ module _ (room : ℕ) (file : List ℕ) (s₀ : State) (out₀ : List ℕ) (n₀
       }
 
   -- one cut short ends the file
-  rest-cut : (out′ : List ℕ) (n′ : Tally) → Cut ≡ nextAt file at → out′ ≡ over (replyIn room (turn room s cut)) out
+  pub rest-cut : (out′ : List ℕ) (n′ : Tally) → Cut ≡ nextAt file at → out′ ≡ over (replyIn room (turn room s cut)) out
       → n′ ≡ counted n (isRefusal (turn room s cut)) (laidBy (turn room s cut)) → Ended room file s₀ out₀ n₀ (leftBy room s cut) out′ n′
   unfolding endOf turnsOf buffer tally
   rest-cut out′ n′ e eo en =
@@ -226,7 +226,7 @@ module _ (room : ℕ) (file : List ℕ) (s₀ : State) (out₀ : List ℕ) (n₀
         tally-is = en ∙ tally-after _ _ follows;
       }
 
-  rest-none : End ≡ nextAt file at → Ended room file s₀ out₀ n₀ s out n
+  pub rest-none : End ≡ nextAt file at → Ended room file s₀ out₀ n₀ s out n
   unfolding endOf turnsOf buffer tally
   rest-none e =
       let none : messagesOf (drop at file) ≡ [] = reader-yields file at ∙ rw (← e) in

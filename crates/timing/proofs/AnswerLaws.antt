@@ -1,5 +1,5 @@
 -- Messages that are answered one by one, each by itself, come to the run over their file.
-use Prim.Native.Nat.{ℕ, _-_}
+use Prim.Native.Nat.{ℕ, _-_, _≤_}
 use mathlib.Core.Path.{_≡_, sym, ap, _∙_}
 use mathlib.Core.Bool.{not}
 use mathlib.Core.List.{List, [], _∷_}
@@ -18,7 +18,7 @@ use Rattle.messages.specs.Messages.{nextAt}
 use Rattle.messages.specs.Replies.{counted, isRefusal}
 use Rattle.messages.specs.Run.{Sent, cut, whole, turn, messagesOf, yielded, run}
 use Rattle.messages.specs.Promises.{sentBy, sentAlone, Replied, RunEnded}
-use Rattle.messages.proofs.ReaderLaws.{reader-yields}
+use Rattle.messages.proofs.ReaderLaws.{reader-yields, message-at}
 use Rattle.messages.proofs.RunLaws.{turn-told, Rest, rest-message, rest-cut, rest-none}
 
 -- ---- the first message of what is left of the file
@@ -37,8 +37,9 @@ sent-here file at x xs e =
 
 -- ---- the loop
 
--- where the loop stands at a place of the file: the lengths are as at the start
+-- where the loop stands at a place in the file: the lengths are as at the start
 pub record Going (s₀ : State) (file out₀ : List ℕ) (n₀ : Tally) (at : ℕ) (s : State) (out : List ℕ) (n : Tally) : Type 0 where
+  pub in-file : at ≤ length file
   pub fast-long : length (s .fast) ≡ length (s₀ .fast)
   pub slow-long : length (s .slow) ≡ length (s₀ .slow)
   pub out-long : length out ≡ length out₀
@@ -68,6 +69,7 @@ module _ {s₀ : State} {file out₀ : List ℕ} {n₀ : Tally} {at : ℕ} {s : 
       let xs = messagesOf (drop next file) in
       let follows : messagesOf (drop at file) ≡ x ∷ xs = reader-yields file at ∙ rw (← e) in
       record {
+        in-file = message-at file at start len next e .inside;
         fast-long = lx ∙ q .fast-long;
         slow-long = ly ∙ q .slow-long;
         out-long = lo ∙ q .out-long;

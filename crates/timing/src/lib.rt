@@ -75,7 +75,7 @@ pub extern "C" fn reel_answers(
 }
 
 // Tests the rules again and again, and returns how often they held. Each test finds another owner of
-// page 0, or the compiler would make one test of them all.
+// page 0, so that the compiler cannot make one test of them all.
 #[no_mangle]
 pub extern "C" fn reel_sound(tables: &[u8], times: u32) -> u32
     ensures { λ r. ⌜ r ≡ soundTimes (tablesOf (now (tables .entry))) times ⌝ }

@@ -19,7 +19,7 @@ abbrev μ-loop : tie.MeasureT-loop
 μ-loop tables₀ fast₀ slow₀ file out₀ tally₀ at₀ tables fast slow out tally at = length file - at
 
 loop-holds : tie.Need-loop-holds Inv-loop μ-loop
-loop-holds c = record { fast-long = refl; slow-long = refl; out-long = refl; rest = rest-all _ _ _ _ _ }
+loop-holds c = record { in-file = omega arith; fast-long = refl; slow-long = refl; out-long = refl; rest = rest-all _ _ _ _ _ }
 
 read-turn-requires : tie.Need-read-turn-requires Inv-loop μ-loop
 read-turn-requires c κs = search needs
