@@ -8,6 +8,7 @@ use steps::ACCEPTED;
 use steps::BROKEN_TABLES;
 use tables::Copy;
 use tables::Page;
+use tables::Shared;
 use tables::Tables;
 ghost use mathlib.Core.Path.{_≡_};
 ghost use mathlib.Core.Bool.{cond};
@@ -93,8 +94,10 @@ fn tables_from(bytes: &[u8]) -> Tables
         i += 1;
     }
     Tables {
-        fast: bytes[0],
-        slow: bytes[1],
+        shared: Shared {
+            p: bytes[0],
+            s: bytes[1],
+        },
         pages: pages,
     }
 }
@@ -156,8 +159,8 @@ fn put_tables(tables: Tables, bytes: &mut [u8])
     requires { ⌜ length (now bytes) ≡ 2690 ⌝ }
     ensures { λ _. ⌜ now (bytes .exit) ≡ tablesBytes tables ⌝ }
 {
-    bytes[0] = tables.fast;
-    bytes[1] = tables.slow;
+    bytes[0] = tables.shared.p;
+    bytes[1] = tables.shared.s;
     let mut i: usize = 0;
     while i < 64 {
         let g = tables.pages[i];
@@ -174,7 +177,7 @@ fn no_tables() -> Tables
 {
     let made = Tables::fresh(0, 0);
     let mut t = made.tables;
-    t.fast = 255;
+    t.shared.p = 255;
     t
 }
 
@@ -244,14 +247,14 @@ fn packed(number: u8, len: usize, laid: u16) -> u32
 
 // Makes fresh tables: 0, or 19 with P = S = 0. A buffer of another length is left alone: 5.
 #[no_mangle]
-pub extern "C" fn reel_fresh(fast: u8, slow: u8, tables: &mut [u8]) -> u8
+pub extern "C" fn reel_fresh(p: u8, s: u8, tables: &mut [u8]) -> u8
     ensures { λ r. ⌜ r ≡ freshInto fast slow (now (tables .entry)) .number ⌝ }
     ensures { λ _. ⌜ now (tables .exit) ≡ freshInto fast slow (now (tables .entry)) .bytes ⌝ }
 {
     if tables.len() != TABLES_SIZE {
         return BROKEN_TABLES;
     }
-    let made = Tables::fresh(fast, slow);
+    let made = Tables::fresh(p, s);
     put_tables(made.tables, tables);
     made.number
 }

@@ -4,7 +4,7 @@ use libc::STDIN_FILENO;
 use libc::STDOUT_FILENO;
 use messages::Next;
 use messages::answer;
-use messages::read_turn;
+use messages::message_at;
 use tables::Tables;
 ghost use mathlib.Core.Path.{_≡_};
 ghost use Prim.Native.Nat.{_≤_};
@@ -33,7 +33,7 @@ fn reply(tables: Tables, message: &[u8], fast: &mut [u8], slow: &mut [u8], out: 
 fn first_takes(rest: &[u8]) -> usize
     ensures { λ r. ⌜ r ≡ firstTakes (now (rest .entry)) ⌝ }
 {
-    match read_turn(rest, 0) {
+    match message_at(rest, 0) {
         Next::Message { next, .. } => next,
         Next::Cut => rest.len(),
         Next::End => rest.len(),

@@ -1,23 +1,26 @@
--- What the private functions of this layer ask of each other and promise. Nothing here has to be believed: the exported
--- contracts do not name it.
-use Prim.Native.Nat.{ℕ, _+_, _*_, _≤_, _<_}
-use mathlib.Core.Bool.{Bool, true, false, not, _||_}
-use mathlib.Core.List.{List, []}
+-- What the private functions of this layer ask of each other and promise. For the proofs alone: no exported contract names it.
+use Prim.Native.Nat.{ℕ, _+_, _-_, _*_, _%_, _≤_, _<_}
+use mathlib.Core.Bool.{Bool, true, false, not, _&&_, cond}
+use mathlib.Core.List.{List}
 use mathlib.Core.Path.{_≡_}
-use lib.ListN.{length}
-use lib.Dec.{eqb}
+use lib.ListN.{length, take, drop, getD}
+use lib.Dec.{ltb, eqb}
 use Rattle.tables.specs.declared.Page.{Page}
+use Rattle.tables.specs.declared.Shared.{Shared}
+use Rattle.tables.specs.declared.Tables.{Tables}
 use Rattle.tables.specs.declared.Holder.{Holder}
-use Rattle.tables.specs.declared.Change.the-variants.{Kept}
-use Rattle.tables.specs.Model.{absent}
-use Rattle.tables.specs.Rules.{pageRule}
+use Rattle.tables.specs.declared.Edit.the-variants.{Kept}
+use Rattle.tables.specs.Model.{inUse, absent, pageAt}
+use Rattle.tables.specs.Search.{inPages}
+use Rattle.tables.specs.Changes.{changed}
+use Rattle.tables.specs.Keep.{unchanged}
 use Rattle.steps.specs.declared.Call.{Call}
-use Rattle.steps.specs.declared.Call.the-variants.{Read}
+use Rattle.steps.specs.declared.View.{View}
+use Rattle.steps.specs.declared.Work.the-variants.{Nothing}
+use Rattle.steps.specs.declared.Verdict.{Verdict}
 use Rattle.steps.specs.declared.Decision.{Decision}
-use Rattle.steps.specs.declared.access.Source.{Source}
-use Rattle.steps.specs.Stores.{part, block, over}
-use Rattle.steps.specs.Calls.{nameOutside, frameOutside, spanOutside}
-use Rattle.steps.specs.Steps.{Outcome, refuse, accept, test, Effect, keeping, numbered, perform, dataOf, decided, storesLeft}
+use Rattle.steps.specs.Kinds.{frame, has}
+use Rattle.steps.specs.Steps.{Outcome, refuse, accept, Plan, test, copyAt, currents, firstCurrent, numbered, decideOn}
 
 -- ---- what is lent
 
@@ -26,49 +29,59 @@ pub record Room (fast slow : List ℕ) (p f : ℕ) : Type 0 where
   pub split : length fast ≡ 64 * p
   pub there : 64 * f + 64 ≤ length fast + length slow
 
--- the stores fit some tables with p fast frames, and the record of the page meets their rules
-pub record Lent (p : ℕ) (g : Page) (fast slow : List ℕ) : Type 0 where
-  pub limit : ℕ
-  pub split : length fast ≡ 64 * p
-  pub whole : length fast + length slow ≡ 64 * limit
-  pub few : limit ≤ 254
-  pub rule : pageRule limit g ≡ true
-
--- ---- tests
-
--- number 7, by any of its three tests
-abbrev pub outsideOf : ℕ → ℕ → Call → Bool
-outsideOf limit size c = nameOutside c || (frameOutside limit c || spanOutside size c)
+-- ---- what a call comes to
 
 -- r is number 9 or 12 of a step on copy k, or 0 where neither applies
 pub record Numbered (g : Page) (k r : ℕ) : Type 0 where
-  pub told : (o : Outcome Effect) → numbered g k o ≡ test (not (eqb r 0)) r o
+  pub told : (o : Outcome Plan) → numbered g k o ≡ test (not (eqb r 0)) r o
   pub there : r ≡ 0 → (k < g .n) × (absent g ≡ false)
 
--- r is where a read of page g by station s comes from: refused with a number, or from a frame below limit
-pub record Sourced (limit : ℕ) (g : Page) (s : ℕ) (r : Source) : Type 0 where
-  pub turned-back : (r .number ≡ 0 → ⊥) → (h : Holder) (st : List ℕ) (p o n : ℕ) (bs : List ℕ)
-      → perform g h st (Read s p o n) bs ≡ refuse (r .number)
-  pub found : r .number ≡ 0 → (h : Holder) (st : List ℕ) (p o n : ℕ) (bs : List ℕ)
-      → perform g h st (Read s p o n) bs ≡ accept (keeping Kept st) 0 (part (block st (r .frame)) o n)
-  pub placed : r .number ≡ 0 → r .frame < limit
+-- r is the number of the lowest-numbered CURRENT copy, or 8 where there is none
+pub record FirstCurrent (g : Page) (r : ℕ) : Type 0 where
+  pub none : 8 ≤ r → currents g ≡ 0
+  pub some : r < 8 → (1 ≤ currents g) × (copyAt g r .frame ≡ firstCurrent (inUse g))
 
--- ---- what a step leaves
+-- an outcome as the code holds it
+abbrev pub verdictOf : Outcome Plan → Verdict
+verdictOf (refuse n) = record { number = n; laid = 0; len = 0; edit = Kept; work = Nothing }
+verdictOf (accept plan) = record { number = 0; laid = plan .laid; len = plan .len; edit = plan .edit; work = plan .work }
 
--- a step that lays no byte and has no data, on any stores
-pub record Quiet (o : List ℕ → Outcome Effect) (r : Decision) : Type 0 where
-  pub told : (st : List ℕ) → r ≡ decided (o st)
-  pub stores-kept : (st : List ℕ) → storesLeft st (o st) ≡ st
-  pub no-data : (st : List ℕ) → dataOf (o st) ≡ []
+-- with the record of page p, which was g
+abbrev pub decision : ℕ → Page → Verdict → Decision
+decision p g v =
+    record {
+      number = v .number;
+      moved = not (unchanged g (v .edit));
+      laid = v .laid;
+      len = v .len;
+      change = record { page = p; becomes = changed g (v .edit) };
+      before = g;
+      work = v .work;
+    }
 
--- a step that lays no byte: its data at the front of a buffer
-pub record Shown (o : Outcome Effect) (st out out′ : List ℕ) (r : Decision) : Type 0 where
-  pub told : r ≡ decided o
-  pub stores-kept : storesLeft st o ≡ st
-  pub data-out : out′ ≡ over (dataOf o) out
+abbrev pub frameCount : Shared → ℕ
+frameCount a = a .p + a .s
 
--- a step that has no data: what it leaves of the joined stores
-pub record Laid (o : Outcome Effect) (st st′ : List ℕ) (r : Decision) : Type 0 where
-  pub told : r ≡ decided o
-  pub stores-out : st′ ≡ storesLeft st o
-  pub no-data : dataOf o ≡ []
+-- the decision on a page's record and the holder of a frame
+unfoldable pub decidedOn : Shared → Page → Holder → Call → ℕ → Decision
+decidedOn a g h c size = decision (c .page) g (verdictOf (decideOn (record { frames = frameCount a; page = g; holder = h }) c size))
+
+-- ---- the search
+
+-- among the pages from page i on
+abbrev pub holderFrom : Tables → ℕ → ℕ → Holder
+holderFrom t f i = inPages f i (take (64 - i) (drop i (t .pages)))
+
+-- where it starts: nowhere, if the call names no frame in range
+abbrev pub searchStart : Shared → Call → ℕ
+searchStart a c = cond (has frame (c .kind) && ltb (c .frame) (frameCount a)) 0 64
+
+-- the decision on the tables, as the code comes to it: a page number above 63 is refused whatever the record is
+abbrev pub decidedAt : Tables → Call → ℕ → Decision
+decidedAt t c size = decidedOn (t .shared) (pageAt t (c .page % 64)) (holderFrom t (c .frame) (searchStart (t .shared) c)) c size
+
+-- 5 or 6 before a decision
+abbrev pub ruled : ℕ → Decision → Decision
+ruled number d =
+    cond (eqb number 0) d
+    (record { number = number; moved = false; laid = 0; len = 0; change = d .change; before = d .before; work = Nothing })

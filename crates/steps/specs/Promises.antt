@@ -1,63 +1,132 @@
--- What the functions that this layer exports ask of their callers, and what they promise.
-use Prim.Native.Nat.{ℕ, _+_, _*_, _≤_}
-use mathlib.Core.Bool.{true}
-use mathlib.Core.List.{List, _++_}
+-- What the functions that this layer exports promise.
+use Prim.Native.Nat.{ℕ, _+_, _/_, _%_}
 use mathlib.Core.Path.{_≡_}
+use mathlib.Core.Bool.{Bool, true, not, _&&_, cond}
+use mathlib.Core.List.{List, [], _∷_, _++_}
 use lib.ListN.{length, take, drop}
+use lib.Dec.{leb, ltb, eqb}
+use Rattle.tables.specs.declared.Copy.{Copy}
 use Rattle.tables.specs.declared.Page.{Page}
 use Rattle.tables.specs.declared.Tables.{Tables}
-use Rattle.tables.specs.declared.Holder.{Holder}
-use Rattle.tables.specs.declared.Holder.the-variants.{Free}
-use Rattle.tables.specs.Rules.{pageRule}
-use Rattle.tables.specs.Search.{holderOf}
+use Rattle.tables.specs.Lists.{all}
+use Rattle.tables.specs.Numbers.{accepted, brokenTables, misfitStore}
+use Rattle.tables.specs.Model.{inUse, pageAt}
+use Rattle.tables.specs.Rules.{sound}
+use Rattle.tables.specs.Changes.{edited, after}
 use Rattle.steps.specs.declared.Call.{Call}
-use Rattle.steps.specs.declared.Call.the-variants.{Create, DeletePage, Grant, Read, Write, MakeCopy, DeleteCopy, SetCurrent, RemoveCurrent, LookPage, LookFrame}
+use Rattle.steps.specs.declared.Form.{Form}
+use Rattle.steps.specs.declared.Work.{Work}
+use Rattle.steps.specs.declared.Work.the-variants.{Nothing, Clear, Duplicate, Spread, Show, ShowPage, ShowHolder}
 use Rattle.steps.specs.declared.Decision.{Decision}
 use Rattle.steps.specs.declared.Done.{Done}
-use Rattle.steps.specs.Stores.{over}
-use Rattle.steps.specs.Steps.{Outcome, Effect, State, left, numberOf, laidBy, dataOf, decided, storesLeft}
+use Rattle.steps.specs.Kinds.{kindOf, leastLength, mostLength, callOf}
+use Rattle.steps.specs.Stores.{fits, over}
+use Rattle.steps.specs.Steps.{Outcome, refuse, accept, Plan, numberOf}
+use Rattle.steps.specs.Effects.{laidIn, shownOf, State, Result, left, laidBy, dataOf}
 
 -- the state of tables and two lent stores
 abbrev pub stateOf : Tables → List ℕ → List ℕ → State
 stateOf t fast slow = record { tables = t; fast = fast; slow = slow }
 
--- the holder of the frame that the call names; a call that names none needs no search
-abbrev pub holderFor : Tables → Call → Holder
-holderFor t (Create s p) = Free
-holderFor t (DeletePage s p) = Free
-holderFor t (Grant s p o r) = Free
-holderFor t (Read s p o n) = Free
-holderFor t (Write s p o) = Free
-holderFor t (MakeCopy p c f) = holderOf t f
-holderFor t (DeleteCopy p c) = Free
-holderFor t (SetCurrent p c) = Free
-holderFor t (RemoveCurrent p c) = Free
-holderFor t (LookPage p) = Free
-holderFor t (LookFrame f) = holderOf t f
+-- ---- kinds
 
--- what a caller of `decide` has shown: its stores fit tables with p fast frames and limit frames in all, the record of
--- the page meets their rules, and there is room for the data
-pub record Ready (limit p : ℕ) (g : Page) (fast slow out : List ℕ) : Type 0 where
-  pub split : length fast ≡ 64 * p
-  pub whole : length fast + length slow ≡ 64 * limit
-  pub fast-first : p ≤ limit
-  pub few : limit ≤ 254
-  pub rule : pageRule limit g ≡ true
-  pub room : 64 ≤ length out
+-- the form of the messages of a kind, and the call of one with the arguments a, b, c, d
+abbrev pub formOf : ℕ → ℕ → ℕ → ℕ → ℕ → Form
+formOf number a b c d =
+    record {
+      least = leastLength (kindOf number);
+      most = mostLength (kindOf number);
+      call = callOf (kindOf number) (a ∷ b ∷ c ∷ d ∷ []);
+    }
 
--- what `decide` leaves of a step that comes to o: the decision, each store, and the data at the front of the buffer
-pub record Decided (o : Outcome Effect) (fast slow out fast′ slow′ out′ : List ℕ) (r : Decision) : Type 0 where
-  pub told : r ≡ decided o
-  pub fast-out : fast′ ≡ take (length fast) (storesLeft (fast ++ slow) o)
-  pub slow-out : slow′ ≡ drop (length fast) (storesLeft (fast ++ slow) o)
-  pub data-out : out′ ≡ over (dataOf o) out
+-- ---- what a call comes to
 
--- what `step` leaves of a call on state s that comes to o
-pub record Stepped (s : State) (o : Outcome State) (out fast′ slow′ out′ : List ℕ) (r : Done) : Type 0 where
+-- 5 or 6, and else 0
+abbrev pub rulesNumber : Tables → ℕ → ℕ → ℕ
+rulesNumber t fast slow = cond (sound t) (cond (fits t fast slow) accepted misfitStore) brokenTables
+
+abbrev pub laidOf : Outcome Plan → ℕ
+laidOf (refuse n) = 0
+laidOf (accept plan) = plan .laid
+
+abbrev pub lenOf : Outcome Plan → ℕ
+lenOf (refuse n) = 0
+lenOf (accept plan) = plan .len
+
+abbrev pub workOf : Outcome Plan → Work
+workOf (refuse n) = Nothing
+workOf (accept plan) = plan .work
+
+-- the tables after a call that comes to o
+abbrev pub tablesLeft : Tables → Call → Outcome Plan → Tables
+tablesLeft t c (refuse n) = t
+tablesLeft t c (accept plan) = after t (edited t (c .page) (plan .edit))
+
+-- the tables after a decision: they stay where they are, or its change is put into them
+abbrev pub settled : Tables → Decision → Tables
+settled t d = after t (d .change)
+
+abbrev pub tablesAfter : Tables → Decision → Tables
+tablesAfter t d = cond (d .moved) (settled t d) t
+
+-- d is the decision of a call c on tables t that comes to o
+pub record Decides (t : Tables) (c : Call) (o : Outcome Plan) (d : Decision) : Type 0 where
+  pub number-told : d .number ≡ numberOf o
+  pub laid-told : d .laid ≡ laidOf o
+  pub len-told : d .len ≡ lenOf o
+  pub work-told : d .work ≡ workOf o
+  pub tables-told : tablesAfter t d ≡ tablesLeft t c o
+  -- what is to be laid or shown is about the page's record before the call
+  pub before-told : numberOf o ≡ accepted → d .before ≡ pageAt t (c .page)
+
+-- ---- what was decided, carried out
+
+-- two stores and a buffer for the data of the reply, as they are lent or left
+pub record Lent : Type 0 where
+  pub fast : List ℕ
+  pub slow : List ℕ
+  pub out : List ℕ
+
+abbrev pub lent : List ℕ → List ℕ → List ℕ → Lent
+lent fast slow out = record { fast = fast; slow = slow; out = out }
+
+-- a CURRENT copy's frame is one of so many
+abbrev pub currentWithin : ℕ → Copy → Bool
+currentWithin frames c = not (c .current && leb frames (c .frame))
+
+-- a work on page g lies within stores of so many frames, and what it shows within a page
+abbrev pub workWithin : Page → ℕ → ℕ → ℕ → Work → Bool
+workWithin g len frames size Nothing = true
+workWithin g len frames size (Clear f) = ltb f frames
+workWithin g len frames size (Duplicate from to) = ltb from frames && ltb to frames
+workWithin g len frames size (Spread offset) = leb (offset + size) 64 && all (currentWithin frames) (inUse g)
+workWithin g len frames size (Show f offset) = ltb f frames && leb (offset + len) 64
+workWithin g len frames size ShowPage = true
+workWithin g len frames size (ShowHolder h) = true
+
+-- a decision lies within what is lent; one that was made on sound tables, with stores that fit them, does (`decided-within`)
+abbrev pub within : Decision → ℕ → Lent → Bool
+within d size l =
+    leb 64 (length (l .out)) && (eqb (length (l .fast) % 64) 0
+    && workWithin (d .before) (d .len) (length (l .fast) / 64 + length (l .slow) / 64) size (d .work))
+
+-- what a decision leaves: each store by itself, and the data at the front of the buffer. One that does not lie within leaves all as lent.
+unfoldable pub carried : Decision → List ℕ → Lent → Lent
+carried d bs l =
+    cond (within d (length bs) l)
+    (record {
+      fast = take (length (l .fast)) (laidIn (d .before) (d .work) bs (l .fast ++ l .slow));
+      slow = drop (length (l .fast)) (laidIn (d .before) (d .work) bs (l .fast ++ l .slow));
+      out = over (shownOf (d .before) (d .work) (d .len) (l .fast ++ l .slow)) (l .out);
+    })
+    l
+
+-- ---- a call on tables and stores
+
+-- what `step` leaves of a call on state s that comes to o: the state s′, and the data at the front of the buffer
+pub record Stepped (s : State) (o : Outcome Result) (out : List ℕ) (s′ : State) (out′ : List ℕ) (r : Done) : Type 0 where
   pub number-told : r .number ≡ numberOf o
   pub laid-told : r .laid ≡ laidBy o
   pub len-told : r .len ≡ length (dataOf o)
-  pub tables-out : r .tables ≡ left s o .tables
-  pub fast-out : fast′ ≡ left s o .fast
-  pub slow-out : slow′ ≡ left s o .slow
+  pub state-out : s′ ≡ left s o
   pub data-out : out′ ≡ over (dataOf o) out

@@ -16,9 +16,9 @@ part l at n = take n (drop at l)
 unfoldable pub splice : List ℕ → ℕ → List ℕ → List ℕ
 splice l at b = take at l ++ (b ++ drop (at + length b) l)
 
--- "The fast store is exactly 64 × P lent bytes, the slow one 64 × S."
-unfoldable pub fits : Tables → List ℕ → List ℕ → Bool
-fits t fast slow = eqb (length fast) (64 * t .fast) && eqb (length slow) (64 * t .slow)
+-- "The fast store is exactly 64 × P lent bytes, the slow one 64 × S": whether stores of these lengths are
+unfoldable pub fits : Tables → ℕ → ℕ → Bool
+fits t fast slow = eqb fast (64 * t .shared .p) && eqb slow (64 * t .shared .s)
 
 -- "Frame f is the f-th block of 64 bytes, slow frames counted on from P."
 abbrev pub block : List ℕ → ℕ → List ℕ

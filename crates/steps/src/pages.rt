@@ -1,56 +1,64 @@
 // Steps 1 to 3: a page created or deleted, and a right granted.
-use crate::Decision;
+use crate::Call;
 use crate::NO_PAGE;
 use crate::NO_RIGHT;
 use crate::PAGE_STANDS;
-use crate::carried_out;
-use crate::refused;
-use tables::Change;
-use tables::Page;
-ghost use mathlib.Core.List.{List, []};
+use crate::Verdict;
+use crate::View;
+use crate::Work;
+use crate::judgement::accepted;
+use crate::judgement::refused;
+use tables::Edit;
+ghost use mathlib.Core.Path.{_≡_};
 ghost use Prim.Native.Nat.{ℕ};
-ghost use Rattle.tables.specs.declared.Holder.{Holder};
-ghost use Rattle.steps.specs.declared.Call.the-variants.{Create, DeletePage, Grant};
-ghost use Rattle.steps.specs.Steps.{accept, keeping, owns, standing, perform};
-ghost use Rattle.steps.specs.Private.{Quiet};
+ghost use Rattle.steps.specs.declared.Kind.the-variants.{Create, DeletePage, Grant};
+ghost use Rattle.steps.specs.Steps.{editing, owns, standing, perform};
+ghost use Rattle.steps.specs.Private.{verdictOf};
 
-pub(crate) fn create(page: Page, station: u8) -> Decision
-    ensures { λ r. ⌜ ((h : Holder) (named : ℕ) (bs : List ℕ) → Quiet (λ st. perform page h st (Create station named) bs) r) ⌝ }
+pub(crate) fn create(view: View, call: Call) -> Verdict
+    ensures { λ r. ⌜ ((size : ℕ) → r ≡ verdictOf (perform view call size Create)) ⌝ }
 {
-    if page.n != 0 {
+    if view.page.n != 0 {
         return refused(PAGE_STANDS);
     }
-    carried_out(0, 0, Change::Created { station: station })
+    accepted(
+        0,
+        0,
+        Edit::Created {
+            station: call.station,
+        },
+        Work::Nothing,
+    )
 }
 
 // A step that only the page's owner may take.
-fn owner_step(page: Page, station: u8, change: Change) -> Decision
-    ensures { λ r. ⌜ Quiet (λ st. standing page (owns page station) (accept (keeping change st) 0 [])) r ⌝ }
+fn owner_step(view: View, call: Call, edit: Edit) -> Verdict
+    ensures { λ r. ⌜ r ≡ verdictOf (standing (view .page) (owns (view .page) (call .station)) (editing edit)) ⌝ }
 {
-    if page.n == 0 {
+    if view.page.n == 0 {
         return refused(NO_PAGE);
     }
-    if page.owner != station {
+    if view.page.owner != call.station {
         return refused(NO_RIGHT);
     }
-    carried_out(0, 0, change)
+    accepted(0, 0, edit, Work::Nothing)
 }
 
-pub(crate) fn delete_page(page: Page, station: u8) -> Decision
-    ensures { λ r. ⌜ ((h : Holder) (named : ℕ) (bs : List ℕ) → Quiet (λ st. perform page h st (DeletePage station named) bs) r) ⌝ }
+pub(crate) fn delete_page(view: View, call: Call) -> Verdict
+    ensures { λ r. ⌜ ((size : ℕ) → r ≡ verdictOf (perform view call size DeletePage)) ⌝ }
 {
-    owner_step(page, station, Change::Deleted)
+    owner_step(view, call, Edit::Deleted)
 }
 
-pub(crate) fn grant(page: Page, station: u8, other: u8, right: u8) -> Decision
-    ensures { λ r. ⌜ ((h : Holder) (named : ℕ) (bs : List ℕ) → Quiet (λ st. perform page h st (Grant station named other right) bs) r) ⌝ }
+pub(crate) fn grant(view: View, call: Call) -> Verdict
+    ensures { λ r. ⌜ ((size : ℕ) → r ≡ verdictOf (perform view call size Grant)) ⌝ }
 {
     owner_step(
-        page,
-        station,
-        Change::Granted {
-            station: other,
-            right: right,
+        view,
+        call,
+        Edit::Granted {
+            station: call.other,
+            right: call.right,
         },
     )
 }

@@ -1,8 +1,9 @@
 // Number 7: whether a call names something that is too large.
 use crate::Call;
+use crate::Kind;
 ghost use mathlib.Core.Path.{_≡_};
-ghost use Rattle.steps.specs.Calls.{badSpan};
-ghost use Rattle.steps.specs.Private.{outsideOf};
+ghost use Rattle.steps.specs.Kinds.{frame, has};
+ghost use Rattle.steps.specs.Calls.{badSpan, spanOutside, outside};
 
 // Whether the offset is too large, the count is 0, or both together go past the page.
 fn bad_span(offset: u8, count: usize) -> bool
@@ -15,35 +16,39 @@ fn bad_span(offset: u8, count: usize) -> bool
     (count == 0) | (count > 64 - o)
 }
 
-// Number 7. `size` is the number of a write's bytes.
-pub(crate) fn outside(call: Call, limit: u8, size: usize) -> bool
-    ensures { λ r. ⌜ r ≡ outsideOf limit size call ⌝ }
+// Whether the call names a frame.
+pub(crate) fn names_frame(kind: Kind) -> bool
+    ensures { λ r. ⌜ r ≡ has frame kind ⌝ }
 {
-    match call {
-        Call::Create { station, page } => (station > 15) | (page > 63),
-        Call::DeletePage { station, page } => (station > 15) | (page > 63),
-        Call::Grant {
-            station,
-            page,
-            other,
-            right,
-        } => ((station > 15) | (page > 63)) | ((other > 15) | (right > 2)),
-        Call::Read {
-            station,
-            page,
-            offset,
-            count,
-        } => ((station > 15) | (page > 63)) | bad_span(offset, count as usize),
-        Call::Write {
-            station,
-            page,
-            offset,
-        } => ((station > 15) | (page > 63)) | bad_span(offset, size),
-        Call::MakeCopy { page, frame, .. } => (page > 63) | (frame >= limit),
-        Call::DeleteCopy { page, .. } => page > 63,
-        Call::SetCurrent { page, .. } => page > 63,
-        Call::RemoveCurrent { page, .. } => page > 63,
-        Call::LookPage { page } => page > 63,
-        Call::LookFrame { frame } => frame >= limit,
+    match kind {
+        Kind::MakeCopy => true,
+        Kind::LookFrame => true,
+        _ => false,
     }
+}
+
+// Whether the bytes that the call names lie outside the page. `size` is the number of a write's bytes.
+fn span_outside(call: Call, size: usize) -> bool
+    ensures { λ r. ⌜ r ≡ spanOutside size call ⌝ }
+{
+    let kind = call.kind;
+    match kind {
+        Kind::Read => bad_span(call.offset, call.count as usize),
+        Kind::Write => bad_span(call.offset, size),
+        _ => false,
+    }
+}
+
+// Number 7, where there are so many frames.
+pub(crate) fn outside(call: Call, frames: u16, size: usize) -> bool
+    ensures { λ r. ⌜ r ≡ outside frames size call ⌝ }
+{
+    if ((call.station > 15) | (call.page > 63)) | ((call.other > 15) | (call.right > 2)) {
+        return true;
+    }
+    let kind = call.kind;
+    if names_frame(kind) & (call.frame as u16 >= frames) {
+        return true;
+    }
+    span_outside(call, size)
 }

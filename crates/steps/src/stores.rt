@@ -1,13 +1,12 @@
 // The two lent stores: frame f is in the fast one where f is below p, and else in the slow one.
 use tables::Copy;
+use tables::Page;
 ghost use mathlib.Core.Path.{_≡_};
 ghost use mathlib.Core.Bool.{true};
 ghost use mathlib.Core.List.{[], _∷_, _++_};
 ghost use Prim.Native.Nat.{ℕ, _+_, _<_, _≤_};
-ghost use lib.ListN.{length, take, getD};
-ghost use Rattle.tables.specs.Lists.{count};
-ghost use Rattle.tables.specs.Model.{noCopyEntry};
-ghost use Rattle.tables.specs.Rules.{isCurrent};
+ghost use lib.ListN.{length, getD};
+ghost use Rattle.tables.specs.Model.{noCopyEntry, inUse};
 ghost use Rattle.steps.specs.Stores.{part, splice, block, lay, zeros, layCurrent};
 ghost use Rattle.steps.specs.Private.{Room};
 
@@ -100,43 +99,36 @@ pub(crate) fn frame_part<'a>(
     }
 }
 
-// Lays src into the copy's frame where the copy is CURRENT, and says for how many copies that counts.
-fn lay_copy(fast: &mut [u8], slow: &mut [u8], p: usize, c: Copy, offset: usize, src: &[u8]) -> usize
+// Lays src into the copy's frame where the copy is CURRENT.
+fn lay_copy(fast: &mut [u8], slow: &mut [u8], p: usize, c: Copy, offset: usize, src: &[u8])
     requires { ⌜ (c .current ≡ true → Room (now fast) (now slow) p (c .frame)) ⌝ }
     requires { ⌜ offset + length (now src) ≤ 64 ⌝ }
     ensures { λ _. ⌜ now (fast .exit) ++ now (slow .exit) ≡ layCurrent (now (fast .entry) ++ now (slow .entry)) (c ∷ []) offset (now (src .entry)) ⌝ }
-    ensures { λ r. ⌜ r ≡ count isCurrent (c ∷ []) ⌝ }
 {
     if c.current {
         let f = c.frame as usize;
         lay_frame(fast, slow, p, f, offset, src);
-        return 1;
     }
-    0
 }
 
-// Lays src into each CURRENT one of the first n copies, and says how many there are.
+// Lays src into each CURRENT copy of the page.
 pub(crate) fn lay_current(
     fast: &mut [u8],
     slow: &mut [u8],
     p: usize,
-    copies: [Copy; 8],
-    n: usize,
+    page: Page,
     offset: usize,
     src: &[u8],
-) -> usize
-    requires { ⌜ n ≤ 8 ⌝ }
-    requires { ⌜ ((i : ℕ) → i < n → getD copies i noCopyEntry .current ≡ true → Room (now fast) (now slow) p (getD copies i noCopyEntry .frame)) ⌝ }
+)
+    requires { ⌜ ((i : ℕ) → i < length (inUse page) → getD (page .copies) i noCopyEntry .current ≡ true → Room (now fast) (now slow) p (getD (page .copies) i noCopyEntry .frame)) ⌝ }
     requires { ⌜ offset + length (now src) ≤ 64 ⌝ }
-    ensures { λ _. ⌜ now (fast .exit) ++ now (slow .exit) ≡ layCurrent (now (fast .entry) ++ now (slow .entry)) (take n copies) offset (now (src .entry)) ⌝ }
-    ensures { λ r. ⌜ r ≡ count isCurrent (take n copies) ⌝ }
+    ensures { λ _. ⌜ now (fast .exit) ++ now (slow .exit) ≡ layCurrent (now (fast .entry) ++ now (slow .entry)) (inUse page) offset (now (src .entry)) ⌝ }
 {
+    let n = page.in_use();
     let mut j: usize = 0;
-    let mut k: usize = 0;
     while j < n {
-        let c = copies[j];
-        k += lay_copy(fast, slow, p, c, offset, src);
+        let c = page.copies[j];
+        lay_copy(fast, slow, p, c, offset, src);
         j += 1;
     }
-    k
 }

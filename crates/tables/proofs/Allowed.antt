@@ -6,8 +6,8 @@ use lib.Dec.{eqb}
 use lib.ListN.{getD}
 use Rattle.tables.specs.declared.Page.{Page}
 use Rattle.tables.specs.declared.Tables.{Tables}
-use Rattle.tables.specs.declared.Change.{Change}
-use Rattle.tables.specs.declared.Change.the-variants.{Kept, Created, Deleted, Granted, Staled, Placed, Added, Removed, Marked}
+use Rattle.tables.specs.declared.Edit.{Edit}
+use Rattle.tables.specs.declared.Edit.the-variants.{Kept, Created, Deleted, Granted, Staled, Placed, Added, Removed, Marked}
 use Rattle.tables.specs.Lists.{count}
 use Rattle.tables.specs.Model.{frames, isNull, inUse, absent, noCopyEntry, pageAt}
 use Rattle.tables.specs.Rules.{free, isRecent, isCurrent}
@@ -52,7 +52,7 @@ pub record MarkOk (g : Page) (k : ℕ) (current : Bool) : Type 0 where
   pub placed : current ≡ true → isNull (getD (g .copies) k noCopyEntry) ≡ false
 
 -- a step may make change c of a page with record g
-abbrev pub AllowedOn : Tables → Page → Change → Type 0
+abbrev pub AllowedOn : Tables → Page → Edit → Type 0
 AllowedOn t g Kept = Unit {0}
 AllowedOn t g (Created station) = station < 16
 AllowedOn t g Deleted = Unit {0}
@@ -64,5 +64,5 @@ AllowedOn t g (Removed k) = RemoveOk g k
 AllowedOn t g (Marked k current) = MarkOk g k current
 
 -- of page p
-abbrev pub Allowed : Tables → ℕ → Change → Type 0
+abbrev pub Allowed : Tables → ℕ → Edit → Type 0
 Allowed t p c = AllowedOn t (pageAt t p) c

@@ -14,11 +14,11 @@ use borrow.Author.Tests.{lt-ltb}
 use Rattle.tables.specs.declared.Copy.{Copy}
 use Rattle.tables.specs.declared.Page.{Page}
 use Rattle.tables.specs.declared.Tables.{Tables}
-use Rattle.tables.specs.declared.Change.{Change}
-use Rattle.tables.specs.declared.Change.the-variants.{Kept, Created, Deleted, Granted, Staled, Placed, Added, Removed, Marked}
+use Rattle.tables.specs.declared.Edit.{Edit}
+use Rattle.tables.specs.declared.Edit.the-variants.{Kept, Created, Deleted, Granted, Staled, Placed, Added, Removed, Marked}
 use Rattle.tables.specs.Lists.{all, count}
 use Rattle.tables.specs.Model.{inUse, freshCopy, freshPage, noCopyEntry, noPageRecord, pageAt}
-use Rattle.tables.specs.Changes.{created, withCopies, staleCopy, newCopy, closeGap, markedCopy, changed, after}
+use Rattle.tables.specs.Changes.{created, withCopies, staleCopy, newCopy, closeGap, markedCopy, changed, edited, after}
 use Rattle.tables.proofs.GapLaws.{gap-length}
 use Rattle.tables.proofs.ListLaws.{and-left, and-right, and-intro}
 
@@ -92,7 +92,7 @@ gap-without (x ∷ xs) (suc k) h = ap (λ (r : List Copy). x ∷ r) (gap-without
 -- ---- the lengths
 
 -- every change keeps the sixteen rights
-pub changed-rights : (g : Page) (c : Change) → length (g .rights) ≡ 16 → length (changed g c .rights) ≡ 16
+pub changed-rights : (g : Page) (c : Edit) → length (g .rights) ≡ 16 → length (changed g c .rights) ≡ 16
 unfolding changed created freshPage
 changed-rights g Kept e = e
 changed-rights g (Created s) e = length-set (replicate 16 0) s 2
@@ -109,7 +109,7 @@ changed-rights g (Removed k) e = e
 changed-rights g (Marked k b) e = e
 
 -- and the eight entries
-pub changed-copies : (g : Page) (c : Change) → length (g .copies) ≡ 8 → length (changed g c .copies) ≡ 8
+pub changed-copies : (g : Page) (c : Edit) → length (g .copies) ≡ 8 → length (changed g c .copies) ≡ 8
 unfolding changed created freshPage
 changed-copies g Kept e = e
 changed-copies g (Created s) e = refl
@@ -196,13 +196,13 @@ module _ (g : Page) where
 
 -- ---- the tables after a change
 
-module _ (t : Tables) (p : ℕ) (c : Change) where
+module _ (t : Tables) (p : ℕ) (c : Edit) where
   -- page p has the changed record
-  pub after-same : p < length (t .pages) → pageAt (after t p c) p ≡ changed (pageAt t p) c
+  pub after-same : p < length (t .pages) → pageAt (after t (edited t p c)) p ≡ changed (pageAt t p) c
   unfolding after
   after-same h = getD-set-same (t .pages) p (changed (pageAt t p) c) noPageRecord h
 
   -- every other page keeps its own
-  pub after-other : (q : ℕ) → q ≢ p → pageAt (after t p c) q ≡ pageAt t q
+  pub after-other : (q : ℕ) → q ≢ p → pageAt (after t (edited t p c)) q ≡ pageAt t q
   unfolding after
   after-other q d = getD-set-other (t .pages) p q (changed (pageAt t p) c) noPageRecord d

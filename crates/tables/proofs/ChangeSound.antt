@@ -11,12 +11,12 @@ use lib.Seq.{getD-set-same, getD-set-other}
 use borrow.Author.Tests.{eqb-true, ne-eqb}
 use Rattle.tables.specs.declared.Page.{Page}
 use Rattle.tables.specs.declared.Tables.{Tables}
-use Rattle.tables.specs.declared.Change.{Change}
-use Rattle.tables.specs.declared.Change.the-variants.{Kept, Created, Deleted, Granted, Staled, Placed, Added, Removed, Marked}
+use Rattle.tables.specs.declared.Edit.{Edit}
+use Rattle.tables.specs.declared.Edit.the-variants.{Kept, Created, Deleted, Granted, Staled, Placed, Added, Removed, Marked}
 use Rattle.tables.specs.Lists.{count}
 use Rattle.tables.specs.Model.{frames, inUse, absent, freshPage, noPageRecord, pageAt, withPage}
 use Rattle.tables.specs.Rules.{onFrame, uses, free, pageRule, sound}
-use Rattle.tables.specs.Changes.{created, granted, changed, after}
+use Rattle.tables.specs.Changes.{created, granted, changed, edited, after}
 use Rattle.tables.proofs.RuleLaws.{StandingPage, of-standing, fresh-page-ok, Sound, sound-of, of-sound, standing-at}
 use Rattle.tables.proofs.FreshLaws.{fresh-on}
 use Rattle.tables.proofs.UsesLaws.{uses-set}
@@ -66,7 +66,7 @@ module _ (t : Tables) (p : ℕ) (h : p < 64) (s : Sound t) where
           omega arith
 
 -- a change that a step may make keeps the table rules
-pub sound-after : (t : Tables) (p : ℕ) (c : Change) → p < 64 → sound t ≡ true → Allowed t p c → sound (after t p c) ≡ true
+pub sound-after : (t : Tables) (p : ℕ) (c : Edit) → p < 64 → sound t ≡ true → Allowed t p c → sound (after t (edited t p c)) ≡ true
 unfolding after changed
 sound-after t p c h e a = of-sound (withPage t p (changed (pageAt t p) c)) (by c a)
   where
@@ -83,7 +83,7 @@ sound-after t p c h e a = of-sound (withPage t p (changed (pageAt t p) c)) (by c
     has : {k : ℕ} → k < pageAt t p .n → StandingPage (frames t) (pageAt t p)
     has l = up (ne-eqb (pageAt t p .n) 0 (λ z. omega arith))
 
-    by : (c : Change) → Allowed t p c → Sound (withPage t p (changed (pageAt t p) c))
+    by : (c : Edit) → Allowed t p c → Sound (withPage t p (changed (pageAt t p) c))
     by Kept a = fewer t p h s (pageAt t p) (s .page-ok p h) (λ f l. le-refl _)
     by (Created st) a =
         fewer t p h s (created st) (of-standing (created-ok (frames t) st a)) (λ f l. rw (created-on st f (omega (arith, small))) zero-le)

@@ -10,11 +10,11 @@ use borrow.Author.Tests.{leb-true}
 use Rattle.tables.specs.declared.Copy.{Copy}
 use Rattle.tables.specs.declared.Page.{Page}
 use Rattle.tables.specs.declared.Tables.{Tables}
-use Rattle.tables.specs.declared.Change.{Change}
-use Rattle.tables.specs.declared.Change.the-variants.{Kept, Created, Deleted, Granted, Staled, Placed, Added, Removed, Marked}
+use Rattle.tables.specs.declared.Edit.{Edit}
+use Rattle.tables.specs.declared.Edit.the-variants.{Kept, Created, Deleted, Granted, Staled, Placed, Added, Removed, Marked}
 use Rattle.tables.specs.Lists.{all}
 use Rattle.tables.specs.Model.{noCopyEntry, pageAt}
-use Rattle.tables.specs.Changes.{staleCopy, markedCopy, withCopies, changed, after}
+use Rattle.tables.specs.Changes.{staleCopy, markedCopy, withCopies, changed, edited, after}
 use Rattle.tables.specs.Keep.{staysRecent, agree, isMarked, unchanged}
 use Rattle.tables.proofs.ListLaws.{and-left, and-right}
 
@@ -48,7 +48,7 @@ marks-stay cs k b e = go (leb (length cs) k) refl e
         ap (λ (z : Bool). set cs k (markedCopy (getD cs k noCopyEntry) z)) (agree-same (getD cs k noCopyEntry .current) b h)
         ∙ set-getD cs k noCopyEntry
 
-pub unchanged-same : (g : Page) (c : Change) → unchanged g c ≡ true → changed g c ≡ g
+pub unchanged-same : (g : Page) (c : Edit) → unchanged g c ≡ true → changed g c ≡ g
 unfolding changed unchanged
 unchanged-same g Kept e = refl
 unchanged-same g (Created station) e = absurd (false≢true e)
@@ -61,6 +61,6 @@ unchanged-same g (Removed k) e = absurd (false≢true e)
 unchanged-same g (Marked k current) e = ap (withCopies g (g .n)) (marks-stay (g .copies) k current e)
 
 -- the tables are then as they were
-pub unchanged-after : (t : Tables) (p : ℕ) (c : Change) → unchanged (pageAt t p) c ≡ true → after t p c ≡ t
+pub unchanged-after : (t : Tables) (p : ℕ) (c : Edit) → unchanged (pageAt t p) c ≡ true → after t (edited t p c) ≡ t
 unfolding after
 unchanged-after t p c e = rw (unchanged-same (pageAt t p) c e, set-getD (t .pages) p _)

@@ -12,6 +12,10 @@ use Rattle.tables.specs.Lists.{all, count, allBelow}
 -- ---- tests joined
 
 -- the first of two tests that both hold
+pub and-true : (a : Bool) → (a && true) ≡ a
+and-true true = refl
+and-true false = refl
+
 pub and-left : (a b : Bool) → (a && b) ≡ true → a ≡ true
 and-left true b e = refl
 and-left false b e = e

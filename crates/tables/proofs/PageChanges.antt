@@ -10,7 +10,7 @@ use lib.Seq.{getD-set-same, getD-take, length-take-le}
 use borrow.Author.Tests.{le-leb, eqb-false, ne-eqb}
 use Rattle.tables.specs.declared.Copy.{Copy}
 use Rattle.tables.specs.declared.Page.{Page}
-use Rattle.tables.specs.declared.Change.the-variants.{Granted, Staled, Placed, Added, Removed, Marked}
+use Rattle.tables.specs.declared.Edit.the-variants.{Granted, Staled, Placed, Added, Removed, Marked}
 use Rattle.tables.specs.Lists.{all, count}
 use Rattle.tables.specs.Model.{isNull, inUse, freshCopy, noCopyEntry}
 use Rattle.tables.specs.Rules.{onFrame, isFresh, copyRule, isRecent, isCurrent, atMost}

@@ -175,8 +175,8 @@ fresh-page-ok limit = refl
 
 -- the table rules
 pub record Sound (t : Tables) : Type 0 where
-  pub fast-ok : t .fast ≤ 127
-  pub slow-ok : t .slow ≤ 127
+  pub fast-ok : t .shared .p ≤ 127
+  pub slow-ok : t .shared .s ≤ 127
   pub pages-long : length (t .pages) ≡ 64
   pub page-ok : (p : ℕ) → p < 64 → pageRule (frames t) (pageAt t p) ≡ true
   pub once : (f : ℕ) → f < frames t → uses f (t .pages) ≤ 1
@@ -185,13 +185,13 @@ pub record Sound (t : Tables) : Type 0 where
 pub sound-of : (t : Tables) → sound t ≡ true → Sound t
 unfolding sound alone
 sound-of t e =
-    let e₁ = and-right (leb (t .fast) 127) _ e in
-    let e₂ = and-right (leb (t .slow) 127) _ e₁ in
+    let e₁ = and-right (leb (t .shared .p) 127) _ e in
+    let e₂ = and-right (leb (t .shared .s) 127) _ e₁ in
     let e₃ = and-right (eqb (length (t .pages)) 64) _ e₂ in
     let l : length (t .pages) ≡ 64 = eqb-true _ 64 (and-left (eqb (length (t .pages)) 64) _ e₂) in
     record {
-      fast-ok = leb-true (t .fast) 127 (and-left (leb (t .fast) 127) _ e);
-      slow-ok = leb-true (t .slow) 127 (and-left (leb (t .slow) 127) _ e₁);
+      fast-ok = leb-true (t .shared .p) 127 (and-left (leb (t .shared .p) 127) _ e);
+      slow-ok = leb-true (t .shared .s) 127 (and-left (leb (t .shared .s) 127) _ e₁);
       pages-long = l;
       page-ok = λ p h.
           all-at (pageRule (frames t)) (t .pages) p noPageRecord (and-left (all (pageRule (frames t)) (t .pages)) _ e₃) (rw l h);

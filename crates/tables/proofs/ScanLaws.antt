@@ -1,7 +1,7 @@
 -- The one pass over the pages answers what the table rules say.
 use Prim.Native.Nat.{ℕ, zero, suc, _+_, _≤_, _<_}
 use mathlib.Core.Path.{_≡_, refl, sym, ap, _∙_, subst}
-use mathlib.Core.Bool.{Bool, true, false, not, _&&_, cond}
+use mathlib.Core.Bool.{Bool, true, false, not, _&&_, _||_, cond, true≢false, false≢true}
 use mathlib.Core.List.{List, [], _∷_}
 use native.Mathlib.Decide.{ℕ-discrete}
 use native.Mathlib.Nat.{zero-add}
@@ -14,10 +14,10 @@ use Rattle.tables.specs.declared.Copy.{Copy}
 use Rattle.tables.specs.declared.Page.{Page}
 use Rattle.tables.specs.Lists.{all, count}
 use Rattle.tables.specs.Model.{isNull, inUse, absent}
-use Rattle.tables.specs.Rules.{uses, onFrame, isFresh, isRecent, copyRule, atMost, standingRule, absentRule, shaped, pageRule, alone}
-use Rattle.tables.specs.Scan.{noMarks, mark, marks, scanCopies, scanStanding, scanPage, scanPages}
+use Rattle.tables.specs.Rules.{uses, onFrame, isRecent, copyRule, pageRule, alone}
+use Rattle.tables.specs.PrivateMarks.{noMarks, mark, marks, unmarked, scanCopies, scanPage, scanPages}
 use Rattle.tables.proofs.ListLaws.{and-left, and-right, and-intro, iff-eq, bit-le, below-at, below-of}
-use Rattle.tables.proofs.RuleLaws.{good-copy}
+use Rattle.tables.proofs.RuleLaws.{good-copy, StandingPage, standing}
 
 -- ---- the marks
 
@@ -80,162 +80,125 @@ module _ (limit n : ℕ) (low : limit ≤ 254) (seen : List Bool) (k : Clean see
   copy-new : ((f : ℕ) → f < limit → cond (onFrame f c) 1 0 + hit seen f ≤ 1) → getD seen (c .frame) false ≡ false
   copy-new once = go (isNull c) refl
     where
-      unmarked : (b : Bool) → 1 + cond b 1 0 ≤ 1 → b ≡ false
-      unmarked true h = absurd (omega arith)
-      unmarked false h = refl
+      no-mark : (b : Bool) → 1 + cond b 1 0 ≤ 1 → b ≡ false
+      no-mark true h = absurd (omega arith)
+      no-mark false h = refl
 
       go : (b : Bool) → isNull c ≡ b → getD seen (c .frame) false ≡ false
       go true e = rw (null-frame e) (k .null)
       go false e =
-          unmarked (getD seen (c .frame) false)
+          no-mark (getD seen (c .frame) false)
           (rw (eq-eqb (c .frame) (c .frame) refl) at (once (c .frame) (good-copy limit n c ok .placed e)))
 
 -- ---- the copies of a page
 
--- the copies meet their rule, and the marks count them
-record Scanned (limit n : ℕ) (seen : List Bool) (cs : List Copy) : Type 0 where
-  rules : all (copyRule limit n) cs ≡ true
+-- the marks count the copies
+record Scanned (limit : ℕ) (seen : List Bool) (cs : List Copy) : Type 0 where
   hits : (f : ℕ) → f < limit → hit (marks seen cs) f ≡ count (onFrame f) cs + hit seen f
   clean : Clean (marks seen cs)
 
-scanned-none : (limit n : ℕ) (seen : List Bool) → Clean seen → Scanned limit n seen []
-unfolding marks all count
-scanned-none limit n seen k = record { rules = refl; hits = λ f h. sym (zero-add _); clean = k }
-
 module _ (limit n : ℕ) (low : limit ≤ 254) where
-  scanned : (cs : List Copy) (seen : List Bool) → Clean seen → scanCopies limit n seen cs ≡ true → Scanned limit n seen cs
-  unfolding scanCopies marks all count
-  scanned [] seen k e = scanned-none limit n seen k
-  scanned (c ∷ cs) seen k e =
+  scanned : (cs : List Copy) (seen : List Bool) → Clean seen → all (copyRule limit n) cs ≡ true → unmarked seen cs ≡ true → Scanned limit seen cs
+  unfolding unmarked marks all count
+  scanned [] seen k e u = record { hits = λ f h. sym (zero-add _); clean = k }
+  scanned (c ∷ cs) seen k e u =
       let ok : copyRule limit n c ≡ true = and-left (copyRule limit n c) _ e in
-      let e₂ = and-right (copyRule limit n c) _ e in
-      let new : getD seen (c .frame) false ≡ false = not-true (getD seen (c .frame) false) (and-left (not (getD seen (c .frame) false)) _ e₂) in
-      let r : Scanned limit n (mark seen (c .frame)) cs =
-      scanned cs (mark seen (c .frame)) (copy-clean limit n low seen k c ok) (and-right (not (getD seen (c .frame) false)) _ e₂) in
+      let new : getD seen (c .frame) false ≡ false = not-true (getD seen (c .frame) false) (and-left (not (getD seen (c .frame) false)) _ u) in
+      let r : Scanned limit (mark seen (c .frame)) cs =
+      scanned cs (mark seen (c .frame)) (copy-clean limit n low seen k c ok) (and-right (copyRule limit n c) _ e)
+      (and-right (not (getD seen (c .frame) false)) _ u) in
       record {
-        rules = and-intro ok (r .rules);
         hits = λ f h. let a = r .hits f h in let b = copy-hit limit n low seen k c ok new f h in omega arith;
         clean = r .clean;
       }
 
-  scan-of : (cs : List Copy) (seen : List Bool) → Clean seen → all (copyRule limit n) cs ≡ true
-      → ((f : ℕ) → f < limit → count (onFrame f) cs + hit seen f ≤ 1) → scanCopies limit n seen cs ≡ true
-  unfolding scanCopies all count
-  scan-of [] seen k e once = refl
-  scan-of (c ∷ cs) seen k e once =
+  unmarked-of : (cs : List Copy) (seen : List Bool) → Clean seen → all (copyRule limit n) cs ≡ true
+      → ((f : ℕ) → f < limit → count (onFrame f) cs + hit seen f ≤ 1) → unmarked seen cs ≡ true
+  unfolding unmarked all count
+  unmarked-of [] seen k e once = refl
+  unmarked-of (c ∷ cs) seen k e once =
       let ok : copyRule limit n c ≡ true = and-left (copyRule limit n c) _ e in
       let new : getD seen (c .frame) false ≡ false = copy-new limit n low seen k c ok (λ f h. let o = once f h in omega arith) in
-      and-intro ok (and-intro (ap not new)
-      (scan-of cs (mark seen (c .frame)) (copy-clean limit n low seen k c ok) (and-right (copyRule limit n c) _ e)
-      (λ f h. let a = copy-hit limit n low seen k c ok new f h in let o = once f h in omega arith)))
+      and-intro (ap not new)
+      (unmarked-of cs (mark seen (c .frame)) (copy-clean limit n low seen k c ok) (and-right (copyRule limit n c) _ e)
+      (λ f h. let a = copy-hit limit n low seen k c ok new f h in let o = once f h in omega arith))
 
--- ---- a page, and all pages
+-- what the pass over the copies answers
+regroup : (r u a m q : Bool) → (r && (u && (a && (m && q)))) ≡ ((r && a) && ((u && m) && q))
+regroup false u a m q = refl
+regroup true false false m q = refl
+regroup true false true m q = refl
+regroup true true false m q = refl
+regroup true true true m q = refl
 
--- a part of a chain of tests replaced by another
-swap : (a b c d x y : Bool) → (x ≡ true → y ≡ true) → (a && (b && (c && (x && d)))) ≡ true → (a && (b && (c && (y && d)))) ≡ true
-swap a b c d x y h e =
-    let e₁ = and-right a _ e in
-    let e₂ = and-right b _ e₁ in
-    let e₃ = and-right c _ e₂ in
-    and-intro (and-left a _ e) (and-intro (and-left b _ e₁) (and-intro (and-left c _ e₂) (and-intro (h (and-left x _ e₃)) (and-right x _ e₃))))
+some-recent : (before own : Bool) (later : ℕ) → ((before || own) || leb 1 later) ≡ (before || leb 1 (cond own 1 0 + later))
+some-recent true own later = refl
+some-recent false true later = sym (le-leb 1 (1 + later) (omega arith))
+some-recent false false later = ap (leb 1) (sym (zero-add later))
 
--- the part itself
-fourth : (a b c d x : Bool) → (a && (b && (c && (x && d)))) ≡ true → x ≡ true
-fourth a b c d x e = and-left x d (and-right c _ (and-right b _ (and-right a _ e)))
+pub scan-copies : (limit n : ℕ) (cs : List Copy) (seen : List Bool) (before : Bool)
+    → scanCopies limit n seen before cs
+    ≡ (all (copyRule limit n) cs && (unmarked seen cs && (before || leb 1 (count isRecent cs))))
+unfolding scanCopies unmarked all count
+scan-copies limit n [] seen true = refl
+scan-copies limit n [] seen false = refl
+scan-copies limit n (c ∷ cs) seen before =
+    rw (scan-copies limit n cs (mark seen (c .frame)) (before || c .recent), some-recent before (c .recent) (count isRecent cs))
+    (regroup (copyRule limit n c) (not (getD seen (c .frame) false)) (all (copyRule limit n) cs) (unmarked (mark seen (c .frame)) cs)
+    (before || leb 1 (cond (c .recent) 1 0 + count isRecent cs)))
 
--- the page meets its rule, and the marks count its copies
-record ScannedPage (limit : ℕ) (seen : List Bool) (g : Page) : Type 0 where
-  rule : pageRule limit g ≡ true
-  hits : (f : ℕ) → f < limit → hit (marks seen (inUse g)) f ≡ count (onFrame f) (inUse g) + hit seen f
-  clean : Clean (marks seen (inUse g))
+-- with d for the unused entries: the rule of a standing page ends in a, d and q, and m is that its frames had no mark
+pub scan-fails : (a m q d : Bool) → (a && (m && q)) ≡ false → ((a && (d && q)) && m) ≡ false
+scan-fails false m q d e = refl
+scan-fails true false q false e = refl
+scan-fails true false false true e = refl
+scan-fails true false true true e = refl
+scan-fails true true false false e = refl
+scan-fails true true false true e = refl
+scan-fails true true true d e = absurd (true≢false e)
 
-module _ (limit : ℕ) (seen : List Bool) (g : Page) where
-  abbrev owner-right : Bool
-  owner-right = leb (g .owner) 15
+pub scan-passes : (a m q d : Bool) → (a && (m && q)) ≡ true → ((a && (d && q)) && m) ≡ d
+scan-passes false m q d e = absurd (false≢true e)
+scan-passes true false q d e = absurd (false≢true e)
+scan-passes true true false d e = absurd (false≢true e)
+scan-passes true true true false e = refl
+scan-passes true true true true e = refl
 
-  abbrev rights-right : Bool
-  rights-right = all (atMost 2) (g .rights)
-
-  abbrev rest-right : Bool
-  rest-right = all isFresh (drop (g .n) (g .copies)) && leb 1 (count isRecent (inUse g))
-
-  abbrev copies-right : Bool
-  copies-right = all (copyRule limit (g .n)) (inUse g)
-
-  abbrev copies-scan : Bool
-  copies-scan = scanCopies limit (g .n) seen (inUse g)
-
-  to-rule : scanStanding limit seen g ≡ true → copies-right ≡ true → standingRule limit g ≡ true
-  unfolding scanStanding standingRule
-  to-rule e h = swap owner-right rights-right (leb (g .n) 8) rest-right copies-scan copies-right (λ z. h) e
-
-  of-rule : standingRule limit g ≡ true → (copies-right ≡ true → copies-scan ≡ true) → scanStanding limit seen g ≡ true
-  unfolding scanStanding standingRule
-  of-rule e h = swap owner-right rights-right (leb (g .n) 8) rest-right copies-right copies-scan h e
-
-  copies-of : scanStanding limit seen g ≡ true → copies-scan ≡ true
-  unfolding scanStanding
-  copies-of e = fourth owner-right rights-right (leb (g .n) 8) rest-right copies-scan e
+-- ---- all pages
 
 module _ (limit : ℕ) (low : limit ≤ 254) where
-  none-in-use : (g : Page) → absent g ≡ true → inUse g ≡ []
-  none-in-use g e = ap (λ (n : ℕ). take n (g .copies)) (eqb-true (g .n) 0 e)
-
-  scanned-page : (g : Page) (seen : List Bool) → Clean seen → scanPage limit seen g ≡ true → ScannedPage limit seen g
-  unfolding scanPage pageRule
-  scanned-page g seen k e = go (absent g) refl
+  copies-ruled : (g : Page) → pageRule limit g ≡ true → all (copyRule limit (g .n)) (inUse g) ≡ true
+  unfolding all
+  copies-ruled g e = go (absent g) refl
     where
-      body : (b : Bool) → absent g ≡ b → cond b (absentRule g) (scanStanding limit seen g) ≡ true
-      body b q = ap (λ (z : Bool). cond z (absentRule g) (scanStanding limit seen g)) (sym q) ∙ and-right (shaped g) _ e
+      go : (b : Bool) → absent g ≡ b → all (copyRule limit (g .n)) (inUse g) ≡ true
+      go true q = rw (ap (λ (n : ℕ). take n (g .copies)) (eqb-true (g .n) 0 q))
+      go false q = standing limit g e q .copies-ok
 
-      page : (b : Bool) → absent g ≡ b → cond b (absentRule g) (standingRule limit g) ≡ true → Scanned limit (g .n) seen (inUse g)
-          → ScannedPage limit seen g
-      page b q h r =
-          record {
-            rule = and-intro (and-left (shaped g) _ e) (ap (λ (z : Bool). cond z (absentRule g) (standingRule limit g)) q ∙ h);
-            hits = r .hits;
-            clean = r .clean;
-          }
-
-      go : (b : Bool) → absent g ≡ b → ScannedPage limit seen g
-      go true q =
-          page true q (body true q)
-          (subst (λ (cs : List Copy). Scanned limit (g .n) seen cs) (sym (none-in-use g q)) (scanned-none limit (g .n) seen k))
-      go false q =
-          let r = scanned limit (g .n) low (inUse g) seen k (copies-of limit seen g (body false q)) in
-          page false q (to-rule limit seen g (body false q) (r .rules)) r
-
-  page-of : (g : Page) (seen : List Bool) → Clean seen → pageRule limit g ≡ true
-      → ((f : ℕ) → f < limit → count (onFrame f) (inUse g) + hit seen f ≤ 1) → scanPage limit seen g ≡ true
-  unfolding scanPage pageRule
-  page-of g seen k e once = and-intro (and-left (shaped g) _ e) (go (absent g) refl)
-    where
-      body : (b : Bool) → absent g ≡ b → cond b (absentRule g) (standingRule limit g) ≡ true
-      body b q = ap (λ (z : Bool). cond z (absentRule g) (standingRule limit g)) (sym q) ∙ and-right (shaped g) _ e
-
-      go : (b : Bool) → absent g ≡ b → cond (absent g) (absentRule g) (scanStanding limit seen g) ≡ true
-      go true q = ap (λ (z : Bool). cond z (absentRule g) (scanStanding limit seen g)) q ∙ body true q
-      go false q =
-          ap (λ (z : Bool). cond z (absentRule g) (scanStanding limit seen g)) q
-          ∙ of-rule limit seen g (body false q) (λ z. scan-of limit (g .n) low (inUse g) seen k z once)
+  scanned-page : (g : Page) (seen : List Bool) → Clean seen → scanPage limit seen g ≡ true → Scanned limit seen (inUse g)
+  scanned-page g seen k e =
+      scanned limit (g .n) low (inUse g) seen k (copies-ruled g (and-left (pageRule limit g) _ e)) (and-right (pageRule limit g) _ e)
 
   scanned-pages : (gs : List Page) (seen : List Bool) → Clean seen → scanPages limit seen gs ≡ true
       → (all (pageRule limit) gs ≡ true) × ((f : ℕ) → f < limit → uses f gs + hit seen f ≤ 1)
   unfolding scanPages all uses
   scanned-pages [] seen k e = (refl, λ f h. let b = bit-le (getD seen f false) in omega arith)
   scanned-pages (g ∷ gs) seen k e =
-      let r : ScannedPage limit seen g = scanned-page g seen k (and-left (scanPage limit seen g) _ e) in
+      let one : scanPage limit seen g ≡ true = and-left (scanPage limit seen g) _ e in
+      let r : Scanned limit seen (inUse g) = scanned-page g seen k one in
       let rest = scanned-pages gs (marks seen (inUse g)) (r .clean) (and-right (scanPage limit seen g) _ e) in
-      (and-intro (r .rule) (rest .0), λ f h. let a = r .hits f h in let b = rest .1 f h in omega arith)
+      (and-intro (and-left (pageRule limit g) _ one) (rest .0), λ f h. let a = r .hits f h in let b = rest .1 f h in omega arith)
 
   pages-of : (gs : List Page) (seen : List Bool) → Clean seen → all (pageRule limit) gs ≡ true
       → ((f : ℕ) → f < limit → uses f gs + hit seen f ≤ 1) → scanPages limit seen gs ≡ true
   unfolding scanPages all uses
   pages-of [] seen k e once = refl
   pages-of (g ∷ gs) seen k e once =
+      let ruled : pageRule limit g ≡ true = and-left (pageRule limit g) _ e in
       let s : scanPage limit seen g ≡ true =
-      page-of g seen k (and-left (pageRule limit g) _ e) (λ f h. let o = once f h in omega arith) in
-      let r : ScannedPage limit seen g = scanned-page g seen k s in
+      and-intro ruled
+      (unmarked-of limit (g .n) low (inUse g) seen k (copies-ruled g ruled) (λ f h. let o = once f h in omega arith)) in
+      let r : Scanned limit seen (inUse g) = scanned-page g seen k s in
       and-intro s
       (pages-of gs (marks seen (inUse g)) (r .clean) (and-right (pageRule limit g) _ e)
       (λ f h. let a = r .hits f h in let o = once f h in omega arith))

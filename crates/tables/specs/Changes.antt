@@ -8,7 +8,8 @@ use Rattle.tables.specs.declared.Copy.{Copy}
 use Rattle.tables.specs.declared.Page.{Page}
 use Rattle.tables.specs.declared.Tables.{Tables}
 use Rattle.tables.specs.declared.Change.{Change}
-use Rattle.tables.specs.declared.Change.the-variants.{Kept, Created, Deleted, Granted, Staled, Placed, Added, Removed, Marked}
+use Rattle.tables.specs.declared.Edit.{Edit}
+use Rattle.tables.specs.declared.Edit.the-variants.{Kept, Created, Deleted, Granted, Staled, Placed, Added, Removed, Marked}
 use Rattle.tables.specs.Model.{freshCopy, freshPage, noCopyEntry, pageAt, withPage}
 
 -- step 1: "the page stands with one null copy; the station is owner with right 2, others 0". The null copy is recent
@@ -52,8 +53,8 @@ closeGap (c ∷ cs) (suc k) = c ∷ closeGap cs k
 abbrev pub markedCopy : Copy → Bool → Copy
 markedCopy c current = record { frame = c .frame; current = current; recent = c .recent }
 
--- the record of a page after a change
-unfoldable pub changed : Page → Change → Page
+-- the record of a page after an edit
+unfoldable pub changed : Page → Edit → Page
 changed g Kept = g
 changed g (Created station) = created station
 changed g Deleted = freshPage
@@ -64,6 +65,10 @@ changed g (Added frame recent) = withCopy g (newCopy frame recent)
 changed g (Removed k) = withCopies g (g .n - 1) (closeGap (g .copies) k)
 changed g (Marked k current) = withCopies g (g .n) (set (g .copies) k (markedCopy (getD (g .copies) k noCopyEntry) current))
 
+-- a change of the tables: the record of page p edited
+abbrev pub edited : Tables → ℕ → Edit → Change
+edited t p e = record { page = p; becomes = changed (pageAt t p) e }
+
 -- "Each change of the tables takes them and gives back the new ones."
-unfoldable pub after : Tables → ℕ → Change → Tables
-after t p change = withPage t p (changed (pageAt t p) change)
+unfoldable pub after : Tables → Change → Tables
+after t change = withPage t (change .page) (change .becomes)

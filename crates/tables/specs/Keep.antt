@@ -1,5 +1,5 @@
--- Where the code need not put a record back, since the change leaves it as it is.
--- Nothing here has to be believed: `unchanged-same` proves that such a change does leave it.
+-- Where the code need not put a record back, since the edit is seen at a glance to leave it as it is.
+-- Nothing here has to be believed: `unchanged-same` proves that such an edit does leave it.
 use Prim.Native.Nat.{ℕ}
 use mathlib.Core.Bool.{Bool, true, false, not, _&&_, _||_}
 use mathlib.Core.List.{List}
@@ -7,8 +7,8 @@ use lib.ListN.{length, getD}
 use lib.Dec.{leb}
 use Rattle.tables.specs.declared.Copy.{Copy}
 use Rattle.tables.specs.declared.Page.{Page}
-use Rattle.tables.specs.declared.Change.{Change}
-use Rattle.tables.specs.declared.Change.the-variants.{Kept, Created, Deleted, Granted, Staled, Placed, Added, Removed, Marked}
+use Rattle.tables.specs.declared.Edit.{Edit}
+use Rattle.tables.specs.declared.Edit.the-variants.{Kept, Created, Deleted, Granted, Staled, Placed, Added, Removed, Marked}
 use Rattle.tables.specs.Lists.{all}
 use Rattle.tables.specs.Model.{noCopyEntry}
 
@@ -22,7 +22,7 @@ abbrev pub isMarked : List Copy → ℕ → Bool → Bool
 isMarked cs k current = leb (length cs) k || agree (getD cs k noCopyEntry .current) current
 
 -- whether the code may leave the record where it is
-unfoldable pub unchanged : Page → Change → Bool
+unfoldable pub unchanged : Page → Edit → Bool
 unchanged g Kept = true
 unchanged g (Created station) = false
 unchanged g Deleted = false

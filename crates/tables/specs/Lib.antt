@@ -5,4 +5,4 @@ pub mod Rules
 pub mod Search
 pub mod Changes
 pub mod Keep
-pub mod Scan
+pub mod PrivateMarks

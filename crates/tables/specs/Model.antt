@@ -6,13 +6,14 @@ use lib.ListN.{replicate, getD, set, take}
 use lib.Dec.{leb, eqb}
 use Rattle.tables.specs.declared.Copy.{Copy}
 use Rattle.tables.specs.declared.Page.{Page}
+use Rattle.tables.specs.declared.Shared.{Shared}
 use Rattle.tables.specs.declared.Tables.{Tables}
 use Rattle.tables.specs.declared.Made.{Made}
 use Rattle.tables.specs.Numbers.{accepted, tooManyFrames}
 
 -- "P fast frames and S slow frames .. numbered 0 to P+S-1"
 abbrev pub frames : Tables → ℕ
-frames t = t .fast + t .slow
+frames t = t .shared .p + t .shared .s
 
 -- "A copy has a frame, or none (a null copy)": 255 stands for none
 abbrev pub isNull : Copy → Bool
@@ -36,8 +37,12 @@ freshCopy = record { frame = 255; current = false; recent = false }
 unfoldable pub freshPage : Page
 freshPage = record { rights = replicate 16 0; copies = replicate 8 freshCopy; owner = 0; n = 0 }
 
+-- "P fast frames and S slow frames"
+abbrev pub sized : ℕ → ℕ → Shared
+sized p s = record { p = p; s = s }
+
 unfoldable pub freshTables : ℕ → ℕ → Tables
-freshTables p s = record { fast = p; slow = s; pages = replicate 64 freshPage }
+freshTables p s = record { shared = sized p s; pages = replicate 64 freshPage }
 
 -- 19: "fresh with P or S above 127; returns fresh tables with P = S = 0"
 abbrev pub made : ℕ → ℕ → Made
@@ -59,4 +64,4 @@ pageAt t p = getD (t .pages) p noPageRecord
 
 -- the tables with g as the record of page p
 abbrev pub withPage : Tables → ℕ → Page → Tables
-withPage t p g = record { fast = t .fast; slow = t .slow; pages = set (t .pages) p g }
+withPage t p g = record { shared = t .shared; pages = set (t .pages) p g }

@@ -66,5 +66,5 @@ alone limit gs = allBelow limit (λ f. leb (uses f gs) 1)
 -- the table rules: "P and S in range", "Pages 0 to 63", each page's, and those on frames
 unfoldable pub sound : Tables → Bool
 sound t =
-    leb (t .fast) 127 && (leb (t .slow) 127 && (eqb (length (t .pages)) 64
+    leb (t .shared .p) 127 && (leb (t .shared .s) 127 && (eqb (length (t .pages)) 64
     && (all (pageRule (frames t)) (t .pages) && alone (frames t) (t .pages))))

@@ -32,3 +32,8 @@ shown Free = 0 ∷ 255 ∷ 255 ∷ []
 abbrev pub isFree : Holder → Bool
 isFree (At p c) = false
 isFree Free = true
+
+-- the number of the first of some copies, numbered from j on, that is on frame f; 8 where none is
+unfoldable pub copyOn : ℕ → ℕ → List Copy → ℕ
+copyOn f j [] = 8
+copyOn f j (c ∷ cs) = cond (onFrame f c) j (copyOn f (j + 1) cs)

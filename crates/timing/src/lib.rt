@@ -6,7 +6,7 @@ use messages::Next;
 use messages::Ran;
 use messages::Tally;
 use messages::answer;
-use messages::read_turn;
+use messages::message_at;
 use messages::tally_after;
 use tables::Tables;
 ghost use mathlib.Core.Path.{_≡_};
@@ -31,7 +31,7 @@ fn answers(
 {
     let mut at = 0;
     loop {
-        match read_turn(file, at) {
+        match message_at(file, at) {
             Next::Message { next, .. } => {
                 let a = answer(tables, fast, slow, &file[at..], out);
                 tables = a.tables;

@@ -31,8 +31,8 @@ enum-told-7 c = search needs
 enum-told-8 : tie.Need-enum-told-8
 enum-told-8 c = search needs
 
-enum-known-change : tie.Need-enum-known-change
-enum-known-change c = search needs
+enum-known-edit : tie.Need-enum-known-edit
+enum-known-edit c = search needs
 
 is-marked-requires : tie.Need-is-marked-requires
 is-marked-requires c κs = search needs
@@ -86,7 +86,7 @@ keeps-spec =
     enum-told-6
     enum-told-7
     enum-told-8
-    enum-known-change
+    enum-known-edit
     is-marked-requires
     returns
     returns-2

@@ -1,6 +1,6 @@
--- `Tables::after` changes one page; a number with no page changes nothing.
+-- `Tables::after` replaces one record; a number with no page changes nothing.
 use Prim.Native.Nat.{_≤_}
-use mathlib.Core.Path.{_≡_}
+use mathlib.Core.Path.{_≡_, refl}
 use native.Mathlib.Omega.{arith}
 use lib.Seq.{set-out}
 use lib.ListN.{length, length-map}
@@ -9,34 +9,26 @@ use Rattle.tables.specs.Changes.{after}
 use Rattle.tables.proofs.Tables.after.Statement.{statement}
 use Rattle.tables.proofs.Tables.after.Tie as tie
 
+cast-p : tie.Need-cast-p
+cast-p c = search needs
+
 mul-g : tie.Need-mul-g
 mul-g c = search needs
 
-element-copy-out-g : tie.Need-element-copy-out-g
-element-copy-out-g c = search needs
-
-after-requires : tie.Need-after-requires
-after-requires c κs = search needs
-
-mul-h : tie.Need-mul-h
-mul-h c = search needs
-
-element-set-from-h : tie.Need-element-set-from-h
-element-set-from-h c = search needs
+element-set-from-g : tie.Need-element-set-from-g
+element-set-from-g c = search needs
 
 returns : tie.Need-returns
 unfolding after
-returns c = rw (c .after .ensures)
+returns c = refl
 
 returns-2 : tie.Need-returns-2
 unfolding after
 returns-2 c =
-    let t = c .before .args .t1 in
-    let l : length (t .pages) ≡ 64 = simp length-map at (c .before .good .0 .1 .1 .1 .1 .0 .1 .0 .1) in
-    let h : length (t .pages) ≤ c .before .args .page = omega arith in
-    rw (set-out (t .pages) (c .before .args .page) _)
+    let t = c .before .before .before .args .t1 in
+    let l : length (t .pages) ≡ 64 = simp length-map at (c .before .before .before .good .0 .1 .1 .1 .0 .1 .0 .1) in
+    let h : length (t .pages) ≤ c .before .before .before .args .change .page = omega arith in
+    rw (set-out (t .pages) (c .before .before .before .args .change .page) _)
 
 pub after-spec : {M : Type 1} → statement M
-after-spec =
-    tie.close
-    (tie.spec mul-g element-copy-out-g after-requires mul-h element-set-from-h returns returns-2)
+after-spec = tie.close (tie.spec cast-p mul-g element-set-from-g returns returns-2)

@@ -41,7 +41,7 @@ unfolding inPages
 loop-holds c =
     let t = c .before .before .before .before .args .t1 in
     let i = c .before .before .before .pages .i in
-    let l : length (t .pages) ≡ 64 = simp length-map at (c .before .before .before .before .good .0 .1 .1 .1 .1 .0 .1 .0 .1) in (
+    let l : length (t .pages) ≡ 64 = simp length-map at (c .before .before .before .before .good .0 .1 .1 .1 .0 .1 .0 .1) in (
       omega arith,
       c .in-use .ensures .0,
       c .in-use .ensures .1,
@@ -101,7 +101,7 @@ returns : tie.Need-returns Inv-loop μ-loop Inv-pages μ-pages
 unfolding inPages
 returns c =
     let t = c .before .before .args .t1 in
-    let l : length (t .pages) ≡ 64 = simp length-map at (c .before .before .good .0 .1 .1 .1 .1 .0 .1 .0 .1) in
+    let l : length (t .pages) ≡ 64 = simp length-map at (c .before .before .good .0 .1 .1 .1 .0 .1 .0 .1) in
     sym (c .before .pages .inv .1 ∙ rw (drop-end (t .pages) (c .before .pages .i) (omega arith)))
 
 returns-2 : tie.Need-returns-2 Inv-loop μ-loop Inv-pages μ-pages

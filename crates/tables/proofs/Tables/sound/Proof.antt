@@ -7,7 +7,7 @@ use lib.ListN.{length, length-map, drop}
 use borrow.Author.Tests.{not-true, not-false, eq-eqb, le-leb, lt-leb}
 use borrow.Author.Needs.{needs}
 use Rattle.tables.specs.Rules.{sound}
-use Rattle.tables.specs.Scan.{noMarks, scanPages}
+use Rattle.tables.specs.PrivateMarks.{noMarks, scanPages}
 use Rattle.tables.proofs.ScanLaws.{scan-rules}
 use Rattle.tables.proofs.Loops.{drop-more, drop-end}
 use Rattle.tables.specs.Model.{noPageRecord}
@@ -16,7 +16,7 @@ use Rattle.tables.proofs.Tables.sound.Tie as tie
 
 abbrev Inv-loop : tie.InvT-loop
 Inv-loop self fast slow limit seen₀ i₀ seen i =
-    (i ≤ 64) × (limit ≡ self .fast + self .slow) × (limit ≤ 254)
+    (i ≤ 64) × (limit ≡ self .shared .p + self .shared .s) × (limit ≤ 254)
     × (scanPages limit noMarks (self .pages) ≡ scanPages limit seen (drop i (self .pages)))
 
 abbrev μ-loop : tie.MeasureT-loop
@@ -50,14 +50,14 @@ returns-3 : tie.Need-returns-3 Inv-loop μ-loop
 unfolding sound scanPages
 returns-3 c =
     let t = c .before .before .before .before .before .before .before .before .args .t1 in
-    let l : length (t .pages) ≡ 64 = simp length-map at (c .before .before .before .before .before .before .before .before .good .0 .1 .1 .1 .1 .0 .1 .0 .1) in
+    let l : length (t .pages) ≡ 64 = simp length-map at (c .before .before .before .before .before .before .before .before .good .0 .1 .1 .1 .0 .1 .0 .1) in
     let v = c .before .before .before .before .before .loop .inv in
     let i = c .before .before .before .before .before .loop .i in
     let e = sym (c .before .page-ok .ensures .0) ∙ not-true _ (c .if3 .taken) in
-    let z : scanPages (t .fast + t .slow) noMarks (t .pages) ≡ false = v .3 ∙ rw (drop-more (t .pages) i noPageRecord (omega arith), e) in
+    let z : scanPages (t .shared .p + t .shared .s) noMarks (t .pages) ≡ false = v .3 ∙ rw (drop-more (t .pages) i noPageRecord (omega arith), e) in
     sym
     (rw (le-leb _ _ (c .before .before .before .before .before .before .before .if1 .left), le-leb _ _ (c .before .before .before .before .before .before .if2 .left), eq-eqb _ _ l)
-    (sym (scan-rules (t .fast + t .slow) (v .2) (t .pages)) ∙ z))
+    (sym (scan-rules (t .shared .p + t .shared .s) (v .2) (t .pages)) ∙ z))
 
 add-i : tie.Need-add-i Inv-loop μ-loop
 add-i c = search needs
@@ -69,7 +69,7 @@ loop-again : tie.Need-loop-again Inv-loop μ-loop
 unfolding scanPages
 loop-again c =
     let t = c .before .before .before .before .before .before .before .before .args .t1 in
-    let l : length (t .pages) ≡ 64 = simp length-map at (c .before .before .before .before .before .before .before .before .good .0 .1 .1 .1 .1 .0 .1 .0 .1) in
+    let l : length (t .pages) ≡ 64 = simp length-map at (c .before .before .before .before .before .before .before .before .good .0 .1 .1 .1 .0 .1 .0 .1) in
     let v = c .before .before .before .before .before .loop .inv in
     let i = c .before .before .before .before .before .loop .i in
     let r = not-false _ (c .if3 .left) in
@@ -84,12 +84,12 @@ returns-4 : tie.Need-returns-4 Inv-loop μ-loop
 unfolding sound scanPages
 returns-4 c =
     let t = c .before .before .before .before .args .t1 in
-    let l : length (t .pages) ≡ 64 = simp length-map at (c .before .before .before .before .good .0 .1 .1 .1 .1 .0 .1 .0 .1) in
+    let l : length (t .pages) ≡ 64 = simp length-map at (c .before .before .before .before .good .0 .1 .1 .1 .0 .1 .0 .1) in
     let v = c .before .loop .inv in
-    let z : scanPages (t .fast + t .slow) noMarks (t .pages) ≡ true = v .3 ∙ rw (drop-end (t .pages) (c .before .loop .i) (omega arith)) in
+    let z : scanPages (t .shared .p + t .shared .s) noMarks (t .pages) ≡ true = v .3 ∙ rw (drop-end (t .pages) (c .before .loop .i) (omega arith)) in
     sym
     (rw (le-leb _ _ (c .before .before .before .if1 .left), le-leb _ _ (c .before .before .if2 .left), eq-eqb _ _ l)
-    (sym (scan-rules (t .fast + t .slow) (v .2) (t .pages)) ∙ z))
+    (sym (scan-rules (t .shared .p + t .shared .s) (v .2) (t .pages)) ∙ z))
 
 pub sound-spec : {M : Type 1} → statement M
 sound-spec =

@@ -1,0 +1,48 @@
+// The reader over a call file.
+use crate::Next;
+use crate::Reader;
+
+// What stands at a place of the file.
+pub fn next_at(file: &[u8], at: usize) -> Next
+    ensures { λ r. ⌜ r ≡ nextAt (now (file .entry)) at ⌝ }
+{
+    let end = file.len();
+    if at >= end {
+        return Next::End;
+    }
+    let left = end - at;
+    if left < 2 {
+        return Next::Cut;
+    }
+    let len = (file[at] as usize) * 256 + (file[at + 1] as usize);
+    if left - 2 < len {
+        return Next::Cut;
+    }
+    let start = at + 2;
+    Next::Message {
+        start: start,
+        len: len,
+        next: start + len,
+    }
+}
+
+// A reader at a place of the file.
+pub fn open<'a>(file: &'a [u8], at: usize) -> Reader<'a>
+    ensures { λ r. ⌜ (r .file ≡ file .entry) × (r .at ≡ at) ⌝ }
+{
+    Reader { file, at }
+}
+
+// What the reader yields at its place.
+pub fn next_message<'a>(r: Reader<'a>) -> Next
+    ensures { λ x. ⌜ x ≡ nextAt (now (r .entry .file)) (r .entry .at) ⌝ }
+{
+    next_at(r.file, r.at)
+}
+
+// The same without a reader: whoever calls this holds none.
+pub fn message_at(file: &[u8], at: usize) -> Next
+    ensures { λ r. ⌜ r ≡ nextAt (now (file .entry)) at ⌝ }
+{
+    next_message(open(file, at))
+}

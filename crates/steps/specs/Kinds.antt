@@ -1,0 +1,95 @@
+-- Document 01, "The steps": what each kind of call names. One row a kind: the lengths of its messages, its arguments and what it is
+-- tested for follow from it.
+use Prim.Native.Nat.{ℕ, _+_, _-_}
+use mathlib.Core.Bool.{Bool, true, false, _||_, cond}
+use mathlib.Core.List.{List, [], _∷_}
+use lib.ListN.{length, getD}
+use lib.Dec.{eqb}
+use Rattle.steps.specs.declared.Kind.{Kind}
+use Rattle.steps.specs.declared.Kind.the-variants.{Create, DeletePage, Grant, Read, Write, MakeCopy, DeleteCopy, SetCurrent, RemoveCurrent, LookPage, LookFrame}
+use Rattle.steps.specs.declared.Call.{Call}
+
+-- what a call may name; `other` is the other station of a grant, and `bytes` are a write's
+pub data Name : Type 0 where
+  station : Name
+  page : Name
+  other : Name
+  right : Name
+  offset : Name
+  count : Name
+  bytes : Name
+  copy : Name
+  frame : Name
+
+-- "create (station, page)" and so on, in the order of the arguments
+unfoldable pub names : Kind → List Name
+names Create = station ∷ page ∷ []
+names DeletePage = station ∷ page ∷ []
+names Grant = station ∷ page ∷ other ∷ right ∷ []
+names Read = station ∷ page ∷ offset ∷ count ∷ []
+names Write = station ∷ page ∷ offset ∷ bytes ∷ []
+names MakeCopy = page ∷ copy ∷ frame ∷ []
+names DeleteCopy = page ∷ copy ∷ []
+names SetCurrent = page ∷ copy ∷ []
+names RemoveCurrent = page ∷ copy ∷ []
+names LookPage = page ∷ []
+names LookFrame = frame ∷ []
+
+-- "a kind byte 1 to 11 as numbered above"
+unfoldable pub kinds : List Kind
+kinds =
+    Create ∷ DeletePage ∷ Grant ∷ Read ∷ Write ∷ MakeCopy ∷ DeleteCopy ∷ SetCurrent ∷ RemoveCurrent ∷ LookPage ∷ LookFrame ∷ []
+
+abbrev pub kindOf : ℕ → Kind
+kindOf number = getD kinds (number - 1) Create
+
+-- ---- what follows
+
+unfoldable pub code : Name → ℕ
+code station = 0
+code page = 1
+code other = 2
+code right = 3
+code offset = 4
+code count = 5
+code bytes = 6
+code copy = 7
+code frame = 8
+
+abbrev pub same : Name → Name → Bool
+same x y = eqb (code x) (code y)
+
+unfoldable pub among : Name → List Name → Bool
+among x [] = false
+among x (y ∷ ys) = same x y || among x ys
+
+-- whether calls of kind k name an x
+abbrev pub has : Name → Kind → Bool
+has x k = among x (names k)
+
+-- "So L is ..": the version, the kind, and a byte for each argument; "write ends with 1 to 64 bytes"
+abbrev pub leastLength : Kind → ℕ
+leastLength k = 2 + length (names k)
+
+abbrev pub mostLength : Kind → ℕ
+mostLength k = leastLength k + cond (has bytes k) 63 0
+
+-- "then the arguments in the order above, one byte each": the argument x among the bytes bs from index i on; 0 where there is none
+unfoldable pub argument : Name → ℕ → List Name → List ℕ → ℕ
+argument x i [] bs = 0
+argument x i (y ∷ ys) bs = cond (same x y) (getD bs i 0) (argument x (i + 1) ys bs)
+
+-- the call of kind k with the arguments bs
+unfoldable pub callOf : Kind → List ℕ → Call
+callOf k bs =
+    record {
+      kind = k;
+      station = argument station 0 (names k) bs;
+      page = argument page 0 (names k) bs;
+      other = argument other 0 (names k) bs;
+      right = argument right 0 (names k) bs;
+      offset = argument offset 0 (names k) bs;
+      count = argument count 0 (names k) bs;
+      copy = argument copy 0 (names k) bs;
+      frame = argument frame 0 (names k) bs;
+    }

@@ -1,0 +1,266 @@
+// What a call comes to, decided from the tables, the call and the number of a write's bytes: no store is needed.
+use crate::ACCEPTED;
+use crate::BROKEN_TABLES;
+use crate::Call;
+use crate::Decision;
+use crate::Kind;
+use crate::MISFIT_STORE;
+use crate::OUT_OF_RANGE;
+use crate::Verdict;
+use crate::View;
+use crate::Work;
+use crate::access::read_page;
+use crate::access::write_page;
+use crate::copies::delete_copy;
+use crate::copies::make_copy;
+use crate::copies::remove_current;
+use crate::copies::set_current;
+use crate::looks::look_frame;
+use crate::looks::look_page;
+use crate::pages::create;
+use crate::pages::delete_page;
+use crate::pages::grant;
+use crate::range::names_frame;
+use crate::range::outside;
+use tables::Change;
+use tables::Edit;
+use tables::Holder;
+use tables::Page;
+use tables::Shared;
+use tables::Tables;
+ghost use mathlib.Core.Path.{_≡_};
+ghost use Prim.Native.Nat.{_<_};
+ghost use Rattle.tables.specs.declared.Holder.the-variants.{At};
+ghost use Rattle.tables.specs.Model.{inUse, pageAt};
+ghost use Rattle.tables.specs.Search.{copyOn};
+ghost use Rattle.steps.specs.Stores.{fits};
+ghost use Rattle.steps.specs.Steps.{refuse, accept, decideOn, decide, decideAny};
+ghost use Rattle.steps.specs.Promises.{rulesNumber, settled, Decides};
+ghost use Rattle.steps.specs.Private.{verdictOf, ruled, frameCount, decidedOn, holderFrom, searchStart, decidedAt};
+
+// Turned back with a number of document 01's table.
+pub(crate) fn refused(number: u8) -> Verdict
+    ensures { λ r. ⌜ r ≡ verdictOf (refuse number) ⌝ }
+{
+    Verdict {
+        number,
+        laid: 0,
+        len: 0,
+        edit: Edit::Kept,
+        work: Work::Nothing,
+    }
+}
+
+pub(crate) fn accepted(laid: u16, len: usize, edit: Edit, work: Work) -> Verdict
+    ensures { λ r. ⌜ r ≡ verdictOf (accept (record { edit = edit; laid = laid; len = len; work = work })) ⌝ }
+{
+    Verdict {
+        number: ACCEPTED,
+        laid,
+        len,
+        edit,
+        work,
+    }
+}
+
+// The call on what it looks at: 7, and then the tests of its kind.
+fn verdict(view: View, call: Call, size: usize) -> Verdict
+    ensures { λ r. ⌜ r ≡ verdictOf (decideOn view call size) ⌝ }
+{
+    if outside(call, view.frames, size) {
+        return refused(OUT_OF_RANGE);
+    }
+    let kind = call.kind;
+    match kind {
+        Kind::Create => create(view, call),
+        Kind::DeletePage => delete_page(view, call),
+        Kind::Grant => grant(view, call),
+        Kind::Read => read_page(view, call),
+        Kind::Write => write_page(view, call, size),
+        Kind::MakeCopy => make_copy(view, call),
+        Kind::DeleteCopy => delete_copy(view, call),
+        Kind::SetCurrent => set_current(view, call),
+        Kind::RemoveCurrent => remove_current(view, call),
+        Kind::LookPage => look_page(view),
+        Kind::LookFrame => look_frame(view),
+    }
+}
+
+fn frame_count(shared: Shared) -> u16
+    ensures { λ r. ⌜ r ≡ frameCount shared ⌝ }
+{
+    shared.p as u16 + shared.s as u16
+}
+
+// With the record of its page after the call.
+fn decided(shared: Shared, page: Page, holder: Holder, call: Call, size: usize) -> Decision
+    ensures { λ r. ⌜ r ≡ decidedOn shared page holder call size ⌝ }
+{
+    let view = View {
+        frames: frame_count(shared),
+        page,
+        holder,
+    };
+    let v = verdict(view, call, size);
+    let before = page;
+    let edit = v.edit;
+    let work = v.work;
+    let moved = !before.keeps(edit);
+    let mut becomes = before;
+    if moved {
+        becomes = before.after(edit);
+    }
+    Decision {
+        number: v.number,
+        moved,
+        laid: v.laid,
+        len: v.len,
+        change: Change {
+            page: call.page,
+            becomes,
+        },
+        before,
+        work,
+    }
+}
+
+// The page from which the search for the holder of the call's frame starts: past the last one where the call names no frame
+// in range, and so none is sought.
+fn search_start(shared: Shared, call: Call) -> usize
+    ensures { λ r. ⌜ r ≡ searchStart shared call ⌝ }
+{
+    let kind = call.kind;
+    if names_frame(kind) & ((call.frame as u16) < frame_count(shared)) {
+        0
+    } else {
+        64
+    }
+}
+
+// Copy k of page i as a holder.
+fn held(i: usize, k: u8) -> Holder
+    requires { ⌜ i < 64 ⌝ }
+    ensures { λ r. ⌜ r ≡ At i k ⌝ }
+{
+    Holder::At {
+        page: i as u8,
+        copy: k,
+    }
+}
+
+// The four functions that follow read the tables through a reference, so that they are not copied.
+
+// The record of a page.
+fn page_at(tables: &Tables, i: usize) -> Page
+    requires { ⌜ i < 64 ⌝ }
+    ensures { λ r. ⌜ r ≡ pageAt (now (tables .entry)) i ⌝ }
+{
+    tables.pages[i]
+}
+
+// The number of a page's first copy on a frame; 8 where none is.
+fn copy_on(tables: &Tables, frame: u8, i: usize) -> u8
+    requires { ⌜ i < 64 ⌝ }
+    ensures { λ r. ⌜ r ≡ copyOn frame 0 (inUse (pageAt (now (tables .entry)) i)) ⌝ }
+{
+    let page = page_at(tables, i);
+    page.copy_on(frame)
+}
+
+// The first copy on the frame, among the pages from `start` on.
+fn search(tables: &Tables, frame: u8, start: usize) -> Holder
+    ensures { λ r. ⌜ r ≡ holderFrom (now (tables .entry)) frame start ⌝ }
+{
+    let mut i = start;
+    while i < 64 {
+        let k = copy_on(tables, frame, i);
+        if k < 8 {
+            return held(i, k);
+        }
+        i += 1;
+    }
+    Holder::Free
+}
+
+// What a call comes to. A page number above 63 is refused whatever the record is.
+fn judge_at(tables: &Tables, call: Call, size: usize) -> Decision
+    ensures { λ r. ⌜ r ≡ decidedAt (now (tables .entry)) call size ⌝ }
+{
+    let shared = tables.shared;
+    let page = page_at(tables, (call.page % 64) as usize);
+    let start = search_start(shared, call);
+    let holder = search(tables, call.frame, start);
+    decided(shared, page, holder, call, size)
+}
+
+// What a call comes to on tables that keep the rules, with stores that fit. `size` is the number of a write's bytes.
+pub fn judge(tables: Tables, call: Call, size: usize) -> Decision
+    ensures { λ r. ⌜ Decides tables call (decide tables call size) r ⌝ }
+{
+    judge_at(&tables, call, size)
+}
+
+// Whether stores of these lengths are what the tables say.
+fn stores_fit(tables: Tables, fast_len: usize, slow_len: usize) -> bool
+    ensures { λ r. ⌜ r ≡ fits tables «fast_len» «slow_len» ⌝ }
+{
+    let p = tables.shared.p;
+    let s = tables.shared.s;
+    (fast_len == 64 * (p as usize)) & (slow_len == 64 * (s as usize))
+}
+
+// 5 or 6 for these tables and stores of these lengths, and else 0.
+pub fn rules(tables: Tables, fast_len: usize, slow_len: usize) -> u8
+    ensures { λ r. ⌜ r ≡ rulesNumber tables «fast_len» «slow_len» ⌝ }
+{
+    if !tables.sound() {
+        return BROKEN_TABLES;
+    }
+    if !stores_fit(tables, fast_len, slow_len) {
+        return MISFIT_STORE;
+    }
+    ACCEPTED
+}
+
+// A decision, or 5 or 6 before it.
+fn ruled(number: u8, d: Decision) -> Decision
+    ensures { λ r. ⌜ r ≡ ruled number d ⌝ }
+{
+    if number == ACCEPTED {
+        return d;
+    }
+    let change = d.change;
+    let before = d.before;
+    Decision {
+        number,
+        moved: false,
+        laid: 0,
+        len: 0,
+        change,
+        before,
+        work: Work::Nothing,
+    }
+}
+
+// The same on any tables and for stores of any lengths: 5 and 6 first.
+pub fn judge_any(
+    tables: Tables,
+    call: Call,
+    size: usize,
+    fast_len: usize,
+    slow_len: usize,
+) -> Decision
+    ensures { λ r. ⌜ Decides tables call (decideAny tables «fast_len» «slow_len» call size) r ⌝ }
+{
+    let number = rules(tables, fast_len, slow_len);
+    let d = judge_at(&tables, call, size);
+    ruled(number, d)
+}
+
+// The tables after what was decided. Small, so that it is part of its caller.
+pub fn settle(tables: Tables, d: Decision) -> Tables
+    ensures { λ r. ⌜ r ≡ settled tables d ⌝ }
+{
+    let change = d.change;
+    tables.after(change)
+}

@@ -1,0 +1,58 @@
+// The kinds of call: what each names, and how long its messages are.
+use crate::Call;
+use crate::Form;
+use crate::Kind;
+ghost use mathlib.Core.Path.{_≡_};
+ghost use Rattle.steps.specs.Promises.{formOf};
+
+fn row(
+    kind: Kind,
+    least: u8,
+    most: u8,
+    station: u8,
+    page: u8,
+    other: u8,
+    right: u8,
+    offset: u8,
+    count: u8,
+    copy: u8,
+    frame: u8,
+) -> Form
+    ensures { λ r. ⌜ r ≡ record { least = least; most = most; call = record { kind = kind; station = station; page = page; other = other; right = right; offset = offset; count = count; copy = copy; frame = frame } } ⌝ }
+{
+    Form {
+        least,
+        most,
+        call: Call {
+            kind,
+            station,
+            page,
+            other,
+            right,
+            offset,
+            count,
+            copy,
+            frame,
+        },
+    }
+}
+
+// The form of a kind's messages, and the call of one with the arguments a, b, c, d, as many of them as the kind has.
+// The columns: the kind, its least and most length; station, page, other station, right, offset, count, copy, frame.
+pub fn form(number: u8, a: u8, b: u8, c: u8, d: u8) -> Form
+    ensures { λ r. ⌜ r ≡ formOf number a b c d ⌝ }
+{
+    match number {
+        2 => row(Kind::DeletePage, 4, 4, a, b, 0, 0, 0, 0, 0, 0),
+        3 => row(Kind::Grant, 6, 6, a, b, c, d, 0, 0, 0, 0),
+        4 => row(Kind::Read, 6, 6, a, b, 0, 0, c, d, 0, 0),
+        5 => row(Kind::Write, 6, 69, a, b, 0, 0, c, 0, 0, 0),
+        6 => row(Kind::MakeCopy, 5, 5, 0, a, 0, 0, 0, 0, b, c),
+        7 => row(Kind::DeleteCopy, 4, 4, 0, a, 0, 0, 0, 0, b, 0),
+        8 => row(Kind::SetCurrent, 4, 4, 0, a, 0, 0, 0, 0, b, 0),
+        9 => row(Kind::RemoveCurrent, 4, 4, 0, a, 0, 0, 0, 0, b, 0),
+        10 => row(Kind::LookPage, 3, 3, 0, a, 0, 0, 0, 0, 0, 0),
+        11 => row(Kind::LookFrame, 3, 3, 0, 0, 0, 0, 0, 0, 0, a),
+        _ => row(Kind::Create, 4, 4, a, b, 0, 0, 0, 0, 0, 0),
+    }
+}

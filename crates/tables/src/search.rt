@@ -1,0 +1,63 @@
+// Who is on a frame.
+use crate::Holder;
+use crate::Tables;
+ghost use mathlib.Core.Path.{_≡_};
+ghost use Rattle.tables.specs.Rules.{free};
+ghost use Rattle.tables.specs.Search.{holderOf, shown, isFree};
+
+impl Holder {
+    // The three bytes that looking at a frame shows.
+    pub fn bytes(self) -> [u8; 3]
+        ensures { λ r. ⌜ r ≡ shown self ⌝ }
+    {
+        let h = self;
+        match h {
+            Holder::At { page, copy } => [1, page, copy],
+            Holder::Free => [0, 255, 255],
+        }
+    }
+
+    pub fn is_free(self) -> bool
+        ensures { λ r. ⌜ r ≡ isFree self ⌝ }
+    {
+        let h = self;
+        match h {
+            Holder::At { page: _, copy: _ } => false,
+            Holder::Free => true,
+        }
+    }
+}
+
+impl Tables {
+    // The first copy, page by page, that is on the frame.
+    pub fn holder(self, frame: u8) -> Holder
+        ensures { λ r. ⌜ r ≡ holderOf self frame ⌝ }
+    {
+        let mut i: usize = 0;
+        'pages: loop {
+            if i >= 64 {
+                break 'pages Holder::Free;
+            }
+            let g = self.pages[i];
+            let n = g.in_use();
+            let mut j: usize = 0;
+            while j < n {
+                if g.copies[j].frame == frame {
+                    break 'pages Holder::At {
+                        page: i as u8,
+                        copy: j as u8,
+                    };
+                }
+                j += 1;
+            }
+            i += 1;
+        }
+    }
+
+    pub fn free(self, frame: u8) -> bool
+        ensures { λ r. ⌜ r ≡ free self frame ⌝ }
+    {
+        let h = self.holder(frame);
+        h.is_free()
+    }
+}
