@@ -4,7 +4,7 @@ use crate::Parsed;
 use crate::UNKNOWN_KIND;
 use crate::WRONG_LENGTH;
 use steps::KINDS;
-use steps::form;
+use steps::form_of;
 
 // The byte at k; 0 past the end.
 fn byte_at(m: &[u8], k: usize) -> u8
@@ -20,7 +20,7 @@ fn turned_back(number: u8) -> Parsed {
 // What a message of a kind from 1 to 11 asks for: 4, or its call.
 fn parse_kind(number: u8, m: &[u8]) -> Parsed {
     let n = m.len();
-    let f = form(
+    let f = form_of(
         number,
         byte_at(m, 2),
         byte_at(m, 3),

@@ -15,7 +15,7 @@ frameOutside frames c = has frame (c .kind) && leb frames (c .frame)
 
 -- ".. or offset too large; count 0; offset + count above 64"
 abbrev pub badSpan : ℕ → ℕ → Bool
-badSpan offset count = ltb 63 offset || (eqb count 0 || ltb 64 (offset + count))
+badSpan start n = ltb 63 start || (eqb n 0 || ltb 64 (start + n))
 
 -- the count of a write is `size`, the number of its bytes
 abbrev pub spanOutside : ℕ → Call → Bool

@@ -17,7 +17,7 @@ pub use judgement::judge;
 pub use judgement::judge_any;
 pub use judgement::rules;
 pub use judgement::settle;
-pub use kinds::form;
+pub use kinds::form_of;
 use tables::Change;
 use tables::Edit;
 use tables::Holder;

@@ -44,7 +44,7 @@ returns-4 c =
     let k =
     sym (scan-copies (a .limit) (g .n) (inUse g) (a .seen .now) false) ∙ sym (c .before .copies-ok .ensures .0) ∙ not-true _ (c .if4 .taken) in (
       sym (rw (le-leb _ _ (c .before .before .before .before .before .before .if1 .left), r, le-leb _ _ (c .before .before .before .if3 .left))
-      (scan-fails (all (copyRule (a .limit) (g .n)) (inUse g)) (unmarked (a .seen .now) (inUse g)) (leb 1 (count isRecent (inUse g))) (all isFresh (drop (g .n) (g .copies))) k)),
+          (scan-fails (all (copyRule (a .limit) (g .n)) (inUse g)) (unmarked (a .seen .now) (inUse g)) (leb 1 (count isRecent (inUse g))) (all isFresh (drop (g .n) (g .copies))) k)),
       record { added = λ z. absurd (false≢true z) },
     )
 
@@ -63,8 +63,8 @@ returns-5 c =
     let k =
     sym (scan-copies (a .limit) (g .n) (inUse g) (a .seen .now) false) ∙ sym (c .before .before .copies-ok .ensures .0) ∙ not-false _ (c .before .if4 .left) in (
       c .unused-ok .ensures
-      ∙ sym (rw (le-leb _ _ (c .before .before .before .before .before .before .before .if1 .left), r, le-leb _ _ (c .before .before .before .before .if3 .left))
-      (scan-passes (all (copyRule (a .limit) (g .n)) (inUse g)) (unmarked (a .seen .now) (inUse g)) (leb 1 (count isRecent (inUse g))) (all isFresh (drop (g .n) (g .copies))) k)),
+          ∙ sym (rw (le-leb _ _ (c .before .before .before .before .before .before .before .if1 .left), r, le-leb _ _ (c .before .before .before .before .if3 .left))
+          (scan-passes (all (copyRule (a .limit) (g .n)) (inUse g)) (unmarked (a .seen .now) (inUse g)) (leb 1 (count isRecent (inUse g))) (all isFresh (drop (g .n) (g .copies))) k)),
       record { added = λ z. c .before .before .copies-ok .ensures .1 .added (not-false _ (c .before .if4 .left)) },
     )
 
