@@ -1,12 +1,11 @@
 -- Document 01, "Call files and replies": messages and the reader.
-use Prim.Native.Nat.{ℕ, _+_, _-_, _*_}
+use Prim.Native.Nat.{ℕ, _+_, _*_}
 use mathlib.Core.Bool.{not, _||_, cond}
-use mathlib.Core.List.{List, [], _∷_}
+use mathlib.Core.List.{List}
 use lib.ListN.{length, drop, getD}
 use lib.Dec.{leb, ltb, eqb}
 use Rattle.tables.specs.Numbers.{foreignVersion, unknownKind, wrongLength}
-use Rattle.steps.specs.declared.Call.{Call}
-use Rattle.steps.specs.declared.Call.the-variants.{Create, DeletePage, Grant, Read, Write, MakeCopy, DeleteCopy, SetCurrent, RemoveCurrent, LookPage, LookFrame}
+use Rattle.steps.specs.Kinds.{kinds, kindOf, leastLength, mostLength, callOf}
 use Rattle.messages.specs.declared.Parsed.{Parsed}
 use Rattle.messages.specs.declared.Parsed.the-variants.{Refused, Asked}
 use Rattle.messages.specs.declared.Next.{Next}
@@ -14,34 +13,22 @@ use Rattle.messages.specs.declared.Next.the-variants.{Message, Cut, End}
 
 -- ---- a message m: the L bytes after its length
 
--- "So L is 4, 4, 6, 6, 6 to 69, 5, 4, 4, 4, 3, 3": the least and the most for kinds 1 to 11
-abbrev pub leastLength : List ℕ
-leastLength = 4 ∷ 4 ∷ 6 ∷ 6 ∷ 6 ∷ 5 ∷ 4 ∷ 4 ∷ 4 ∷ 3 ∷ 3 ∷ []
+-- "a version byte 1, a kind byte 1 to 11 .., then the arguments": 3 is "L is 1, or kind not 1 to 11"; 4: "L not as listed for the kind"
+abbrev pub parseKind : ℕ → List ℕ → Parsed
+parseKind kind m =
+    cond (ltb (length m) (leastLength (kindOf kind)) || ltb (mostLength (kindOf kind)) (length m)) (Refused wrongLength)
+    (Asked (callOf (kindOf kind) (drop 2 m)))
 
-abbrev pub mostLength : List ℕ
-mostLength = 4 ∷ 4 ∷ 6 ∷ 6 ∷ 69 ∷ 5 ∷ 4 ∷ 4 ∷ 4 ∷ 3 ∷ 3 ∷ []
-
--- the calls of kinds 1 to 11, with the arguments in their order
-abbrev pub calls : ℕ → ℕ → ℕ → ℕ → List Call
-calls a b c d =
-    Create a b ∷ DeletePage a b ∷ Grant a b c d ∷ Read a b c d ∷ Write a b c ∷ MakeCopy a b c ∷ DeleteCopy a b ∷ SetCurrent a b
-    ∷ RemoveCurrent a b ∷ LookPage a ∷ LookFrame a ∷ []
-
--- "a version byte 1, a kind byte 1 to 11 as numbered above, then the arguments in the order above, one byte each"
-abbrev pub callOf : List ℕ → Call
-callOf m = getD (calls (getD m 2 0) (getD m 3 0) (getD m 4 0) (getD m 5 0)) (getD m 1 0 - 1) (LookFrame 0)
-
--- "write ends with 1 to 64 bytes"
-abbrev pub writeBytes : List ℕ → List ℕ
-writeBytes m = drop 5 m
-
--- 2: "L is 0, or version not 1"; 3: "L is 1, or kind not 1 to 11"; 4: "L not as listed for the kind"
+-- 2: "L is 0, or version not 1"
 unfoldable pub parse : List ℕ → Parsed
 parse m =
     cond (eqb (length m) 0 || not (eqb (getD m 0 0) 1)) (Refused foreignVersion)
-    (cond (eqb (length m) 1 || (eqb (getD m 1 0) 0 || ltb 11 (getD m 1 0))) (Refused unknownKind)
-    (cond (ltb (length m) (getD leastLength (getD m 1 0 - 1) 0) || ltb (getD mostLength (getD m 1 0 - 1) 0) (length m)) (Refused wrongLength)
-    (Asked (callOf m))))
+    (cond (eqb (length m) 1 || (eqb (getD m 1 0) 0 || ltb (length kinds) (getD m 1 0))) (Refused unknownKind)
+    (parseKind (getD m 1 0) m))
+
+-- "write ends with 1 to 64 bytes", after the version, the kind and three arguments
+abbrev pub writeBytes : List ℕ → List ℕ
+writeBytes m = drop 5 m
 
 -- ---- the reader
 

@@ -4,7 +4,8 @@ use mathlib.Core.Path.{_≡_}
 use mathlib.Core.List.{List}
 use lib.ListN.{length}
 use Rattle.steps.specs.Stores.{part, over}
-use Rattle.steps.specs.Steps.{Outcome, State, left, numberOf, laidBy}
+use Rattle.steps.specs.Steps.{Outcome, numberOf}
+use Rattle.steps.specs.Effects.{State, Result, left, laidBy}
 use Rattle.messages.specs.declared.Next.{Next}
 use Rattle.messages.specs.declared.Next.the-variants.{Message, Cut, End}
 use Rattle.messages.specs.declared.Tally.{Tally}
@@ -24,20 +25,16 @@ sentBy l End = cut
 abbrev pub sentAlone : List ℕ → Sent
 sentAlone l = sentBy l (nextAt l 0)
 
--- what `answer` leaves of a message on state s that comes to o
-pub record Replied (s : State) (o : Outcome State) (out fast′ slow′ out′ : List ℕ) (r : Answered) : Type 0 where
+-- what `answer` leaves of a message on state s that comes to o: the state s′, and the reply at the front of the buffer
+pub record Replied (s : State) (o : Outcome Result) (out : List ℕ) (s′ : State) (out′ : List ℕ) (r : Answered) : Type 0 where
   pub number-told : r .number ≡ numberOf o
   pub len-told : r .len ≡ length (replyIn (length out) o)
   pub laid-told : r .laid ≡ laidBy o
-  pub tables-out : r .tables ≡ left s o .tables
-  pub fast-out : fast′ ≡ left s o .fast
-  pub slow-out : slow′ ≡ left s o .slow
+  pub state-out : s′ ≡ left s o
   pub reply-out : out′ ≡ over (replyIn (length out) o) out
 
--- what `run` leaves of a run w, with a tally n and a reply buffer
-pub record RunEnded (w : Run) (n : Tally) (out fast′ slow′ out′ : List ℕ) (r : Ran) : Type 0 where
-  pub tables-out : r .tables ≡ w .final .tables
-  pub fast-out : fast′ ≡ w .final .fast
-  pub slow-out : slow′ ≡ w .final .slow
+-- what `run` leaves of a run w, with a tally n and a reply buffer: the state s′, the buffer and the tally
+pub record RunEnded (w : Run) (n : Tally) (out : List ℕ) (s′ : State) (out′ : List ℕ) (r : Ran) : Type 0 where
+  pub state-out : s′ ≡ w .final
   pub buffer-out : out′ ≡ buffer (length out) (w .turns) out
   pub tally-out : r .tally ≡ tally (w .turns) n

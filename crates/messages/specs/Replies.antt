@@ -6,6 +6,7 @@ use lib.ListN.{length}
 use lib.Dec.{ltb}
 use Rattle.tables.specs.Numbers.{accepted}
 use Rattle.steps.specs.Steps.{Outcome, refuse, accept}
+use Rattle.steps.specs.Effects.{Result}
 use Rattle.messages.specs.declared.Tally.{Tally}
 
 -- two bytes, big-endian
@@ -14,12 +15,12 @@ be16 n = n / 256 % 256 ∷ n % 256 ∷ []
 
 -- "A reply is L, version 1, the number (0 accepted), bytes laid in two bytes big-endian, then the bytes of a read or look."
 -- "A refusal is 00 04 01 nn 00 00."
-unfoldable pub reply : {A : Type 0} → Outcome A → List ℕ
+unfoldable pub reply : Outcome Result → List ℕ
 reply (refuse n) = 0 ∷ 4 ∷ 1 ∷ n ∷ 0 ∷ 0 ∷ []
-reply (accept a laid bs) = be16 (4 + length bs) ++ (1 ∷ accepted ∷ be16 laid ++ bs)
+reply (accept r) = be16 (4 + length (r .data-out)) ++ (1 ∷ accepted ∷ be16 (r .laid) ++ r .data-out)
 
 -- into a buffer of `room` bytes; 18: "reply buffer below 70 bytes; nothing is written"
-abbrev pub replyIn : {A : Type 0} → ℕ → Outcome A → List ℕ
+abbrev pub replyIn : ℕ → Outcome Result → List ℕ
 replyIn room o = cond (ltb room 70) [] (reply o)
 
 -- "each number stops at 4294967295"
@@ -35,6 +36,6 @@ counted t refused laid =
       laid = upTo (t .laid) laid;
     }
 
-abbrev pub isRefusal : {A : Type 0} → Outcome A → Bool
+abbrev pub isRefusal : Outcome Result → Bool
 isRefusal (refuse n) = true
-isRefusal (accept a laid bs) = false
+isRefusal (accept r) = false

@@ -6,7 +6,8 @@ use lib.ListN.{length, take, drop}
 use lib.Dec.{ltb}
 use Rattle.tables.specs.Numbers.{cutShort, shortSlip}
 use Rattle.steps.specs.Stores.{part, over}
-use Rattle.steps.specs.Steps.{Outcome, refuse, test, State, step, left, laidBy}
+use Rattle.steps.specs.Steps.{Outcome, refuse, test}
+use Rattle.steps.specs.Effects.{State, Result, step, left, laidBy}
 use Rattle.messages.specs.declared.Parsed.{Parsed}
 use Rattle.messages.specs.declared.Parsed.the-variants.{Refused, Asked}
 use Rattle.messages.specs.declared.Next.{Next}
@@ -29,25 +30,25 @@ abbrev pub bytesOf : Sent → List ℕ
 bytesOf cut = []
 bytesOf (whole m) = writeBytes m
 
-abbrev pub answer : State → Parsed → List ℕ → Outcome State
-answer s (Refused n) bs = refuse n
-answer s (Asked c) bs = step s c bs
+abbrev pub respond : State → Parsed → List ℕ → Outcome Result
+respond s (Refused n) bs = refuse n
+respond s (Asked c) bs = step s c bs
 
 -- One message, with a reply buffer of `room` bytes: 18, 1, 2, 3, 4, and then the step.
-unfoldable pub turn : ℕ → State → Sent → Outcome State
-turn room s x = test (ltb room 70) shortSlip (answer s (asked x) (bytesOf x))
+unfoldable pub answer : ℕ → State → Sent → Outcome Result
+answer room s x = test (ltb room 70) shortSlip (respond s (asked x) (bytesOf x))
 
--- what a turn found, was sent and came to
+-- a turn of a run: the state that it found, the message, and what that came to
 pub record Turn : Type 0 where
   pub found : State
   pub sent : Sent
-  pub outcome : Outcome State
+  pub outcome : Outcome Result
 
 abbrev pub turnOf : ℕ → State → Sent → Turn
-turnOf room s x = record { found = s; sent = x; outcome = turn room s x }
+turnOf room s x = record { found = s; sent = x; outcome = answer room s x }
 
 abbrev pub leftBy : ℕ → State → Sent → State
-leftBy room s x = left s (turn room s x)
+leftBy room s x = left s (answer room s x)
 
 -- ---- the run over a call file
 
