@@ -38,7 +38,7 @@ earlyNumber (Asked c) known room = cond (ltb room 70) shortSlip known
 
 -- the call of a message that asks for one
 abbrev pub callIn : Parsed → Call
-callIn (Refused n) = callOf (kindOf 1) []
+callIn (Refused n) = callOf (kindOf 1) (0 ∷ 0 ∷ 0 ∷ 0 ∷ [])
 callIn (Asked c) = c
 
 -- ---- replies

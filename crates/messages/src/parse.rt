@@ -5,6 +5,10 @@ use crate::UNKNOWN_KIND;
 use crate::WRONG_LENGTH;
 use steps::KINDS;
 use steps::form_of;
+ghost use mathlib.Core.Path.{_≡_};
+ghost use lib.ListN.{getD};
+ghost use Rattle.messages.specs.declared.Parsed.the-variants.{Refused};
+ghost use Rattle.messages.specs.Messages.{parseKind, parse, writeBytes};
 
 // The byte at k; 0 past the end.
 fn byte_at(m: &[u8], k: usize) -> u8
@@ -13,12 +17,16 @@ fn byte_at(m: &[u8], k: usize) -> u8
     if k < m.len() { m[k] } else { 0 }
 }
 
-fn turned_back(number: u8) -> Parsed {
+fn turned_back(number: u8) -> Parsed
+    ensures { λ r. ⌜ r ≡ Refused number ⌝ }
+{
     Parsed::Refused { number }
 }
 
 // What a message of a kind from 1 to 11 asks for: 4, or its call.
-fn parse_kind(number: u8, m: &[u8]) -> Parsed {
+fn parse_kind(number: u8, m: &[u8]) -> Parsed
+    ensures { λ r. ⌜ r ≡ parseKind number (now (m .entry)) ⌝ }
+{
     let n = m.len();
     let f = form_of(
         number,
@@ -35,7 +43,9 @@ fn parse_kind(number: u8, m: &[u8]) -> Parsed {
 }
 
 // What a message asks for by its own bytes.
-pub(crate) fn parse(m: &[u8]) -> Parsed {
+pub(crate) fn parse(m: &[u8]) -> Parsed
+    ensures { λ r. ⌜ r ≡ parse (now (m .entry)) ⌝ }
+{
     let n = m.len();
     if n == 0 {
         return turned_back(FOREIGN_VERSION);

@@ -1,6 +1,8 @@
 // The reader over a call file.
 use crate::Next;
 use crate::Reader;
+ghost use mathlib.Core.Path.{_≡_};
+ghost use Rattle.messages.specs.Messages.{nextAt};
 
 // What stands at a place of the file.
 pub fn next_at(file: &[u8], at: usize) -> Next

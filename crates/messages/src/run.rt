@@ -15,15 +15,24 @@ use crate::replies::reply_refusal;
 use crate::tally::tally_after;
 use steps::ACCEPTED;
 use steps::Call;
-use steps::Kind;
+use steps::form_of;
 use steps::judge;
 use steps::judge_any;
 use steps::rules;
 use steps::settle;
 use tables::Tables;
+ghost use mathlib.Core.Path.{_≡_};
+ghost use lib.ListN.{length};
+ghost use Rattle.steps.specs.Promises.{stateOf};
+ghost use Rattle.messages.specs.Messages.{nextAt};
+ghost use Rattle.messages.specs.Run.{answer, run};
+ghost use Rattle.messages.specs.Promises.{sentAlone, Replied, RunEnded};
+ghost use Rattle.messages.specs.Private.{bytesAt, askedAt, earlyNumber, callIn};
 
 // The number that turns a message back before it is decided, and else 0: 18, 1 to 4, and 5 or 6 where that is known.
-fn early_number(parsed: Parsed, known: u8, room: usize) -> u8 {
+fn early_number(parsed: Parsed, known: u8, room: usize) -> u8
+    ensures { λ r. ⌜ r ≡ earlyNumber parsed known room ⌝ }
+{
     if room < 70 {
         return SHORT_SLIP;
     }
@@ -34,25 +43,23 @@ fn early_number(parsed: Parsed, known: u8, room: usize) -> u8 {
 }
 
 // The call of a message that asks for one.
-fn call_in(parsed: Parsed) -> Call {
+fn call_in(parsed: Parsed) -> Call
+    ensures { λ r. ⌜ r ≡ callIn parsed ⌝ }
+{
     match parsed {
         Parsed::Asked { call } => call,
-        Parsed::Refused { number: _ } => Call {
-            kind: Kind::LookFrame,
-            station: 0,
-            page: 0,
-            other: 0,
-            right: 0,
-            offset: 0,
-            count: 0,
-            copy: 0,
-            frame: 0,
-        },
+        Parsed::Refused { number: _ } => {
+            let f = form_of(1, 0, 0, 0, 0);
+            f.call
+        }
     }
 }
 
 // The bytes after the length of the message that the reader yields; none where it is cut short.
-fn bytes_in(file: &[u8], next: Next) -> &[u8] {
+fn bytes_in(file: &[u8], next: Next) -> &[u8]
+    requires { ⌜ next ≡ nextAt (now file) 0 ⌝ }
+    ensures { λ r. ⌜ now r ≡ bytesAt (now (file .entry)) next ⌝ }
+{
     match next {
         Next::Message { start, next, .. } => &file[start..next],
         Next::Cut => &file[..0],
@@ -61,7 +68,9 @@ fn bytes_in(file: &[u8], next: Next) -> &[u8] {
 }
 
 // What it asks for: no bytes at all count as cut short.
-fn asked_in(next: Next, m: &[u8]) -> Parsed {
+fn asked_in(next: Next, m: &[u8]) -> Parsed
+    ensures { λ r. ⌜ r ≡ askedAt next (now (m .entry)) ⌝ }
+{
     match next {
         Next::Message { .. } => parse(m),
         Next::Cut => Parsed::Refused { number: CUT_SHORT },
@@ -76,7 +85,11 @@ pub fn answer(
     slow: &mut [u8],
     message: &[u8],
     out: &mut [u8],
-) -> Answered {
+) -> Answered
+    ensures { λ r. ⌜ Replied (stateOf tables (now (fast .entry)) (now (slow .entry)))
+        (answer (length (now (out .entry))) (stateOf tables (now (fast .entry)) (now (slow .entry))) (sentAlone (now (message .entry))))
+        (now (out .entry)) (stateOf (r .tables) (now (fast .exit)) (now (slow .exit))) (now (out .exit)) r ⌝ }
+{
     let next = message_at(message, 0);
     let m = bytes_in(message, next);
     let parsed = asked_in(next, m);
@@ -120,7 +133,10 @@ pub fn run(
     file: &[u8],
     out: &mut [u8],
     mut tally: Tally,
-) -> Ran {
+) -> Ran
+    ensures { λ r. ⌜ RunEnded (run (length (now (out .entry))) (now (file .entry)) (stateOf tables (now (fast .entry)) (now (slow .entry)))) tally
+        (now (out .entry)) (stateOf (r .tables) (now (fast .exit)) (now (slow .exit))) (now (out .exit)) r ⌝ }
+{
     // Once for the whole run: every step keeps the rules.
     let known = rules(tables, fast.len(), slow.len());
     let mut at = 0;

@@ -1,5 +1,8 @@
 // The tally of a run.
 use crate::Tally;
+ghost use mathlib.Core.Path.{_≡_};
+ghost use mathlib.Core.Bool.{cond};
+ghost use Rattle.messages.specs.Replies.{upTo, counted};
 
 // The sum of two numbers, or 4294967295 where it is more.
 fn up_to(x: u32, y: u32) -> u32
