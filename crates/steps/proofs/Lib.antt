@@ -1,0 +1,4 @@
+pub mod KindLaws
+pub mod RangeLaws
+pub mod CountLaws
+pub mod VerdictLaws
