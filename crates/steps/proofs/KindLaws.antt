@@ -1,20 +1,21 @@
 -- The last arms of a `match` on a kind or on a kind's number: what the kinds have that no arm before it names.
--- In order: a kind from its tag; a test of the kinds of an arm with several; the number that is none of 2 to 11.
+-- In order: the kinds by their tags; what the kinds of an arm with several do not name; a number that is none of 2 to 11.
 use Prim.Native.Nat.{ℕ, _+_, _-_, _≤_}
 use mathlib.Core.Path.{_≡_, refl, sym, ap, _∙_}
 use mathlib.Core.Logic.{inl, inr}
-use mathlib.Core.Bool.{Bool, true, _&&_}
+use mathlib.Core.Bool.{Bool, true, false, not}
 use mathlib.Core.List.{List, [], _∷_}
 use native.Mathlib.Decide.{decLe}
 use native.Mathlib.Omega.{arith}
 use lib.ListN.{getD, List·getD-eq-default}
+use borrow.Author.Tests.{not-true}
 use types.Run.{OneOf}
 use denote.Enum.Declared.{tagOf}
 use Rattle.tables.specs.Lists.{all}
 use Rattle.tables.proofs.ListLaws.{and-left, and-right}
 use Rattle.steps.specs.declared.Kind.{Kind}
 use Rattle.steps.specs.declared.Kind.the-variants.{Create, DeletePage, Grant, Read, Write, MakeCopy, DeleteCopy, SetCurrent, RemoveCurrent, LookPage, LookFrame}
-use Rattle.steps.specs.Kinds.{kinds, kindOf}
+use Rattle.steps.specs.Kinds.{Name, kinds, kindOf, has}
 use Rattle.steps.proofs.Kind as kind
 
 -- the tags count the kinds in their order
@@ -39,9 +40,12 @@ one-of f (k ∷ []) x w e = rw w (and-left (f k) true e)
 one-of f (k ∷ m ∷ ts) x (inl w) e = rw w (and-left (f k) _ e)
 one-of f (k ∷ m ∷ ts) x (inr w) e = one-of f (m ∷ ts) x w (and-right (f k) _ e)
 
--- what holds of the kinds with the tags of an arm holds in it
-pub in-arm : (f : Kind → Bool) (ts : List ℕ) (k : Kind) → OneOf ts (tagOf kind.the-type k) → all (λ x. f (getD kinds x Create)) ts ≡ true → f k ≡ true
-in-arm f ts k w e = sym (ap f (kind-at k)) ∙ one-of (λ x. f (getD kinds x Create)) ts (tagOf kind.the-type k) w e
+-- what no kind with a tag of an arm names, none names in it
+pub unnamed : (x : Name) (ts : List ℕ) (k : Kind) → OneOf ts (tagOf kind.the-type k) → all (λ i. not (has x (getD kinds i Create))) ts ≡ true
+    → has x k ≡ false
+unnamed x ts k w e =
+    not-true (has x k)
+    (sym (ap (λ (y : Kind). not (has x y)) (kind-at k)) ∙ one-of (λ i. not (has x (getD kinds i Create))) ts (tagOf kind.the-type k) w e)
 
 -- n is none of 2 to 11, as the last arm has it
 abbrev pub NoneOfTen : ℕ → Type 0
@@ -56,6 +60,9 @@ kind-rest n r = go (decLe n 1)
     above : (m : ℕ) → m ≤ n → (n ≡ m → ⊥) → m + 1 ≤ n
     above m l e = omega arith
 
+    pred-le : 12 ≤ n → 11 ≤ n - 1
+    pred-le h = omega arith
+
     go : Dec (n ≤ 1) → kindOf n ≡ Create
     go (yes h) = ap (λ (i : ℕ). getD kinds i Create) (let e : n - 1 ≡ 0 = omega arith in e)
     go (no h) =
@@ -65,6 +72,3 @@ kind-rest n r = go (decLe n 1)
         let eight = above 8 (above 7 six (r .0 .0 .0 .0 .1)) (r .0 .0 .0 .1) in
         let ten = above 10 (above 9 eight (r .0 .0 .1)) (r .0 .1) in
         List·getD-eq-default kinds Create (pred-le (above 11 ten (r .1)))
-
-    pred-le : 12 ≤ n → 11 ≤ n - 1
-    pred-le h = omega arith

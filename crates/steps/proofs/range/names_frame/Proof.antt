@@ -1,11 +1,9 @@
 -- `steps::range::names_frame` meets its contract: two kinds name a frame, and the others by their tags.
 use mathlib.Core.Path.{refl, sym}
-use mathlib.Core.Bool.{not}
 use mathlib.Core.List.{[], _∷_}
-use borrow.Author.Tests.{not-true}
 use Rattle.tables.specs.Lists.{all}
-use Rattle.steps.specs.Kinds.{kinds, names, among, code, has, frame}
-use Rattle.steps.proofs.KindLaws.{in-arm}
+use Rattle.steps.specs.Kinds.{kinds, names, among, code, frame}
+use Rattle.steps.proofs.KindLaws.{unnamed}
 use borrow.Author.Needs.{needs}
 use Rattle.steps.proofs.range.names_frame.Statement.{statement}
 use Rattle.steps.proofs.range.names_frame.Tie as tie
@@ -26,7 +24,7 @@ returns-2 c = rw (c .enum-told2 .given .1)
 
 returns-3 : tie.Need-returns-3
 unfolding names among code kinds all
-returns-3 c = sym (not-true (has frame (c .before .args .kind)) (in-arm (λ k. not (has frame k)) (0 ∷ 1 ∷ 2 ∷ 3 ∷ 4 ∷ 6 ∷ 7 ∷ 8 ∷ 9 ∷ []) _ (c .match .keys3) refl))
+returns-3 c = sym (unnamed frame (0 ∷ 1 ∷ 2 ∷ 3 ∷ 4 ∷ 6 ∷ 7 ∷ 8 ∷ 9 ∷ []) (c .before .args .kind) (c .match .keys3) refl)
 
 pub names-frame-spec : {M : Type 1} → statement M
 names-frame-spec = tie.close (tie.spec enum-told enum-told-2 returns returns-2 returns-3)

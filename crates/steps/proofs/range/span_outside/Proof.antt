@@ -1,11 +1,9 @@
 -- `steps::range::span_outside` meets its contract: two kinds name bytes of a page, and the others by their tags.
 use mathlib.Core.Path.{refl}
-use mathlib.Core.Bool.{not}
 use mathlib.Core.List.{[], _∷_}
-use borrow.Author.Tests.{not-true}
 use Rattle.tables.specs.Lists.{all}
-use Rattle.steps.specs.Kinds.{kinds, names, among, code, has, offset}
-use Rattle.steps.proofs.KindLaws.{in-arm}
+use Rattle.steps.specs.Kinds.{kinds, names, among, code, offset}
+use Rattle.steps.proofs.KindLaws.{unnamed}
 use borrow.Author.Needs.{needs}
 use Rattle.steps.proofs.range.span_outside.Statement.{statement}
 use Rattle.steps.proofs.range.span_outside.Tie as tie
@@ -35,7 +33,7 @@ returns-2 c = rw (c .before .enum-told2 .given .1) (c .bad-span2 .ensures)
 
 returns-3 : tie.Need-returns-3
 unfolding names among code kinds all
-returns-3 c = rw (not-true (has offset (c .before .args .call .kind)) (in-arm (λ k. not (has offset k)) (0 ∷ 1 ∷ 2 ∷ 5 ∷ 6 ∷ 7 ∷ 8 ∷ 9 ∷ 10 ∷ []) _ (c .match .keys3) refl))
+returns-3 c = rw (unnamed offset (0 ∷ 1 ∷ 2 ∷ 5 ∷ 6 ∷ 7 ∷ 8 ∷ 9 ∷ 10 ∷ []) (c .before .args .call .kind) (c .match .keys3) refl)
 
 pub span-outside-spec : {M : Type 1} → statement M
 span-outside-spec =
