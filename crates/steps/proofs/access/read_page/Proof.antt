@@ -1,4 +1,7 @@
--- `steps::access::read_page` meets its contract.
+-- `steps::access::read_page` meets its contract: 9, 10 and 11, or the frame of the first CURRENT copy.
+use native.Mathlib.Omega.{arith}
+use borrow.Author.Tests.{eq-eqb, ne-eqb, le-leb, lt-leb}
+use Rattle.steps.specs.Steps.{currents, perform}
 use borrow.Author.Needs.{needs}
 use Rattle.steps.proofs.access.read_page.Statement.{statement}
 use Rattle.steps.proofs.access.read_page.Tie as tie
@@ -7,7 +10,8 @@ refused-requires : tie.Need-refused-requires
 refused-requires c κs = search needs
 
 returns : tie.Need-returns
-returns c = ?
+unfolding perform
+returns c = λ size. rw (eq-eqb _ 0 (c .before .if1 .taken)) (c .refused .ensures)
 
 right-of-requires : tie.Need-right-of-requires
 right-of-requires c κs = search needs
@@ -16,7 +20,8 @@ refused-requires-2 : tie.Need-refused-requires-2
 refused-requires-2 c κs = search needs
 
 returns-2 : tie.Need-returns-2
-returns-2 c = ?
+unfolding perform
+returns-2 c = λ size. rw (ne-eqb _ 0 (c .before .before .before .if1 .left), ← c .before .before .right-of .ensures, lt-leb 1 _ (c .before .if2 .taken)) (c .refused2 .ensures)
 
 first-current-requires : tie.Need-first-current-requires
 first-current-requires c κs = search needs
@@ -25,7 +30,11 @@ refused-requires-3 : tie.Need-refused-requires-3
 refused-requires-3 c κs = search needs
 
 returns-3 : tie.Need-returns-3
-returns-3 c = ?
+unfolding perform
+returns-3 c =
+    λ size.
+    let none = c .before .before .first-current .ensures .none (c .before .if3 .taken) in
+    rw (ne-eqb _ 0 (c .before .before .before .before .before .if1 .left), ← c .before .before .before .before .right-of .ensures, le-leb 1 _ (c .before .before .before .if2 .left), none) (c .refused3 .ensures)
 
 mul-c : tie.Need-mul-c
 mul-c c = search needs
@@ -40,7 +49,12 @@ accepted-requires : tie.Need-accepted-requires
 accepted-requires c κs = search needs
 
 returns-4 : tie.Need-returns-4
-returns-4 c = ?
+unfolding perform
+returns-4 c =
+    λ size.
+    let some = c .before .before .before .before .first-current .ensures .some (c .before .before .before .if3 .left) in
+    let n = ne-eqb (currents (c .before .before .before .before .before .before .before .before .before .args .view .page)) 0 (λ e. omega arith) in
+    rw (ne-eqb _ 0 (c .before .before .before .before .before .before .before .if1 .left), ← c .before .before .before .before .before .before .right-of .ensures, le-leb 1 _ (c .before .before .before .before .before .if2 .left), n, ← some .1) (c .accepted .ensures)
 
 pub read-page-spec : {M : Type 1} → statement M
 read-page-spec =

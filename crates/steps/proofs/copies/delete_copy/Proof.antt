@@ -1,4 +1,6 @@
--- `steps::copies::delete_copy` meets its contract.
+-- `steps::copies::delete_copy` meets its contract: 9 and 12, then 15.
+use Rattle.steps.specs.Steps.{perform}
+use Rattle.steps.proofs.VerdictLaws.{numbered-refused, numbered-on}
 use borrow.Author.Needs.{needs}
 use Rattle.steps.proofs.copies.delete_copy.Statement.{statement}
 use Rattle.steps.proofs.copies.delete_copy.Tie as tie
@@ -10,7 +12,8 @@ refused-requires : tie.Need-refused-requires
 refused-requires c κs = search needs
 
 returns : tie.Need-returns
-returns c = ?
+unfolding perform
+returns c = λ size. numbered-refused (c .before .before .unnumbered .ensures) _ (c .before .if1 .taken) (c .refused .ensures)
 
 copy-at-requires : tie.Need-copy-at-requires
 copy-at-requires c κs = search needs
@@ -22,13 +25,15 @@ refused-requires-2 : tie.Need-refused-requires-2
 refused-requires-2 c κs = search needs
 
 returns-2 : tie.Need-returns-2
-returns-2 c = ?
+unfolding perform
+returns-2 c = λ size. numbered-on (c .before .before .before .before .before .before .unnumbered .ensures) _ (c .before .before .before .before .before .if1 .left) (rw (← c .before .before .before .before .copy-at .ensures, ← c .before .before .before .recent-count .ensures, c .before .if2 .taken) (c .refused2 .ensures))
 
 accepted-requires : tie.Need-accepted-requires
 accepted-requires c κs = search needs
 
 returns-3 : tie.Need-returns-3
-returns-3 c = ?
+unfolding perform
+returns-3 c = λ size. numbered-on (c .before .before .before .before .before .before .unnumbered .ensures) _ (c .before .before .before .before .before .if1 .left) (rw (← c .before .before .before .before .copy-at .ensures, ← c .before .before .before .recent-count .ensures, c .before .if2 .left) (c .accepted .ensures))
 
 pub delete-copy-spec : {M : Type 1} → statement M
 delete-copy-spec =
