@@ -1,4 +1,8 @@
--- `steps::judgement::decided` meets its contract.
+-- `steps::judgement::decided` meets its contract: where the record is seen to stay, it is what the edit makes of it.
+use mathlib.Core.Path.{sym, _∙_}
+use borrow.Author.Tests.{not-false}
+use Rattle.tables.proofs.KeepLaws.{unchanged-same}
+use Rattle.steps.specs.Private.{decidedOn}
 use borrow.Author.Needs.{needs}
 use Rattle.steps.proofs.judgement.decided.Statement.{statement}
 use Rattle.steps.proofs.judgement.decided.Tie as tie
@@ -16,10 +20,16 @@ after-requires : tie.Need-after-requires
 after-requires c κs = search needs
 
 returns : tie.Need-returns
-returns c = ?
+unfolding decidedOn
+returns c = rw (← c .before .before .before .before .frame-count .ensures, ← c .before .before .before .verdict .ensures, ← c .before .before .keeps .ensures, ← c .after .ensures)
 
 returns-2 : tie.Need-returns-2
-returns-2 c = ?
+unfolding decidedOn
+returns-2 c =
+    let k = c .before .keeps in
+    let v = c .before .before .verdict in
+    let s = unchanged-same (c .before .before .before .before .args .page) (v .result .edit) (sym (k .ensures) ∙ not-false (k .result) (c .if1 .left)) in
+    rw (← c .before .before .before .frame-count .ensures, ← v .ensures, ← k .ensures, s)
 
 pub decided-spec : {M : Type 1} → statement M
 decided-spec =
