@@ -2,3 +2,4 @@ pub mod KindLaws
 pub mod RangeLaws
 pub mod CountLaws
 pub mod VerdictLaws
+pub mod JudgeLaws

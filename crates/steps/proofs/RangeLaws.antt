@@ -39,7 +39,7 @@ module _ (v : View) (c : Call) (size : ℕ) where
   thrice false true z o = refl
   thrice false false z o = refl
 
-  one-test : decideOn v c size ≡ test (outside (v .frames) size c) outOfRange (perform v c size (c .kind))
+  pub one-test : decideOn v c size ≡ test (outside (v .frames) size c) outOfRange (perform v c size (c .kind))
   unfolding decideOn
   one-test = thrice (nameOutside c) (frameOutside (v .frames) c) (spanOutside size c) (perform v c size (c .kind))
 
