@@ -1,7 +1,7 @@
 -- A decision as the code comes to it decides the call.
 -- In order: the outcome on a page's record and a frame's holder; `decided-at`, where the record of page number % 64 is read and the holder is
 -- sought from `searchStart` on; `ruled-decides`, with 5 and 6 before it.
-use Prim.Native.Nat.{ℕ, _%_, _≤_}
+use Prim.Native.Nat.{ℕ, _%_}
 use mathlib.Core.Path.{_≡_, refl, sym, ap, ap₂, _∙_, subst}
 use mathlib.Core.Bool.{Bool, true, false, not, _&&_, _||_, cond}
 use native.Mathlib.Omega.{arith}

@@ -50,8 +50,8 @@ unnamed x ts k w e =
 -- n is none of 2 to 11, as the last arm has it
 abbrev pub NoneOfTen : ℕ → Type 0
 NoneOfTen n =
-    ((((((((((Unit {0} × (n ≡ 2 → ⊥)) × (n ≡ 3 → ⊥)) × (n ≡ 4 → ⊥)) × (n ≡ 5 → ⊥)) × (n ≡ 6 → ⊥)) × (n ≡ 7 → ⊥)) × (n ≡ 8 → ⊥)) × (n ≡ 9 → ⊥))
-    × (n ≡ 10 → ⊥)) × (n ≡ 11 → ⊥))
+    ((((((((((Unit {0} × (n ≡ 2 → ⊥)) × (n ≡ 3 → ⊥)) × (n ≡ 4 → ⊥)) × (n ≡ 5 → ⊥)) × (n ≡ 6 → ⊥)) × (n ≡ 7 → ⊥)) × (n ≡ 8 → ⊥))
+    × (n ≡ 9 → ⊥)) × (n ≡ 10 → ⊥)) × (n ≡ 11 → ⊥))
 
 pub kind-rest : (n : ℕ) → NoneOfTen n → kindOf n ≡ Create
 unfolding kinds

@@ -47,7 +47,8 @@ module _ (v : View) (c : Call) (size : ℕ) where
     pub outside-refused : outside (v .frames) size c ≡ true → r ≡ verdictOf (refuse outOfRange) → r ≡ verdictOf (decideOn v c size)
     outside-refused e h = rw (one-test, e) h
 
-    pub inside-on : {k : Kind} → outside (v .frames) size c ≡ false → c .kind ≡ k → r ≡ verdictOf (perform v c size k) → r ≡ verdictOf (decideOn v c size)
+    pub inside-on : {k : Kind} → outside (v .frames) size c ≡ false → c .kind ≡ k → r ≡ verdictOf (perform v c size k)
+        → r ≡ verdictOf (decideOn v c size)
     inside-on e q h = rw (one-test, e) (h ∙ sym (ap (λ (x : Kind). verdictOf (perform v c size x)) q))
 
   pub write-short : outside (v .frames) size c ≡ false → c .kind ≡ Write → size ≤ 64

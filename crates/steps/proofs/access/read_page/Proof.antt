@@ -21,7 +21,10 @@ refused-requires-2 c κs = search needs
 
 returns-2 : tie.Need-returns-2
 unfolding perform
-returns-2 c = λ size. rw (ne-eqb _ 0 (c .before .before .before .if1 .left), ← c .before .before .right-of .ensures, lt-leb 1 _ (c .before .if2 .taken)) (c .refused2 .ensures)
+returns-2 c =
+    λ size.
+    let r = c .before .before in
+    rw (ne-eqb _ 0 (r .before .if1 .left), ← r .right-of .ensures, lt-leb 1 _ (c .before .if2 .taken)) (c .refused2 .ensures)
 
 first-current-requires : tie.Need-first-current-requires
 first-current-requires c κs = search needs
@@ -33,8 +36,10 @@ returns-3 : tie.Need-returns-3
 unfolding perform
 returns-3 c =
     λ size.
-    let none = c .before .before .first-current .ensures .none (c .before .if3 .taken) in
-    rw (ne-eqb _ 0 (c .before .before .before .before .before .if1 .left), ← c .before .before .before .before .right-of .ensures, le-leb 1 _ (c .before .before .before .if2 .left), none) (c .refused3 .ensures)
+    let f = c .before .before in
+    let r = f .before .before in
+    let none = f .first-current .ensures .none (c .before .if3 .taken) in
+    rw (ne-eqb _ 0 (r .before .if1 .left), ← r .right-of .ensures, le-leb 1 _ (f .before .if2 .left), none) (c .refused3 .ensures)
 
 mul-c : tie.Need-mul-c
 mul-c c = search needs
@@ -52,9 +57,12 @@ returns-4 : tie.Need-returns-4
 unfolding perform
 returns-4 c =
     λ size.
-    let some = c .before .before .before .before .first-current .ensures .some (c .before .before .before .if3 .left) in
-    let n = ne-eqb (currents (c .before .before .before .before .before .before .before .before .before .args .view .page)) 0 (λ e. omega arith) in
-    rw (ne-eqb _ 0 (c .before .before .before .before .before .before .before .if1 .left), ← c .before .before .before .before .before .before .right-of .ensures, le-leb 1 _ (c .before .before .before .before .before .if2 .left), n, ← some .1) (c .accepted .ensures)
+    let i = c .before .before .before in
+    let f = i .before in
+    let r = f .before .before in
+    let some = f .first-current .ensures .some (i .if3 .left) in
+    let n = ne-eqb (currents (r .before .before .before .args .view .page)) 0 (λ e. omega arith) in
+    rw (ne-eqb _ 0 (r .before .if1 .left), ← r .right-of .ensures, le-leb 1 _ (f .before .if2 .left), n, ← some .1) (c .accepted .ensures)
 
 pub read-page-spec : {M : Type 1} → statement M
 read-page-spec =

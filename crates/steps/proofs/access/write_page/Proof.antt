@@ -1,5 +1,4 @@
 -- `steps::access::write_page` meets its contract: 9, 10 and 11, or the bytes laid, 64 to each of eight copies at the most.
-use mathlib.Core.Path.{ap}
 use native.Mathlib.Nat.{mul-le-mul}
 use native.Mathlib.Omega.{arith}
 use borrow.Author.Tests.{eq-eqb, ne-eqb, le-leb, lt-leb}
@@ -23,7 +22,9 @@ refused-requires-2 c κs = search needs
 
 returns-2 : tie.Need-returns-2
 unfolding perform
-returns-2 c = rw (ne-eqb _ 0 (c .before .before .before .if1 .left), ← c .before .before .right-of .ensures, lt-leb 2 _ (c .before .if2 .taken)) (c .refused2 .ensures)
+returns-2 c =
+    let r = c .before .before in
+    rw (ne-eqb _ 0 (r .before .if1 .left), ← r .right-of .ensures, lt-leb 2 _ (c .before .if2 .taken)) (c .refused2 .ensures)
 
 current-count-requires : tie.Need-current-count-requires
 current-count-requires c κs = search needs
@@ -33,7 +34,16 @@ refused-requires-3 c κs = search needs
 
 returns-3 : tie.Need-returns-3
 unfolding perform
-returns-3 c = rw (ne-eqb _ 0 (c .before .before .before .before .before .if1 .left), ← c .before .before .before .before .right-of .ensures, le-leb 2 _ (c .before .before .before .if2 .left), ← c .before .before .current-count .ensures .0, eq-eqb _ 0 (c .before .if3 .taken)) (c .refused3 .ensures)
+returns-3 c =
+    let k = c .before .before in
+    let r = k .before .before in
+    rw (
+      ne-eqb _ 0 (r .before .if1 .left),
+      ← r .right-of .ensures,
+      le-leb 2 _ (k .before .if2 .left),
+      ← k .current-count .ensures .0,
+      eq-eqb _ 0 (c .before .if3 .taken),
+    ) (c .refused3 .ensures)
 
 mul-laid : tie.Need-mul-laid
 mul-laid c = omega (arith, mul-le-mul (c .before .before .before .before .before .before .before .pre) (c .before .current-count .ensures .1))
@@ -46,7 +56,16 @@ accepted-requires c κs = search needs
 
 returns-4 : tie.Need-returns-4
 unfolding perform
-returns-4 c = rw (ne-eqb _ 0 (c .before .before .before .before .before .if1 .left), ← c .before .before .before .before .right-of .ensures, le-leb 2 _ (c .before .before .before .if2 .left), ← c .before .before .current-count .ensures .0, ne-eqb _ 0 (c .before .if3 .left)) (c .accepted .ensures)
+returns-4 c =
+    let k = c .before .before in
+    let r = k .before .before in
+    rw (
+      ne-eqb _ 0 (r .before .if1 .left),
+      ← r .right-of .ensures,
+      le-leb 2 _ (k .before .if2 .left),
+      ← k .current-count .ensures .0,
+      ne-eqb _ 0 (c .before .if3 .left),
+    ) (c .accepted .ensures)
 
 pub write-page-spec : {M : Type 1} → statement M
 write-page-spec =

@@ -1,5 +1,5 @@
 -- `steps::copies::copy_at` meets its contract: past the eight entries there is the default.
-use mathlib.Core.Path.{_≡_, sym}
+use mathlib.Core.Path.{sym}
 use Prim.Native.Nat.{_≤_}
 use native.Mathlib.Omega.{arith}
 use lib.ListN.{length, length-map, List·getD-eq-default}

@@ -26,14 +26,22 @@ refused-requires-2 c κs = search needs
 
 returns-2 : tie.Need-returns-2
 unfolding perform
-returns-2 c = λ size. numbered-on (c .before .before .before .before .before .before .unnumbered .ensures) _ (c .before .before .before .before .before .if1 .left) (rw (← c .before .before .before .before .copy-at .ensures, ← c .before .before .before .recent-count .ensures, c .before .if2 .taken) (c .refused2 .ensures))
+returns-2 c =
+    λ size.
+    let n = c .before .before .before in
+    numbered-on (n .before .before .before .unnumbered .ensures) _ (n .before .before .if1 .left)
+    (rw (← n .before .copy-at .ensures, ← n .recent-count .ensures, c .before .if2 .taken) (c .refused2 .ensures))
 
 accepted-requires : tie.Need-accepted-requires
 accepted-requires c κs = search needs
 
 returns-3 : tie.Need-returns-3
 unfolding perform
-returns-3 c = λ size. numbered-on (c .before .before .before .before .before .before .unnumbered .ensures) _ (c .before .before .before .before .before .if1 .left) (rw (← c .before .before .before .before .copy-at .ensures, ← c .before .before .before .recent-count .ensures, c .before .if2 .left) (c .accepted .ensures))
+returns-3 c =
+    λ size.
+    let n = c .before .before .before in
+    numbered-on (n .before .before .before .unnumbered .ensures) _ (n .before .before .if1 .left)
+    (rw (← n .before .copy-at .ensures, ← n .recent-count .ensures, c .before .if2 .left) (c .accepted .ensures))
 
 pub delete-copy-spec : {M : Type 1} → statement M
 delete-copy-spec =

@@ -24,14 +24,23 @@ refused-requires-2 c κs = search needs
 
 returns-2 : tie.Need-returns-2
 unfolding perform
-returns-2 c = λ size. numbered-on (c .before .before .before .before .unnumbered .ensures) _ (c .before .before .before .if1 .left) (rw (← c .before .before .is-free .ensures, c .before .if2 .taken) (c .refused2 .ensures))
+returns-2 c =
+    λ size.
+    let f = c .before .before in
+    numbered-on (f .before .before .unnumbered .ensures) _ (f .before .if1 .left)
+    (rw (← f .is-free .ensures, c .before .if2 .taken) (c .refused2 .ensures))
 
 refused-requires-3 : tie.Need-refused-requires-3
 refused-requires-3 c κs = search needs
 
 returns-3 : tie.Need-returns-3
 unfolding perform
-returns-3 c = λ size. numbered-on (c .before .before .before .before .before .before .unnumbered .ensures) _ (c .before .before .before .before .before .if1 .left) (rw (← c .before .before .before .before .is-free .ensures, c .before .before .before .if2 .left, eq-eqb _ 8 (c .before .if3 .taken)) (c .refused3 .ensures))
+returns-3 c =
+    λ size.
+    let h = c .before .before .before in
+    let f = h .before in
+    numbered-on (f .before .before .unnumbered .ensures) _ (f .before .if1 .left)
+    (rw (← f .is-free .ensures, h .if2 .left, eq-eqb _ 8 (c .before .if3 .taken)) (c .refused3 .ensures))
 
 copy-at-requires : tie.Need-copy-at-requires
 copy-at-requires c κs = search needs
@@ -41,7 +50,13 @@ copied-requires c κs = search needs
 
 returns-4 : tie.Need-returns-4
 unfolding perform
-returns-4 c = λ size. numbered-on (c .before .before .before .before .before .before .before .unnumbered .ensures) _ (c .before .before .before .before .before .before .if1 .left) (rw (← c .before .before .before .before .before .is-free .ensures, c .before .before .before .before .if2 .left, ne-eqb _ 8 (c .before .before .if3 .left), ← c .before .copy-at .ensures) (c .copied .ensures))
+returns-4 c =
+    λ size.
+    let e = c .before .before in
+    let h = e .before .before in
+    let f = h .before in
+    numbered-on (f .before .before .unnumbered .ensures) _ (f .before .if1 .left)
+    (rw (← f .is-free .ensures, h .if2 .left, ne-eqb _ 8 (e .if3 .left), ← c .before .copy-at .ensures) (c .copied .ensures))
 
 pub make-copy-spec : {M : Type 1} → statement M
 make-copy-spec =

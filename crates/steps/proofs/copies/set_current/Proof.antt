@@ -24,21 +24,35 @@ refused-requires-2 c κs = search needs
 
 returns-2 : tie.Need-returns-2
 unfolding perform
-returns-2 c = λ size. numbered-on (c .before .before .before .before .before .unnumbered .ensures) _ (c .before .before .before .before .if1 .left) (rw (← c .before .before .before .copy-at .ensures, eq-eqb _ 255 (c .before .if2 .taken)) (c .refused2 .ensures))
+returns-2 c =
+    λ size.
+    let k = c .before .before .before in
+    numbered-on (k .before .before .unnumbered .ensures) _ (k .before .if1 .left)
+    (rw (← k .copy-at .ensures, eq-eqb _ 255 (c .before .if2 .taken)) (c .refused2 .ensures))
 
 refused-requires-3 : tie.Need-refused-requires-3
 refused-requires-3 c κs = search needs
 
 returns-3 : tie.Need-returns-3
 unfolding perform
-returns-3 c = λ size. numbered-on (c .before .before .before .before .before .before .before .unnumbered .ensures) _ (c .before .before .before .before .before .before .if1 .left) (rw (← c .before .before .before .before .before .copy-at .ensures, ne-eqb _ 255 (c .before .before .before .if2 .left), c .before .if3 .taken) (c .refused3 .ensures))
+returns-3 c =
+    λ size.
+    let f = c .before .before .before in
+    let k = f .before .before in
+    numbered-on (k .before .before .unnumbered .ensures) _ (k .before .if1 .left)
+    (rw (← k .copy-at .ensures, ne-eqb _ 255 (f .if2 .left), c .before .if3 .taken) (c .refused3 .ensures))
 
 accepted-requires : tie.Need-accepted-requires
 accepted-requires c κs = search needs
 
 returns-4 : tie.Need-returns-4
 unfolding perform
-returns-4 c = λ size. numbered-on (c .before .before .before .before .before .before .before .unnumbered .ensures) _ (c .before .before .before .before .before .before .if1 .left) (rw (← c .before .before .before .before .before .copy-at .ensures, ne-eqb _ 255 (c .before .before .before .if2 .left), c .before .if3 .left) (c .accepted .ensures))
+returns-4 c =
+    λ size.
+    let f = c .before .before .before in
+    let k = f .before .before in
+    numbered-on (k .before .before .unnumbered .ensures) _ (k .before .if1 .left)
+    (rw (← k .copy-at .ensures, ne-eqb _ 255 (f .if2 .left), c .before .if3 .left) (c .accepted .ensures))
 
 pub set-current-spec : {M : Type 1} → statement M
 set-current-spec =

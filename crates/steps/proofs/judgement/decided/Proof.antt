@@ -21,15 +21,18 @@ after-requires c κs = search needs
 
 returns : tie.Need-returns
 unfolding decidedOn
-returns c = rw (← c .before .before .before .before .frame-count .ensures, ← c .before .before .before .verdict .ensures, ← c .before .before .keeps .ensures, ← c .after .ensures)
+returns c =
+    let k = c .before .before in
+    rw (← k .before .before .frame-count .ensures, ← k .before .verdict .ensures, ← k .keeps .ensures, ← c .after .ensures)
 
 returns-2 : tie.Need-returns-2
 unfolding decidedOn
 returns-2 c =
     let k = c .before .keeps in
-    let v = c .before .before .verdict in
-    let s = unchanged-same (c .before .before .before .before .args .page) (v .result .edit) (sym (k .ensures) ∙ not-false (k .result) (c .if1 .left)) in
-    rw (← c .before .before .before .frame-count .ensures, ← v .ensures, ← k .ensures, s)
+    let d = c .before .before in
+    let u = sym (k .ensures) ∙ not-false (k .result) (c .if1 .left) in
+    let s = unchanged-same (d .before .before .args .page) (d .verdict .result .edit) u in
+    rw (← d .before .frame-count .ensures, ← d .verdict .ensures, ← k .ensures, s)
 
 pub decided-spec : {M : Type 1} → statement M
 decided-spec =

@@ -1,6 +1,4 @@
 -- `steps::judgement::search_start` meets its contract.
-use mathlib.Core.Path.{sym, _∙_}
-use lib.Dec.{ltb}
 use borrow.Author.Needs.{needs}
 use Rattle.steps.proofs.judgement.search_start.Statement.{statement}
 use Rattle.steps.proofs.judgement.search_start.Tie as tie

@@ -49,8 +49,9 @@ enum-told-5 c = search needs
 
 write-page-requires : tie.Need-write-page-requires
 write-page-requires c κs =
-    let a = c .before .before .before .before .args in
-    write-short (a .view) (a .call) (a .size) (rw (c .before .before .before .outside .ensures) at (c .before .before .if1 .left)) (c .enum-told5 .given .1)
+    let i = c .before .before in
+    let a = i .before .before .args in
+    write-short (a .view) (a .call) (a .size) (rw (i .before .outside .ensures) at (i .if1 .left)) (c .enum-told5 .given .1)
 
 enum-told-6 : tie.Need-enum-told-6
 enum-told-6 c = search needs

@@ -1,5 +1,4 @@
 -- `steps::range::outside` meets its contract: the three tests, in that order.
-use mathlib.Core.Path.{_≡_}
 use borrow.Author.Needs.{needs}
 use Rattle.steps.proofs.range.outside.Statement.{statement}
 use Rattle.steps.proofs.range.outside.Tie as tie
@@ -14,13 +13,17 @@ cast-if2 : tie.Need-cast-if2
 cast-if2 c = search needs
 
 returns-2 : tie.Need-returns-2
-returns-2 c = rw (c .before .before .before .if1 .left, (rw (c .before .before .names-frame .ensures) at (c .if2 .taken)))
+returns-2 c =
+    let n = c .before .before in
+    rw (n .before .if1 .left, (rw (n .names-frame .ensures) at (c .if2 .taken)))
 
 span-outside-requires : tie.Need-span-outside-requires
 span-outside-requires c κs = search needs
 
 returns-3 : tie.Need-returns-3
-returns-3 c = rw (c .before .before .before .before .if1 .left, (rw (c .before .before .before .names-frame .ensures) at (c .before .if2 .left))) (c .span-outside .ensures)
+returns-3 c =
+    let n = c .before .before .before in
+    rw (n .before .if1 .left, (rw (n .names-frame .ensures) at (c .before .if2 .left))) (c .span-outside .ensures)
 
 pub outside-spec : {M : Type 1} → statement M
 outside-spec =
