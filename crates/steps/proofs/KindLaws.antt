@@ -1,4 +1,4 @@
--- The last arms of a `match` on a kind or on a kind's number: what the kinds have that no arm before it names.
+-- The last arm of a `match`, on a kind by its tag or on the number of a kind.
 -- In order: the kinds by their tags; what the kinds of an arm with several do not name; a number that is none of 2 to 11.
 use Prim.Native.Nat.{ℕ, _+_, _-_, _≤_}
 use mathlib.Core.Path.{_≡_, refl, sym, ap, _∙_}
@@ -40,7 +40,7 @@ one-of f (k ∷ []) x w e = rw w (and-left (f k) true e)
 one-of f (k ∷ m ∷ ts) x (inl w) e = rw w (and-left (f k) _ e)
 one-of f (k ∷ m ∷ ts) x (inr w) e = one-of f (m ∷ ts) x w (and-right (f k) _ e)
 
--- what no kind with a tag of an arm names, none names in it
+-- what no kind with one of an arm's tags names, the kind of that arm does not
 pub unnamed : (x : Name) (ts : List ℕ) (k : Kind) → OneOf ts (tagOf kind.the-type k) → all (λ i. not (has x (getD kinds i Create))) ts ≡ true
     → has x k ≡ false
 unnamed x ts k w e =

@@ -21,8 +21,7 @@ refused-requires-2 c κs = search needs
 
 returns-2 : tie.Need-returns-2
 unfolding perform
-returns-2 c =
-    λ size.
+returns-2 c = λ size.
     let r = c .before .before in
     rw (ne-eqb _ 0 (r .before .if1 .left), ← r .right-of .ensures, lt-leb 1 _ (c .before .if2 .taken)) (c .refused2 .ensures)
 
@@ -34,8 +33,7 @@ refused-requires-3 c κs = search needs
 
 returns-3 : tie.Need-returns-3
 unfolding perform
-returns-3 c =
-    λ size.
+returns-3 c = λ size.
     let f = c .before .before in
     let r = f .before .before in
     let none = f .first-current .ensures .none (c .before .if3 .taken) in
@@ -55,8 +53,7 @@ accepted-requires c κs = search needs
 
 returns-4 : tie.Need-returns-4
 unfolding perform
-returns-4 c =
-    λ size.
+returns-4 c = λ size.
     let i = c .before .before .before in
     let f = i .before in
     let r = f .before .before in

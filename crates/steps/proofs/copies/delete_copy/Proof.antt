@@ -26,8 +26,7 @@ refused-requires-2 c κs = search needs
 
 returns-2 : tie.Need-returns-2
 unfolding perform
-returns-2 c =
-    λ size.
+returns-2 c = λ size.
     let n = c .before .before .before in
     numbered-on (n .before .before .before .unnumbered .ensures) _ (n .before .before .if1 .left)
     (rw (← n .before .copy-at .ensures, ← n .recent-count .ensures, c .before .if2 .taken) (c .refused2 .ensures))
@@ -37,8 +36,7 @@ accepted-requires c κs = search needs
 
 returns-3 : tie.Need-returns-3
 unfolding perform
-returns-3 c =
-    λ size.
+returns-3 c = λ size.
     let n = c .before .before .before in
     numbered-on (n .before .before .before .unnumbered .ensures) _ (n .before .before .if1 .left)
     (rw (← n .before .copy-at .ensures, ← n .recent-count .ensures, c .before .if2 .left) (c .accepted .ensures))

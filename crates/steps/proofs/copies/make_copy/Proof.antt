@@ -24,8 +24,7 @@ refused-requires-2 c κs = search needs
 
 returns-2 : tie.Need-returns-2
 unfolding perform
-returns-2 c =
-    λ size.
+returns-2 c = λ size.
     let f = c .before .before in
     numbered-on (f .before .before .unnumbered .ensures) _ (f .before .if1 .left)
     (rw (← f .is-free .ensures, c .before .if2 .taken) (c .refused2 .ensures))
@@ -35,8 +34,7 @@ refused-requires-3 c κs = search needs
 
 returns-3 : tie.Need-returns-3
 unfolding perform
-returns-3 c =
-    λ size.
+returns-3 c = λ size.
     let h = c .before .before .before in
     let f = h .before in
     numbered-on (f .before .before .unnumbered .ensures) _ (f .before .if1 .left)
@@ -50,8 +48,7 @@ copied-requires c κs = search needs
 
 returns-4 : tie.Need-returns-4
 unfolding perform
-returns-4 c =
-    λ size.
+returns-4 c = λ size.
     let e = c .before .before in
     let h = e .before .before in
     let f = h .before in

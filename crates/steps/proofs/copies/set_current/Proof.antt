@@ -24,8 +24,7 @@ refused-requires-2 c κs = search needs
 
 returns-2 : tie.Need-returns-2
 unfolding perform
-returns-2 c =
-    λ size.
+returns-2 c = λ size.
     let k = c .before .before .before in
     numbered-on (k .before .before .unnumbered .ensures) _ (k .before .if1 .left)
     (rw (← k .copy-at .ensures, eq-eqb _ 255 (c .before .if2 .taken)) (c .refused2 .ensures))
@@ -35,8 +34,7 @@ refused-requires-3 c κs = search needs
 
 returns-3 : tie.Need-returns-3
 unfolding perform
-returns-3 c =
-    λ size.
+returns-3 c = λ size.
     let f = c .before .before .before in
     let k = f .before .before in
     numbered-on (k .before .before .unnumbered .ensures) _ (k .before .if1 .left)
@@ -47,8 +45,7 @@ accepted-requires c κs = search needs
 
 returns-4 : tie.Need-returns-4
 unfolding perform
-returns-4 c =
-    λ size.
+returns-4 c = λ size.
     let f = c .before .before .before in
     let k = f .before .before in
     numbered-on (k .before .before .unnumbered .ensures) _ (k .before .if1 .left)
