@@ -1,0 +1,74 @@
+-- The last arm of a `match`, on a kind by its tag or on the number of a kind.
+-- In order: the kinds by their tags; what the kinds of an arm with several do not name; a number that is none of 2 to 11.
+use Prim.Native.Nat.{ℕ, _+_, _-_, _≤_}
+use mathlib.Core.Path.{_≡_, refl, sym, ap, _∙_}
+use mathlib.Core.Logic.{inl, inr}
+use mathlib.Core.Bool.{Bool, true, false, not}
+use mathlib.Core.List.{List, [], _∷_}
+use native.Mathlib.Decide.{decLe}
+use native.Mathlib.Omega.{arith}
+use lib.ListN.{getD, List·getD-eq-default}
+use borrow.Author.Tests.{not-true}
+use types.Run.{OneOf}
+use denote.Enum.Declared.{tagOf}
+use Rattle.tables.specs.Lists.{all}
+use Rattle.tables.proofs.ListLaws.{and-left, and-right}
+use Rattle.steps.specs.declared.Kind.{Kind}
+use Rattle.steps.specs.declared.Kind.the-variants.{Create, DeletePage, Grant, Read, Write, MakeCopy, DeleteCopy, SetCurrent, RemoveCurrent, LookPage, LookFrame}
+use Rattle.steps.specs.Kinds.{Name, kinds, kindOf, has}
+use Rattle.steps.proofs.Kind as kind
+
+-- the tags count the kinds in their order
+kind-at : (k : Kind) → getD kinds (tagOf kind.the-type k) Create ≡ k
+unfolding kinds
+kind-at Create = refl
+kind-at DeletePage = refl
+kind-at Grant = refl
+kind-at Read = refl
+kind-at Write = refl
+kind-at MakeCopy = refl
+kind-at DeleteCopy = refl
+kind-at SetCurrent = refl
+kind-at RemoveCurrent = refl
+kind-at LookPage = refl
+kind-at LookFrame = refl
+
+one-of : (f : ℕ → Bool) (ts : List ℕ) (x : ℕ) → OneOf ts x → all f ts ≡ true → f x ≡ true
+unfolding all
+one-of f [] x w e = absurd w
+one-of f (k ∷ []) x w e = rw w (and-left (f k) true e)
+one-of f (k ∷ m ∷ ts) x (inl w) e = rw w (and-left (f k) _ e)
+one-of f (k ∷ m ∷ ts) x (inr w) e = one-of f (m ∷ ts) x w (and-right (f k) _ e)
+
+-- what no kind with one of an arm's tags names, the kind of that arm does not
+pub unnamed : (x : Name) (ts : List ℕ) (k : Kind) → OneOf ts (tagOf kind.the-type k) → all (λ i. not (has x (getD kinds i Create))) ts ≡ true
+    → has x k ≡ false
+unnamed x ts k w e =
+    not-true (has x k)
+    (sym (ap (λ (y : Kind). not (has x y)) (kind-at k)) ∙ one-of (λ i. not (has x (getD kinds i Create))) ts (tagOf kind.the-type k) w e)
+
+-- n is none of 2 to 11, as the last arm has it
+abbrev pub NoneOfTen : ℕ → Type 0
+NoneOfTen n =
+    ((((((((((Unit {0} × (n ≡ 2 → ⊥)) × (n ≡ 3 → ⊥)) × (n ≡ 4 → ⊥)) × (n ≡ 5 → ⊥)) × (n ≡ 6 → ⊥)) × (n ≡ 7 → ⊥)) × (n ≡ 8 → ⊥))
+    × (n ≡ 9 → ⊥)) × (n ≡ 10 → ⊥)) × (n ≡ 11 → ⊥))
+
+pub kind-rest : (n : ℕ) → NoneOfTen n → kindOf n ≡ Create
+unfolding kinds
+kind-rest n r = go (decLe n 1)
+  where
+    above : (m : ℕ) → m ≤ n → (n ≡ m → ⊥) → m + 1 ≤ n
+    above m l e = omega arith
+
+    pred-le : 12 ≤ n → 11 ≤ n - 1
+    pred-le h = omega arith
+
+    go : Dec (n ≤ 1) → kindOf n ≡ Create
+    go (yes h) = ap (λ (i : ℕ). getD kinds i Create) (let e : n - 1 ≡ 0 = omega arith in e)
+    go (no h) =
+        let two = above 2 (let b : 2 ≤ n = omega (arith, h) in b) (r .0 .0 .0 .0 .0 .0 .0 .0 .0 .1) in
+        let four = above 4 (above 3 two (r .0 .0 .0 .0 .0 .0 .0 .0 .1)) (r .0 .0 .0 .0 .0 .0 .0 .1) in
+        let six = above 6 (above 5 four (r .0 .0 .0 .0 .0 .0 .1)) (r .0 .0 .0 .0 .0 .1) in
+        let eight = above 8 (above 7 six (r .0 .0 .0 .0 .1)) (r .0 .0 .0 .1) in
+        let ten = above 10 (above 9 eight (r .0 .0 .1)) (r .0 .1) in
+        List·getD-eq-default kinds Create (pred-le (above 11 ten (r .1)))

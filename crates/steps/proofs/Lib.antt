@@ -1,0 +1,5 @@
+pub mod KindLaws
+pub mod RangeLaws
+pub mod CountLaws
+pub mod VerdictLaws
+pub mod JudgeLaws

@@ -1,0 +1,56 @@
+-- `steps::copies::delete_copy` meets its contract: 9 and 12, then 15.
+use Rattle.steps.specs.Steps.{perform}
+use Rattle.steps.proofs.VerdictLaws.{numbered-refused, numbered-on}
+use borrow.Author.Needs.{needs}
+use Rattle.steps.proofs.copies.delete_copy.Statement.{statement}
+use Rattle.steps.proofs.copies.delete_copy.Tie as tie
+
+unnumbered-requires : tie.Need-unnumbered-requires
+unnumbered-requires c κs = search needs
+
+refused-requires : tie.Need-refused-requires
+refused-requires c κs = search needs
+
+returns : tie.Need-returns
+unfolding perform
+returns c = λ size. numbered-refused (c .before .before .unnumbered .ensures) _ (c .before .if1 .taken) (c .refused .ensures)
+
+copy-at-requires : tie.Need-copy-at-requires
+copy-at-requires c κs = search needs
+
+recent-count-requires : tie.Need-recent-count-requires
+recent-count-requires c κs = search needs
+
+refused-requires-2 : tie.Need-refused-requires-2
+refused-requires-2 c κs = search needs
+
+returns-2 : tie.Need-returns-2
+unfolding perform
+returns-2 c = λ size.
+    let n = c .before .before .before in
+    numbered-on (n .before .before .before .unnumbered .ensures) _ (n .before .before .if1 .left)
+    (rw (← n .before .copy-at .ensures, ← n .recent-count .ensures, c .before .if2 .taken) (c .refused2 .ensures))
+
+accepted-requires : tie.Need-accepted-requires
+accepted-requires c κs = search needs
+
+returns-3 : tie.Need-returns-3
+unfolding perform
+returns-3 c = λ size.
+    let n = c .before .before .before in
+    numbered-on (n .before .before .before .unnumbered .ensures) _ (n .before .before .if1 .left)
+    (rw (← n .before .copy-at .ensures, ← n .recent-count .ensures, c .before .if2 .left) (c .accepted .ensures))
+
+pub delete-copy-spec : {M : Type 1} → statement M
+delete-copy-spec =
+    tie.close
+    (tie.spec
+    unnumbered-requires
+    refused-requires
+    returns
+    copy-at-requires
+    recent-count-requires
+    refused-requires-2
+    returns-2
+    accepted-requires
+    returns-3)

@@ -1,0 +1,72 @@
+-- `steps::copies::make_copy` meets its contract: 9 and 12, then 13 and 14.
+use borrow.Author.Tests.{eq-eqb, ne-eqb}
+use Rattle.steps.specs.Steps.{perform}
+use Rattle.steps.proofs.VerdictLaws.{numbered-refused, numbered-on}
+use borrow.Author.Needs.{needs}
+use Rattle.steps.proofs.copies.make_copy.Statement.{statement}
+use Rattle.steps.proofs.copies.make_copy.Tie as tie
+
+unnumbered-requires : tie.Need-unnumbered-requires
+unnumbered-requires c κs = search needs
+
+refused-requires : tie.Need-refused-requires
+refused-requires c κs = search needs
+
+returns : tie.Need-returns
+unfolding perform
+returns c = λ size. numbered-refused (c .before .before .unnumbered .ensures) _ (c .before .if1 .taken) (c .refused .ensures)
+
+is-free-requires : tie.Need-is-free-requires
+is-free-requires c κs = search needs
+
+refused-requires-2 : tie.Need-refused-requires-2
+refused-requires-2 c κs = search needs
+
+returns-2 : tie.Need-returns-2
+unfolding perform
+returns-2 c = λ size.
+    let f = c .before .before in
+    numbered-on (f .before .before .unnumbered .ensures) _ (f .before .if1 .left)
+    (rw (← f .is-free .ensures, c .before .if2 .taken) (c .refused2 .ensures))
+
+refused-requires-3 : tie.Need-refused-requires-3
+refused-requires-3 c κs = search needs
+
+returns-3 : tie.Need-returns-3
+unfolding perform
+returns-3 c = λ size.
+    let h = c .before .before .before in
+    let f = h .before in
+    numbered-on (f .before .before .unnumbered .ensures) _ (f .before .if1 .left)
+    (rw (← f .is-free .ensures, h .if2 .left, eq-eqb _ 8 (c .before .if3 .taken)) (c .refused3 .ensures))
+
+copy-at-requires : tie.Need-copy-at-requires
+copy-at-requires c κs = search needs
+
+copied-requires : tie.Need-copied-requires
+copied-requires c κs = search needs
+
+returns-4 : tie.Need-returns-4
+unfolding perform
+returns-4 c = λ size.
+    let e = c .before .before in
+    let h = e .before .before in
+    let f = h .before in
+    numbered-on (f .before .before .unnumbered .ensures) _ (f .before .if1 .left)
+    (rw (← f .is-free .ensures, h .if2 .left, ne-eqb _ 8 (e .if3 .left), ← c .before .copy-at .ensures) (c .copied .ensures))
+
+pub make-copy-spec : {M : Type 1} → statement M
+make-copy-spec =
+    tie.close
+    (tie.spec
+    unnumbered-requires
+    refused-requires
+    returns
+    is-free-requires
+    refused-requires-2
+    returns-2
+    refused-requires-3
+    returns-3
+    copy-at-requires
+    copied-requires
+    returns-4)

@@ -1,0 +1,15 @@
+-- `steps::pages::delete_page` meets its contract.
+use Rattle.steps.specs.Steps.{perform}
+use borrow.Author.Needs.{needs}
+use Rattle.steps.proofs.pages.delete_page.Statement.{statement}
+use Rattle.steps.proofs.pages.delete_page.Tie as tie
+
+owner-step-requires : tie.Need-owner-step-requires
+owner-step-requires c κs = search needs
+
+returns : tie.Need-returns
+unfolding perform
+returns c = λ size. c .owner-step .ensures
+
+pub delete-page-spec : {M : Type 1} → statement M
+delete-page-spec = tie.close (tie.spec owner-step-requires returns)
