@@ -6,7 +6,14 @@ use crate::words::WORDS;
 
 const TEMPLATE: &str = include_str!("view/view.html");
 const STYLE: &str = include_str!("view/view.css");
-const SCRIPT: &str = include_str!("view/view.js");
+const SCRIPTS: [&str; 6] = [
+    include_str!("view/data.js"),
+    include_str!("view/colours.js"),
+    include_str!("view/picture.js"),
+    include_str!("view/lanes.js"),
+    include_str!("view/panel.js"),
+    include_str!("view/main.js"),
+];
 
 /// The page for a file of this name, run from tables of so many frames.
 pub fn page(name: &str, fast: u8, slow: u8, record: &Record) -> String {
@@ -18,7 +25,7 @@ pub fn page(name: &str, fast: u8, slow: u8, record: &Record) -> String {
         ("{{file}}", base64(&record.file)),
         ("{{answers}}", base64(&record.answers)),
         ("{{changes}}", base64(&record.changes)),
-        ("{{script}}", SCRIPT.into()),
+        ("{{script}}", SCRIPTS.concat()),
     ];
     // In the template's order and each once, so that nothing put in is taken for a place.
     let mut page = String::new();
