@@ -1,7 +1,7 @@
 // ---- The lanes below the map, and the whole shift above it.
 
 // The lanes of the lower canvas: where each begins, and how high it is.
-const LANES = { messages: [4, 74], held: [84, 48], tally: [142, 48] };
+const LANES = { messages: [4, 108], held: [120, 46], tally: [174, 46] };
 
 function drawLanes(picture) {
   const context = picture.contexts.lanes;

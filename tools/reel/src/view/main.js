@@ -20,6 +20,10 @@ class Choice {
     }
   }
 
+  isOnlyItsFrames() {
+    return this.page !== null && element('only').checked;
+  }
+
   isAny() {
     return this.page !== null || this.station !== null;
   }
@@ -94,6 +98,8 @@ class View {
     this.choice.set(page, station);
     element('page').value = page === null ? '' : page;
     element('station').value = station === null ? '' : station;
+    element('only').disabled = page === null;
+    this.panel.drawPages(other => this.choose(other, this.choice.station));
     this.panel.drawCounts();
     this.panel.fillRefusals();
     this.drawSoon();
@@ -111,13 +117,13 @@ class View {
   }
 
   goToFrame(step) {
-    const { picture, shift } = this;
+    const { picture } = this;
     const { frame } = picture.cursor;
-    const next = frame === null ? 0 : frame + step;
-    if (next < 0 || next >= shift.frames) return;
-    picture.cursor.frame = next;
+    const row = frame === null || picture.rowOf[frame] < 0 ? 0 : picture.rowOf[frame] + step;
+    if (row < 0 || row >= picture.rows.length) return;
+    picture.cursor.frame = picture.rows[row];
     picture.hover = null;
-    picture.revealFrame(next);
+    picture.revealFrame(picture.cursor.frame);
     this.drawSoon();
   }
 
@@ -145,8 +151,9 @@ class View {
   }
 
   rows(factor) {
-    this.picture.fitRow(this.picture.row * factor);
-    if (this.picture.cursor.frame !== null) this.picture.revealFrame(this.picture.cursor.frame);
+    const { picture } = this;
+    picture.fitRow(picture.row * factor);
+    if (picture.cursor.frame !== null) picture.revealFrame(picture.cursor.frame);
     this.drawSoon();
   }
 
@@ -192,6 +199,7 @@ class View {
     for (const id of ['page', 'station']) {
       element(id).addEventListener('change', () => this.choose(chosen('page'), chosen('station')));
     }
+    element('only').addEventListener('change', () => this.drawSoon());
     element('refusal-number').addEventListener('change', () => {
       this.panel.listNumber = chosen('refusal-number');
       this.panel.fillRefusals();
@@ -209,14 +217,14 @@ class View {
   }
 
   resize() {
-    this.picture.resize();
+    this.picture.measure();
     this.drawSoon();
   }
 
   changeTheme() {
     this.picture.readTheme();
     this.panel.drawLegend();
-    this.drawSoon();
+    this.choose(this.choice.page, this.choice.station);
   }
 
   key(event) {

@@ -116,6 +116,20 @@ class Panel {
     element('legend').replaceChildren(...items.reverse(), ...notes.map(text => made('li', text)));
   }
 
+  // A button for each page in its colour; those that never stood are switched off.
+  drawPages(choose) {
+    const { picture, shift, choice } = this;
+    const buttons = shift.pages.map(({ turns }, page) => {
+      const isChosen = choice.page === page;
+      const button = made('button', `${page}`, { type: 'button', 'aria-pressed': isChosen, title: `Page ${page}` });
+      button.style.borderBottomColor = picture.palette.page(page);
+      button.disabled = turns.length === 0;
+      button.addEventListener('click', () => choose(isChosen ? null : page));
+      return button;
+    });
+    element('pages').replaceChildren(...buttons);
+  }
+
   drawCounts() {
     const { shift, choice } = this;
     const all = new Array(shift.words.length).fill(0);

@@ -4,7 +4,7 @@ const GUTTER = 70;
 const AXIS = 22;
 const LEAST_SPAN = 12;
 const LEAST_ROW = 2;
-const MOST_ROW = 30;
+const MOST_ROW = 40;
 // So many bars at the most are drawn one by one; more are drawn pixel by pixel.
 const MOST_BARS = 4000;
 
@@ -17,19 +17,21 @@ class Picture {
     this.from = 0;
     this.span = this.whole();
     this.top = 0;
-    this.row = 0;
+    // The height of a row, and the height asked for.
+    this.row = LEAST_ROW;
+    this.wish = LEAST_ROW;
     // The place kept, and the place under the pointer.
     this.cursor = { turn: Math.min(1, shift.messages), frame: null };
     this.hover = null;
     this.readTheme();
-    this.resize();
+    this.measure();
   }
 
   readTheme() {
     this.palette = new Palette();
   }
 
-  resize() {
+  measure() {
     this.scale = window.devicePixelRatio || 1;
     for (const context of Object.values(this.contexts)) {
       const { canvas } = context;
@@ -39,7 +41,27 @@ class Picture {
     }
     this.width = Math.max(1, element('map').clientWidth - GUTTER);
     this.height = Math.max(1, element('map').clientHeight - AXIS);
-    this.fitRow(this.row);
+    this.layRows();
+  }
+
+  // Which frames have a row: all, or those that the chosen page is on in the part shown.
+  layRows() {
+    const { shift, choice } = this;
+    const all = Array.from({ length: shift.frames }, (_, frame) => frame);
+    this.rows = choice.isOnlyItsFrames() ? all.filter(frame => this.isHeldHere(frame, choice.page)) : all;
+    this.rowOf = new Int16Array(shift.frames).fill(-1);
+    this.rows.forEach((frame, row) => (this.rowOf[frame] = row));
+    this.fitRow(this.wish);
+  }
+
+  isHeldHere(frame, page) {
+    const { turns, pages } = this.shift.held[frame];
+    const visible = this.visibleTurns();
+    const last = lastUpTo(turns, visible.last);
+    for (let i = lastUpTo(turns, visible.first); i <= last; i++) {
+      if (pages[i] === page) return true;
+    }
+    return false;
   }
 
   // ---- Places
@@ -62,12 +84,12 @@ class Picture {
   }
 
   y(frame) {
-    return AXIS + frame * this.row - this.top;
+    return AXIS + this.rowOf[frame] * this.row - this.top;
   }
 
   frameAt(y) {
-    const frame = Math.floor((y - AXIS + this.top) / this.row);
-    return y >= AXIS && frame >= 0 && frame < this.shift.frames ? frame : null;
+    const row = Math.floor((y - AXIS + this.top) / this.row);
+    return y >= AXIS && row < this.rows.length ? this.rows[row] : null;
   }
 
   place() {
@@ -99,19 +121,20 @@ class Picture {
   }
 
   revealFrame(frame) {
-    const y = frame * this.row;
+    const y = this.rowOf[frame] * this.row;
     this.scroll(Math.min(y, Math.max(this.top, y + this.row - this.height)));
   }
 
   scroll(top) {
-    const all = this.shift.frames * this.row;
+    const all = this.rows.length * this.row;
     this.top = Math.max(0, Math.min(all - this.height, top));
   }
 
   // Rows of this height, but no lower than that all frames fill the picture.
-  fitRow(row) {
-    const fitting = Math.min(MOST_ROW, this.height / Math.max(1, this.shift.frames));
-    this.row = Math.max(LEAST_ROW, fitting, Math.min(MOST_ROW, row));
+  fitRow(wish) {
+    const fitting = Math.min(MOST_ROW, this.height / Math.max(1, this.rows.length));
+    this.wish = Math.min(MOST_ROW, wish);
+    this.row = Math.max(LEAST_ROW, fitting, this.wish);
     this.scroll(this.top);
   }
 
@@ -130,6 +153,7 @@ class Picture {
   // ---- Drawing
 
   draw() {
+    this.layRows();
     this.drawMap();
     drawLanes(this);
     drawOverview(this);
@@ -152,12 +176,12 @@ class Picture {
   drawMap() {
     const context = this.contexts.map;
     this.clear(context);
-    if (this.shift.messages > 0) {
+    if (this.rows.length > 0 && this.shift.messages > 0) {
       if (this.row * this.scale >= 6 && this.countBars() <= MOST_BARS) this.drawBars(context);
       else this.drawPixels(context);
       this.drawMoves(context);
     } else {
-      this.text(context, 'The file has no messages.', GUTTER + 12, AXIS + 20, this.palette.soft);
+      this.text(context, 'Nothing is on a frame here.', GUTTER + 12, AXIS + 20, this.palette.soft);
     }
     this.drawFrames(context);
     this.drawAxis(context);
@@ -165,8 +189,7 @@ class Picture {
 
   visibleFrames() {
     const first = Math.max(0, Math.floor(this.top / this.row));
-    const last = Math.min(this.shift.frames - 1, Math.floor((this.top + this.height) / this.row));
-    return { first, last };
+    return this.rows.slice(first, Math.floor((this.top + this.height) / this.row) + 1);
   }
 
   visibleTurns() {
@@ -174,10 +197,9 @@ class Picture {
   }
 
   countBars() {
-    const rows = this.visibleFrames();
     const turns = this.visibleTurns();
     let count = 0;
-    for (let frame = rows.first; frame <= rows.last; frame++) {
+    for (const frame of this.visibleFrames()) {
       const list = this.shift.held[frame].turns;
       count += lastUpTo(list, turns.last) - lastUpTo(list, turns.first) + 1;
     }
@@ -185,13 +207,16 @@ class Picture {
   }
 
   drawBars(context) {
-    const rows = this.visibleFrames();
     context.save();
+    this.clip(context);
+    for (const frame of this.visibleFrames()) this.drawBarsOf(context, frame);
+    context.restore();
+  }
+
+  clip(context) {
     context.beginPath();
     context.rect(GUTTER, AXIS, this.width, this.height);
     context.clip();
-    for (let frame = rows.first; frame <= rows.last; frame++) this.drawBarsOf(context, frame);
-    context.restore();
   }
 
   drawBarsOf(context, frame) {
@@ -230,10 +255,9 @@ class Picture {
     const pixels = new Uint32Array(image.data.buffer);
     const columns = this.columns(width);
     const shades = this.shades();
-    const rows = this.visibleFrames();
-    for (let frame = rows.first; frame <= rows.last; frame++) {
-      const top = Math.round((frame * this.row - this.top) * this.scale);
-      const bottom = Math.round(((frame + 1) * this.row - this.top) * this.scale);
+    for (const frame of this.visibleFrames()) {
+      const top = Math.round((this.y(frame) - AXIS) * this.scale);
+      const bottom = Math.round((this.y(frame) - AXIS + this.row) * this.scale);
       const bar = bottom - top - (bottom - top >= 3 ? 1 : 0);
       this.paintRow(pixels, width, height, this.shift.held[frame], columns, shades, top, top + bar);
     }
@@ -286,17 +310,15 @@ class Picture {
     const { shift } = this;
     if (this.cell() < 7 || this.row < 5) return;
     context.save();
-    context.beginPath();
-    context.rect(GUTTER, AXIS, this.width, this.height);
-    context.clip();
+    this.clip(context);
     const turns = this.visibleTurns();
     for (let turn = turns.first; turn <= turns.last; turn++) {
       const kind = shift.kinds[shift.kindOf[turn] - 1];
       if (shift.numbers[turn] > 0 || !kind || kind.word !== 'copy') continue;
       const [page, copy, frame] = shift.message(turn).subarray(4);
       if (!this.isChosenPage(page)) continue;
-      const source = shift.copies(page, turn - 1)[copy];
-      this.drawArrow(context, this.x(turn) + Math.min(this.cell() / 2, 8), source ? source.frame : NONE, frame);
+      const source = shift.copies(page, turn - 1)[copy].frame;
+      this.drawArrow(context, this.x(turn) + Math.max(this.cell() / 2, this.cell() - 8), source, frame);
     }
     context.restore();
   }
@@ -327,25 +349,26 @@ class Picture {
   drawFrames(context) {
     const { shift, palette } = this;
     context.clearRect(0, AXIS, GUTTER, this.height);
-    const rows = this.visibleFrames();
     const step = [1, 2, 5, 10, 20, 50].find(count => count * this.row >= 13) || 100;
-    for (let frame = rows.first; frame <= rows.last; frame++) {
-      const isSlow = frame >= shift.fast;
-      const inStore = isSlow ? frame - shift.fast : frame;
-      if (inStore % step > 0) continue;
-      const y = this.y(frame) + this.row / 2;
-      if (y < AXIS + 6) continue;
+    for (const frame of this.visibleFrames()) {
+      const row = this.rowOf[frame] - (frame < shift.fast ? 0 : this.firstSlowRow());
+      if (row % step > 0) continue;
+      const y = Math.max(AXIS + 7, this.y(frame) + this.row / 2);
       this.text(context, `${shift.store(frame)} ${frame}`, GUTTER - 8, y, palette.soft, 'right');
     }
+    const border = Math.round(AXIS + this.firstSlowRow() * this.row - this.top) - 0.5;
+    if (border <= AXIS || border > AXIS + this.height) return;
     context.strokeStyle = palette.ink;
     context.lineWidth = 1;
-    const border = Math.round(this.y(shift.fast)) - 0.5;
-    if (shift.fast > 0 && shift.slow > 0 && border > AXIS) {
-      context.beginPath();
-      context.moveTo(0, border);
-      context.lineTo(GUTTER + this.width, border);
-      context.stroke();
-    }
+    context.beginPath();
+    context.moveTo(GUTTER, border);
+    context.lineTo(GUTTER + this.width, border);
+    context.stroke();
+  }
+
+  // How many rows are of fast frames.
+  firstSlowRow() {
+    return this.rows.filter(frame => frame < this.shift.fast).length;
   }
 
   drawAxis(context) {
@@ -385,7 +408,7 @@ class Picture {
       context.fillRect(Math.max(GUTTER, left), map.offsetTop, width, element('overlay').clientHeight - map.offsetTop);
       context.globalAlpha = 1;
     }
-    if (place.frame === null) return;
+    if (place.frame === null || this.rowOf[place.frame] < 0) return;
     const y = this.y(place.frame);
     if (y + this.row <= AXIS || y >= AXIS + this.height) return;
     context.strokeStyle = this.palette.accent;
