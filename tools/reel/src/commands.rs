@@ -118,13 +118,14 @@ fn watched(shift: &Shift) -> Result<Watched, Failure> {
 
 fn history(shift: &Shift, page: u8) -> Result<Outcome, Failure> {
     let mut watched = watched(shift)?;
+    let mut history = History::default();
     to_standard(|out| {
         each_turn(shift, true, |turn, message| {
             let reply = watched.feed(message);
+            history.follow(turn, message, page, &watched);
             if watched.is_touched(page, message) {
                 let line = numbered(turn, message, &reply, shift.fast);
-                let copies = words::copies(watched.copies(page), shift.fast);
-                writeln!(out, "{line} | {copies}")?;
+                writeln!(out, "{line} | {}", history.line(shift.fast))?;
             }
             Ok(reply.number)
         })
@@ -136,8 +137,8 @@ fn latest(shift: &Shift, page: u8, at: u64) -> Result<Outcome, Failure> {
     let mut history = History::default();
     let outcome = each_turn(shift, true, |turn, message| {
         let reply = watched.feed(message);
-        if turn <= at && watched.changed().contains(&page) {
-            history.change(turn, words::message(message), watched.copies(page));
+        if turn <= at {
+            history.follow(turn, message, page, &watched);
         }
         Ok(reply.number)
     })?;

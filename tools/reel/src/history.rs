@@ -1,6 +1,7 @@
 //! The copies of one page, with the message that made each stale one stale.
 
-use crate::looks::{Mark, PageCopy};
+use crate::looks::{Mark, PageCopy, Watched};
+use crate::words;
 
 /// A message of the file: its number and its words.
 #[derive(Clone, Debug, PartialEq, Eq)]
@@ -24,10 +25,17 @@ pub struct History {
 }
 
 impl History {
+    /// Follows a page: `message`, with this number, was the last one fed.
+    pub fn follow(&mut self, number: u64, message: &[u8], page: u8, watched: &Watched) {
+        if watched.changed().contains(&page) {
+            let words = words::message(message);
+            self.change(Turn { number, words }, watched.copies(page));
+        }
+    }
+
     /// Another look than before: a copy that is not MOST RECENT now was made stale, or made of a
     /// stale one, by this message, unless it was stale already.
-    pub fn change(&mut self, number: u64, words: String, copies: &[PageCopy]) {
-        let turn = Turn { number, words };
+    fn change(&mut self, turn: Turn, copies: &[PageCopy]) {
         let before = std::mem::take(&mut self.copies);
         // Within a page the frame tells which copy it is, as the numbers close up after a delete.
         let earlier = |copy: &PageCopy| before.iter().find(|held| held.copy.frame == copy.frame);
@@ -46,6 +54,20 @@ impl History {
         &self.copies
     }
 
+    /// The copies in one line.
+    pub fn line(&self, fast: u8) -> String {
+        if self.copies.is_empty() {
+            return "the page does not stand".into();
+        }
+        words::listed(self.copies.iter().map(|held| {
+            let copy = held.copy.in_words(fast);
+            match &held.stale_since {
+                None => copy,
+                Some(turn) => format!("{copy} since {}", turn.number),
+            }
+        }))
+    }
+
     /// Which copies are the latest after message `at`, and since when the others are stale.
     pub fn latest(&self, page: u8, at: u64, fast: u8) -> Vec<String> {
         if self.copies.is_empty() {
@@ -58,25 +80,31 @@ impl History {
             )];
         }
         let mut lines = vec![format!("page {page} after message {at}")];
-        let copies = || self.copies.iter().enumerate();
-        for (number, held) in copies().filter(|(_, held)| held.stale_since.is_none()) {
-            lines.push(format!(
-                "latest: copy {number}, {}",
-                held.copy.in_words(fast)
-            ));
+        for (number, Held { copy, .. }) in self.numbered(|held| held.stale_since.is_none()) {
+            let (place, mark) = (copy.place(fast), copy.mark.word());
+            lines.push(format!("latest: copy {number}, {place}, {mark}"));
         }
-        if !copies().any(|(_, held)| held.copy.mark == Mark::Current) {
+        if self
+            .numbered(|held| held.copy.mark == Mark::Current)
+            .next()
+            .is_none()
+        {
             lines.push("no copy is CURRENT".into());
         }
-        for (number, held) in copies() {
-            if let Some(turn) = &held.stale_since {
-                let copy = held.copy.in_words(fast);
-                let (since, words) = (turn.number, &turn.words);
+        for (number, Held { copy, stale_since }) in self.numbered(|_| true) {
+            if let Some(turn) = stale_since {
+                let (place, since, words) = (copy.place(fast), turn.number, &turn.words);
                 lines.push(format!(
-                    "stale: copy {number}, {copy} since message {since}, {words}"
+                    "stale: copy {number}, {place}, since message {since}, {words}"
                 ));
             }
         }
         lines
+    }
+
+    /// The copies that pass a test, with their numbers.
+    fn numbered(&self, test: fn(&Held) -> bool) -> impl Iterator<Item = (usize, &Held)> {
+        let numbered = self.copies.iter().enumerate();
+        numbered.filter(move |(_, held)| test(held))
     }
 }

@@ -101,22 +101,30 @@ fn told(tells: Tells, data: &[u8], fast: u8) -> String {
 
 /// The copies of a page, each with its number.
 pub fn copies(copies: &[PageCopy], fast: u8) -> String {
-    if copies.is_empty() {
-        return "no page".into();
-    }
-    let copies = copies.iter().enumerate();
-    let words = copies.map(|(number, copy)| format!("copy {number} {}", copy.in_words(fast)));
-    words.collect::<Vec<_>>().join(", ")
+    listed(copies.iter().map(|copy| copy.in_words(fast)))
+}
+
+/// What is said of each copy, with its number before it.
+pub fn listed(copies: impl Iterator<Item = String>) -> String {
+    let numbered = copies.enumerate();
+    let words: Vec<String> = numbered
+        .map(|(number, words)| format!("copy {number} {words}"))
+        .collect();
+    words.join(", ")
 }
 
 impl PageCopy {
     /// As `frame 3 fast CURRENT`.
     pub fn in_words(&self, fast: u8) -> String {
-        let place = match self.frame {
-            None => "no frame".to_string(),
+        format!("{} {}", self.place(fast), self.mark.word())
+    }
+
+    /// As `frame 3 fast`.
+    pub fn place(&self, fast: u8) -> String {
+        match self.frame {
+            None => "no frame".into(),
             Some(frame) if frame < fast => format!("frame {frame} fast"),
             Some(frame) => format!("frame {frame} slow"),
-        };
-        format!("{place} {}", self.mark.word())
+        }
     }
 }
