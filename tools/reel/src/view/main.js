@@ -11,10 +11,13 @@ class Choice {
     this.page = page;
     this.station = station;
     const { shift } = this;
+    this.chosen = new Uint8Array(shift.messages + 1);
     this.pages = new Set();
     this.refusals = [];
     for (let turn = 1; turn <= shift.messages; turn++) {
-      if (!this.has(turn)) continue;
+      if (page !== null && page !== shift.pageOf[turn]) continue;
+      if (station !== null && station !== shift.stationOf[turn]) continue;
+      this.chosen[turn] = 1;
       this.pages.add(shift.pageOf[turn]);
       if (shift.numbers[turn] > 0) this.refusals.push(turn);
     }
@@ -30,9 +33,7 @@ class Choice {
 
   // Whether a message names the page and comes from the station.
   has(turn) {
-    const { shift } = this;
-    const fits = (chosen, named) => chosen === null || chosen === named;
-    return fits(this.page, shift.pageOf[turn]) && fits(this.station, shift.stationOf[turn]);
+    return this.chosen[turn] === 1;
   }
 }
 

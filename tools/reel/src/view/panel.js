@@ -111,7 +111,8 @@ class Panel {
     });
     const notes = [
       'A number in a bar is the page, and so is its colour. No bar: the frame is free.',
-      'A column shows the state after its message; zoomed out, after the last of its messages. Close up, an arrow is a copy being made.',
+      'A column shows the state after its message; zoomed out, after the last of its messages.',
+      'Close up, an arrow is a copy being made, and \u271516 a message refused with number 16. Of the frames held, fast ones are full, slow ones hatched.',
     ];
     element('legend').replaceChildren(...items.reverse(), ...notes.map(text => made('li', text)));
   }
