@@ -58,12 +58,25 @@ fn to_standard<T>(action: impl FnOnce(&mut dyn Write) -> Result<T, Failure>) -> 
     Ok(result)
 }
 
-/// Writes a file, or to standard output.
-fn put(path: &OsStr, bytes: &[u8]) -> Result<(), Failure> {
+/// Writes what was made of `source` to a file, or to standard output.
+fn put(path: &OsStr, source: &OsStr, bytes: &[u8]) -> Result<(), Failure> {
     if path == STANDARD {
         return to_standard(|out| Ok(out.write_all(bytes)?));
     }
+    if is_same_file(path, source) {
+        let name = path.display();
+        return Err(Failure::line(format!(
+            "-o {name} would overwrite what it is made of"
+        )));
+    }
     fs::write(path, bytes).map_err(|error| Failure::at(path.display(), error))
+}
+
+fn is_same_file(one: &OsStr, other: &OsStr) -> bool {
+    match (fs::canonicalize(one), fs::canonicalize(other)) {
+        (Ok(one), Ok(other)) => one == other,
+        _ => false,
+    }
 }
 
 fn write(path: &OsStr, out: &OsStr) -> Result<(), Failure> {
@@ -75,7 +88,7 @@ fn write(path: &OsStr, out: &OsStr) -> Result<(), Failure> {
         line.clear();
         let length = input.read_until(b'\n', &mut line);
         if length.map_err(|error| Failure::at(&name, error))? == 0 {
-            return put(out, &file);
+            return put(out, path, &file);
         }
         number += 1;
         let wrong = |error| Failure::line(format!("{name}: line {number}: {error}"));
@@ -165,6 +178,6 @@ fn picture(shift: &Shift, path: &OsStr) -> Result<Outcome, Failure> {
         Ok(reply.number)
     })?;
     let page = view::page(&name_of(&shift.file), shift.fast, shift.slow, &record);
-    put(path, page.as_bytes())?;
+    put(path, &shift.file, page.as_bytes())?;
     Ok(outcome)
 }

@@ -17,7 +17,7 @@ impl<R: Read> Messages<R> {
     }
 
     /// The next message, its length first; None at the end of the file.
-    pub fn next(&mut self) -> io::Result<Option<&[u8]>> {
+    pub fn next_message(&mut self) -> io::Result<Option<&[u8]>> {
         self.message.clear();
         self.take(2)?;
         if let [high, low] = self.message[..] {
@@ -50,7 +50,7 @@ mod tests {
     fn messages(file: &[u8]) -> Vec<Vec<u8>> {
         let mut messages = Messages::new(file);
         let mut all = Vec::new();
-        while let Some(message) = messages.next().unwrap() {
+        while let Some(message) = messages.next_message().unwrap() {
             all.push(message.to_vec());
         }
         all

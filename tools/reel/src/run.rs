@@ -41,19 +41,19 @@ pub fn each_message(
     let (input, length) = open(path)?;
     let mut messages = Messages::new(BufReader::with_capacity(1 << 16, input));
     let mut progress = Progress::new(length, lines);
-    let mut count = 0;
+    let (mut count, mut cut) = (0, None);
     let failed = |error| Failure::at(name_of(path), error);
-    while let Some(message) = messages.next().map_err(failed)? {
+    while let Some(message) = messages.next_message().map_err(failed)? {
         count += 1;
         visit(count, message)?;
         progress.count(message.len());
-        if let Some(missing) = missing(message) {
-            let missing = counted(missing as u64, "byte is", "bytes are");
-            note(
-                path,
-                &format!("message {count} is cut short: {missing} missing"),
-            );
-        }
+        cut = missing(message);
+    }
+    drop(progress);
+    if let Some(missing) = cut {
+        let missing = counted(missing as u64, "byte is", "bytes are");
+        let text = format!("message {count} is cut short: {missing} missing");
+        note(path, &text);
     }
     if count == 0 {
         note(path, "the file is empty, there are no messages");

@@ -12,13 +12,11 @@ class Choice {
     this.station = station;
     const { shift } = this;
     this.chosen = new Uint8Array(shift.messages + 1);
-    this.pages = new Set();
     this.refusals = [];
     for (let turn = 1; turn <= shift.messages; turn++) {
       if (page !== null && page !== shift.pageOf[turn]) continue;
       if (station !== null && station !== shift.stationOf[turn]) continue;
       this.chosen[turn] = 1;
-      this.pages.add(shift.pageOf[turn]);
       if (shift.numbers[turn] > 0) this.refusals.push(turn);
     }
   }
@@ -284,14 +282,16 @@ class View {
   wheel(event) {
     event.preventDefault();
     const { picture } = this;
-    const isAlong = event.shiftKey || Math.abs(event.deltaX) > Math.abs(event.deltaY);
-    if (isAlong) {
-      const way = event.deltaX || event.deltaY;
+    const isAcross = Math.abs(event.deltaX) > Math.abs(event.deltaY);
+    const way = isAcross ? event.deltaX : event.deltaY;
+    if (event.altKey) {
+      picture.scroll(picture.top + way);
+    } else if (event.shiftKey || isAcross) {
       picture.show(picture.from + (way * picture.span) / picture.width, picture.span);
-      this.drawSoon();
     } else {
-      this.zoom(1.0015 ** event.deltaY, event.offsetX);
+      picture.zoom(1.0015 ** way, event.offsetX);
     }
+    this.drawSoon();
   }
 
   placeOf(event) {

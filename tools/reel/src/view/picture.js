@@ -143,7 +143,7 @@ class Picture {
   isChosenPage(page) {
     const { choice } = this;
     if (choice.page !== null) return page === choice.page;
-    return choice.station === null || choice.pages.has(page);
+    return choice.station === null || this.pagesNamed.has(page);
   }
 
   colour(page) {
@@ -152,8 +152,18 @@ class Picture {
 
   // ---- Drawing
 
+  // The pages that chosen messages name in the part shown.
+  findPagesNamed() {
+    const turns = this.visibleTurns();
+    this.pagesNamed = new Set();
+    for (let turn = turns.first; turn <= turns.last; turn++) {
+      if (this.choice.has(turn)) this.pagesNamed.add(this.shift.pageOf[turn]);
+    }
+  }
+
   draw() {
     this.layRows();
+    this.findPagesNamed();
     this.drawMap();
     drawLanes(this);
     drawOverview(this);
@@ -184,7 +194,19 @@ class Picture {
       this.text(context, 'Nothing is on a frame here.', GUTTER + 12, AXIS + 20, this.palette.soft);
     }
     this.drawFrames(context);
+    this.drawThumb(context);
     this.drawAxis(context);
+  }
+
+  // Which part of the rows is in sight, if not all.
+  drawThumb(context) {
+    const all = this.rows.length * this.row;
+    if (all <= this.height + 1) return;
+    const share = this.height / all;
+    context.fillStyle = this.palette.ink;
+    context.globalAlpha = 0.6;
+    context.fillRect(GUTTER + this.width - 6, AXIS + this.top * share, 5, this.height * share);
+    context.globalAlpha = 1;
   }
 
   visibleFrames() {
@@ -350,13 +372,16 @@ class Picture {
     const { shift, palette } = this;
     context.clearRect(0, AXIS, GUTTER, this.height);
     const step = [1, 2, 5, 10, 20, 50].find(count => count * this.row >= 13) || 100;
+    const slow = this.firstSlowRow();
     for (const frame of this.visibleFrames()) {
-      const row = this.rowOf[frame] - (frame < shift.fast ? 0 : this.firstSlowRow());
-      if (row % step > 0) continue;
+      const row = this.rowOf[frame] - (frame < shift.fast ? 0 : slow);
+      // The last name of the fast store gives way to the first of the slow one.
+      const isCrowded = frame < shift.fast && (slow - row) * this.row < 13 && slow < this.rows.length && row > 0;
+      if (row % step > 0 || isCrowded) continue;
       const y = Math.max(AXIS + 7, this.y(frame) + this.row / 2);
       this.text(context, `${shift.store(frame)} ${frame}`, GUTTER - 8, y, palette.soft, 'right');
     }
-    const border = Math.round(AXIS + this.firstSlowRow() * this.row - this.top) - 0.5;
+    const border = Math.round(AXIS + slow * this.row - this.top) - 0.5;
     if (border <= AXIS || border > AXIS + this.height) return;
     context.strokeStyle = palette.ink;
     context.lineWidth = 1;
