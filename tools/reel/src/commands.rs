@@ -4,7 +4,7 @@ use crate::failure::Failure;
 use crate::history::History;
 use crate::lines;
 use crate::looks::{Reply, Watched};
-use crate::options::{Command, Shift, HELP, STANDARD};
+use crate::options::{help, Command, Shift, STANDARD};
 use crate::record::Record;
 use crate::run::{each_message, each_turn, name_of, no_tables, open, Outcome};
 use crate::{view, words};
@@ -22,7 +22,7 @@ pub enum Status {
 
 pub fn run(command: Command) -> Result<Status, Failure> {
     match command {
-        Command::Help => to_standard(|out| Ok(out.write_all(HELP.as_bytes())?)).map(done),
+        Command::Help => to_standard(|out| Ok(out.write_all(help().as_bytes())?)).map(done),
         Command::Write { lines, out } => write(&lines, &out).map(done),
         Command::Words { file } => words_of(&file).map(done),
         Command::Show { shift } => show(&shift).map(|outcome| status(&shift, &outcome)),

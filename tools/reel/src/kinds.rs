@@ -54,18 +54,23 @@ pub struct Kind {
 }
 
 impl Kind {
-    /// Whether bytes follow the arguments, which are then 1 to 64.
+    /// Whether bytes follow the arguments.
     pub fn has_bytes(&self) -> bool {
         self.sentence.ends_with('*')
     }
 
-    /// Whether so many bytes may follow the arguments.
-    pub fn admits(&self, bytes: usize) -> bool {
-        if self.has_bytes() {
-            (1..=kernel::FRAME).contains(&bytes)
-        } else {
-            bytes == 0
+    /// How many bytes follow the arguments at the least and at the most.
+    pub fn bytes(&self) -> (usize, usize) {
+        match self.has_bytes() {
+            true => (1, kernel::FRAME),
+            false => (0, 0),
         }
+    }
+
+    /// Whether so many bytes may follow the arguments.
+    pub fn admits(&self, count: usize) -> bool {
+        let (least, most) = self.bytes();
+        (least..=most).contains(&count)
     }
 }
 

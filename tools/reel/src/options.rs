@@ -1,12 +1,13 @@
 //! The command line.
 
 use crate::failure::Failure;
+use crate::kinds::KINDS;
 use crate::looks::PAGES;
 use kernel::MOST_FRAMES;
 use std::ffi::{OsStr, OsString};
 use std::fmt::Display;
 
-pub const HELP: &str = "\
+const COMMANDS: &str = "\
 reel: call files of the reel page kernel, seen through the kernel's own replies
 
   reel write [LINES] [-o FILE]   turn lines of words into a call file
@@ -24,20 +25,28 @@ show, page and view start from fresh tables and take
 
 Messages are numbered from 1. `-` stands for standard input or output.
 
-A line of words is one of these, with decimal numbers 0 to 255; BYTES are hexadecimal, two digits
-each. What follows a `#` is a comment.
-  create STATION PAGE            delete-page STATION PAGE
-  grant STATION PAGE OTHER-STATION RIGHT
-  read STATION PAGE OFFSET COUNT
-  write STATION PAGE OFFSET BYTES (1 to 64)
-  copy PAGE COPY FRAME           delete-copy PAGE COPY
-  current PAGE COPY              remove-current PAGE COPY
-  look-page PAGE                 look-frame FRAME
-  raw BYTES (laid as they are)
-
 Exit status: 0 done; 1 with --strict, the file was read and a message was refused; 2 bad usage, or
 a file that cannot be read or written.
+
+A line of words is one of these, with decimal numbers 0 to 255; BYTES are hexadecimal, two digits
+each. What follows a `#` is a comment.
 ";
+
+/// All that `reel --help` says.
+pub fn help() -> String {
+    let mut text = COMMANDS.to_string();
+    for kind in &KINDS {
+        text += &format!("  {}", kind.word);
+        for argument in kind.arguments {
+            text += &format!(" {}", argument.name().to_uppercase().replace(' ', "-"));
+        }
+        if kind.has_bytes() {
+            text += " BYTES (1 to 64)";
+        }
+        text.push('\n');
+    }
+    text + "  raw BYTES (laid as they are)\n"
+}
 
 /// A call file and the fresh tables that it starts from.
 #[derive(Debug, PartialEq, Eq)]

@@ -71,8 +71,9 @@ fn kind(kind: &Kind) -> String {
         .iter()
         .map(|argument| string(argument.name()));
     let names: Vec<String> = names.collect();
+    let (least, most) = kind.bytes();
     format!(
-        "{{\"word\":{},\"sentence\":{},\"arguments\":[{}],\"tells\":{}}}",
+        "{{\"word\":{},\"sentence\":{},\"arguments\":[{}],\"bytes\":[{least},{most}],\"tells\":{}}}",
         string(kind.word),
         string(kind.sentence),
         names.join(","),

@@ -12,22 +12,20 @@ class Palette {
     this.accent = value('accent');
     this.refused = value('refused');
     const isDark = matchMedia('(prefers-color-scheme: dark)').matches;
-    this.pages = Array.from({ length: 64 }, (_, page) => pageColour(page, isDark));
+    this.pages = Array.from({ length: PAGES }, (_, page) => pageColour(page, isDark));
     this.hatches = new Map();
-  }
-
-  // Neighbouring pages get hues far apart.
-  page(page) {
-    return this.pages[page];
   }
 
   // Lines in one colour over a light tint of it.
   hatch(context, colour) {
-    if (!this.hatches.has(colour)) this.hatches.set(colour, context.createPattern(hatchTile(colour), 'repeat'));
+    if (!this.hatches.has(colour)) {
+      this.hatches.set(colour, context.createPattern(hatchTile(colour), 'repeat'));
+    }
     return this.hatches.get(colour);
   }
 }
 
+// Neighbouring pages get hues far apart.
 function pageColour(page, isDark) {
   const hue = (page * 137.508) % 360;
   const level = (page % 3) * 7;

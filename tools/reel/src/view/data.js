@@ -8,7 +8,9 @@ window.addEventListener('error', event => {
 
 const element = id => document.getElementById(id);
 
-// The frame of a null copy, and the page of a free frame.
+const PAGES = 64;
+const STATIONS = 16;
+// The frame of a null copy, the page of a free frame, and what a message does not name.
 const NONE = 255;
 // A copy's mark is a place in this list.
 const MARKS = ['stale', 'MOST RECENT', 'CURRENT'];
@@ -105,8 +107,8 @@ class Shift {
     const kind = this.kinds[message[3] - 1];
     if (!kind || message[2] !== 1 || message.length !== 2 + message[0] * 256 + message[1]) return 0;
     const rest = message.length - 4 - kind.arguments.length;
-    const fits = kind.sentence.endsWith('*') ? rest >= 1 && rest <= 64 : rest === 0;
-    return fits ? message[3] : 0;
+    const [least, most] = kind.bytes;
+    return rest >= least && rest <= most ? message[3] : 0;
   }
 
   readAnswers() {
@@ -132,7 +134,7 @@ class Shift {
   readChanges() {
     const reader = new Reader(unpacked('changes'));
     this.changes = reader.bytes;
-    this.pages = Array.from({ length: 64 }, () => ({ turns: [], at: [] }));
+    this.pages = Array.from({ length: PAGES }, () => ({ turns: [], at: [] }));
     this.held = Array.from({ length: this.frames }, () => ({ turns: [0], pages: [NONE], marks: [STALE] }));
     this.heldFast = new Uint8Array(this.messages + 1);
     this.heldSlow = new Uint8Array(this.messages + 1);

@@ -15,7 +15,9 @@ function drawLanes(picture) {
 
 function drawLaneName(picture, context, [top], ...lines) {
   const { palette } = picture;
-  lines.forEach((line, i) => picture.text(context, line, GUTTER - 8, top + 8 + 15 * i, palette.soft, 'right'));
+  lines.forEach((line, i) => {
+    picture.text(context, line, GUTTER - 8, top + 8 + 15 * i, palette.soft, 'right');
+  });
 }
 
 function drawFloor(picture, context, y) {
@@ -59,12 +61,10 @@ function drawDensity(picture, context) {
   const most = list => list.reduce((a, b) => Math.max(a, b), 1);
   const up = (middle - top) / most(accepted);
   const down = (top + height - middle) / most(refused);
-  for (let x = 0; x < accepted.length; x++) {
-    context.fillStyle = palette.soft;
-    context.fillRect(GUTTER + x, middle - accepted[x] * up, 1, accepted[x] * up);
-    context.fillStyle = palette.refused;
-    context.fillRect(GUTTER + x, middle + 1, 1, refused[x] * down);
-  }
+  context.fillStyle = palette.soft;
+  accepted.forEach((count, x) => context.fillRect(GUTTER + x, middle - count * up, 1, count * up));
+  context.fillStyle = palette.refused;
+  refused.forEach((count, x) => context.fillRect(GUTTER + x, middle + 1, 1, count * down));
   drawFloor(picture, context, middle);
   drawLaneName(picture, context, LANES.messages, 'accepted');
   drawLaneName(picture, context, [middle + 4], 'refused');
@@ -135,7 +135,8 @@ function drawTally(picture, context) {
     context.lineWidth = 1.5;
     context.setLineDash(dash);
     context.beginPath();
-    curve(picture, turn => list[turn], (x, y) => context.lineTo(x, top + height - ((y - low) / rise) * (height - 2)));
+    const y = value => top + height - ((value - low) / rise) * (height - 2);
+    curve(picture, turn => list[turn], (x, value) => context.lineTo(x, y(value)));
     context.stroke();
     context.setLineDash([]);
   };
@@ -143,10 +144,9 @@ function drawTally(picture, context) {
   line(shift.refused, palette.refused, [5, 4]);
   drawFloor(picture, context, top + height);
   drawLaneName(picture, context, LANES.tally, 'tally');
-  const laid = `\u2014 ${grouped(shift.laid[turns.first - 1])} to ${grouped(shift.laid[turns.last])} bytes laid`;
-  const refused = `- - ${grouped(shift.refused[turns.first - 1])} to ${grouped(shift.refused[turns.last])} refused`;
-  picture.text(context, laid, GUTTER + 6, top + 8, palette.ink);
-  picture.text(context, refused, GUTTER + 6, top + 22, palette.refused);
+  const range = list => `${grouped(list[turns.first - 1])} to ${grouped(list[turns.last])}`;
+  picture.text(context, `\u2014 ${range(shift.laid)} bytes laid`, GUTTER + 6, top + 8, palette.ink);
+  picture.text(context, `- - ${range(shift.refused)} refused`, GUTTER + 6, top + 22, palette.refused);
 }
 
 // Frames held over the whole shift, a tick for each refusal, and the part that the map shows.

@@ -56,16 +56,18 @@ class View {
     element('name').textContent = shift.name;
     const refused = grouped(shift.refused[messages]);
     const laid = counted(shift.laid[messages], 'byte', 'bytes');
+    const frames = `${shift.fast} fast and ${shift.slow} slow frames`;
     element('summary').textContent =
-      `${counted(messages, 'message', 'messages')}, ${refused} refused, ${laid} laid; ${shift.fast} fast and ${shift.slow} slow frames`;
+      `${counted(messages, 'message', 'messages')}, ${refused} refused, ${laid} laid; ${frames}`;
     const option = (value, text) => made('option', text, { value });
     const numbers = count => Array.from({ length: count }, (_, number) => option(number, `${number}`));
-    element('page').append(option('', 'all'), ...numbers(64));
-    element('station').append(option('', 'all'), ...numbers(16));
+    element('page').append(option('', 'all'), ...numbers(PAGES));
+    element('station').append(option('', 'all'), ...numbers(STATIONS));
     element('message').max = messages;
     const given = new Set(shift.numbers.subarray(1));
-    const words = shift.words.map((word, number) => option(number, `${number} ${word}`));
-    element('refusal-number').append(option('', 'all'), ...words.filter((_, number) => number > 0 && given.has(number)));
+    const refusals = shift.words.map((word, number) => option(number, `${number} ${word}`));
+    const isGiven = (_, number) => number > 0 && given.has(number);
+    element('refusal-number').append(option('', 'all'), ...refusals.filter(isGiven));
   }
 
   // ---- Drawing
@@ -135,8 +137,9 @@ class View {
 
   goToRefusal(step) {
     const { listNumber } = this.panel;
-    const isListed = turn => listNumber === null || this.shift.numbers[turn] === listNumber;
-    this.goToNext(step, turn => this.shift.numbers[turn] > 0 && this.choice.has(turn) && isListed(turn));
+    const { numbers } = this.shift;
+    const isListed = turn => listNumber === null || numbers[turn] === listNumber;
+    this.goToNext(step, turn => numbers[turn] > 0 && this.choice.has(turn) && isListed(turn));
   }
 
   zoom(factor, x = this.picture.x(this.picture.cursor.turn)) {
@@ -160,12 +163,14 @@ class View {
 
   writeAddress() {
     const { picture, choice } = this;
-    const parts = { at: picture.cursor.turn, from: Math.round(picture.from * 10) / 10, span: Math.round(picture.span * 10) / 10 };
+    const rounded = number => Math.round(number * 10) / 10;
+    const parts = { at: picture.cursor.turn, from: rounded(picture.from), span: rounded(picture.span) };
     if (picture.cursor.frame !== null) parts.frame = picture.cursor.frame;
     if (choice.page !== null) parts.page = choice.page;
     if (choice.station !== null) parts.station = choice.station;
     clearTimeout(this.addressDue);
-    this.addressDue = setTimeout(() => history.replaceState(null, '', `#${new URLSearchParams(parts)}`), 300);
+    const address = `#${new URLSearchParams(parts)}`;
+    this.addressDue = setTimeout(() => history.replaceState(null, '', address), 300);
   }
 
   readAddress() {
@@ -180,7 +185,7 @@ class View {
     picture.cursor.turn = whole('at', shift.messages) || picture.cursor.turn;
     picture.cursor.frame = whole('frame', shift.frames - 1);
     element('message').value = picture.cursor.turn;
-    this.choice.set(whole('page', 63), whole('station', 15));
+    this.choice.set(whole('page', PAGES - 1), whole('station', STATIONS - 1));
   }
 
   // ---- Events
@@ -203,7 +208,9 @@ class View {
       this.panel.listNumber = chosen('refusal-number');
       this.panel.fillRefusals();
     });
-    element('message').addEventListener('change', () => this.goTo(Math.round(Number(element('message').value)) || 1));
+    element('message').addEventListener('change', () => {
+      this.goTo(Math.round(Number(element('message').value)) || 1);
+    });
     element('tools').addEventListener('submit', event => event.preventDefault());
     element('map').addEventListener('keydown', event => this.key(event));
     window.addEventListener('resize', () => this.resize());
@@ -304,7 +311,8 @@ class View {
     const { picture } = this;
     event.target.setPointerCapture(event.pointerId);
     element('map').focus({ preventScroll: true });
-    this.grabbed = { x: event.offsetX, y: event.offsetY, from: picture.from, top: picture.top, isMoved: false };
+    const { offsetX: x, offsetY: y } = event;
+    this.grabbed = { x, y, from: picture.from, top: picture.top, isMoved: false };
   }
 
   move(event) {

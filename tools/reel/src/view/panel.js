@@ -1,5 +1,8 @@
 // ---- The panel: the place pointed at, the legend, the counts and the refusals.
 
+// The height of a row in the list of refusals.
+const LINE = 22;
+
 // A new element with this text and these attributes.
 function made(name, text = '', attributes = {}) {
   const node = document.createElement(name);
@@ -47,20 +50,22 @@ class Panel {
     const pages = new Map();
     if (frame !== null) {
       const holder = shift.holder(frame, turn);
-      parts.push(made('h3', `Frame ${frame}, ${shift.store(frame)}`), made('p', this.holding(holder)));
+      const title = `Frame ${frame}, ${shift.store(frame)}`;
+      parts.push(made('h3', title), made('p', this.holding(holder)));
       if (holder.page !== NONE) pages.set(holder.page, 'on this frame');
     }
     if (this.choice.page !== null) pages.set(this.choice.page, 'chosen');
-    if (shift.pageOf[turn] < 64) pages.set(shift.pageOf[turn], 'named by the message');
+    if (shift.pageOf[turn] < PAGES) pages.set(shift.pageOf[turn], 'named by the message');
     for (const [page, why] of pages) parts.push(...this.page(page, why, turn, frame));
     place.replaceChildren(...parts);
   }
 
   tally(turn) {
     const { shift } = this;
-    const held = `${shift.heldFast[turn]} of ${shift.fast} fast, ${shift.heldSlow[turn]} of ${shift.slow} slow frames held`;
+    const fast = `${shift.heldFast[turn]} of ${shift.fast} fast`;
+    const slow = `${shift.heldSlow[turn]} of ${shift.slow} slow`;
     const laid = counted(shift.laid[turn], 'byte', 'bytes');
-    return `So far ${grouped(shift.refused[turn])} refused, ${laid} laid; ${held}.`;
+    return `So far ${grouped(shift.refused[turn])} refused, ${laid} laid; ${fast}, ${slow} frames held.`;
   }
 
   holding({ page, mark, since }) {
@@ -85,7 +90,7 @@ class Panel {
     const isNull = copy.frame === NONE;
     const row = made('tr', '', copy.frame === frame ? { 'aria-current': 'true' } : {});
     const shape = made('td');
-    if (!isNull) shape.append(sample(picture.palette, picture.palette.page(page), copy.mark));
+    if (!isNull) shape.append(sample(picture.palette, picture.palette.pages[page], copy.mark));
     const since = made('td');
     if (!isNull) since.append(this.jump(shift.holder(copy.frame, turn).since));
     const where = isNull ? 'none' : `${copy.frame} ${shift.store(copy.frame)}`;
@@ -94,7 +99,8 @@ class Panel {
   }
 
   jump(turn) {
-    const button = made('button', grouped(turn), { type: 'button', class: 'jump', title: `Go to message ${turn}` });
+    const attributes = { type: 'button', class: 'jump', title: `Go to message ${turn}` };
+    const button = made('button', grouped(turn), attributes);
     button.addEventListener('click', () => this.goTo(turn));
     return button;
   }
@@ -106,13 +112,14 @@ class Panel {
     const words = ['stale: a thin line', 'MOST RECENT, not CURRENT: hatched', 'CURRENT: a full bar'];
     const items = words.map((text, mark) => {
       const item = made('li');
-      item.append(sample(palette, palette.page(1), mark), made('span', text));
+      item.append(sample(palette, palette.pages[1], mark), made('span', text));
       return item;
     });
     const notes = [
       'A number in a bar is the page, and so is its colour. No bar: the frame is free.',
       'A column shows the state after its message; zoomed out, after the last of its messages.',
-      'Close up, an arrow is a copy being made, and \u271516 a message refused with number 16. Of the frames held, fast ones are full, slow ones hatched.',
+      'Close up, an arrow is a copy being made, and \u271516 a message refused with number 16.',
+      'Of the frames held, fast ones are full, slow ones hatched.',
     ];
     element('legend').replaceChildren(...items.reverse(), ...notes.map(text => made('li', text)));
   }
@@ -122,8 +129,9 @@ class Panel {
     const { picture, shift, choice } = this;
     const buttons = shift.pages.map(({ turns }, page) => {
       const isChosen = choice.page === page;
-      const button = made('button', `${page}`, { type: 'button', 'aria-pressed': isChosen, title: `Page ${page}` });
-      button.style.borderBottomColor = picture.palette.page(page);
+      const attributes = { type: 'button', 'aria-pressed': isChosen, title: `Page ${page}` };
+      const button = made('button', `${page}`, attributes);
+      button.style.borderBottomColor = picture.palette.pages[page];
       button.disabled = turns.length === 0;
       button.addEventListener('click', () => choose(isChosen ? null : page));
       return button;
@@ -139,14 +147,18 @@ class Panel {
       all[shift.numbers[turn]]++;
       if (choice.has(turn)) chosen[shift.numbers[turn]]++;
     }
-    const rows = all.map((count, number) => {
-      const row = made('tr', '', { 'data-number': number, 'data-count': count });
-      const cells = [number, shift.words[number], grouped(count), choice.isAny() ? grouped(chosen[number]) : ''];
-      row.append(...cells.map(cell => made('td', `${cell}`)));
-      return count > 0 ? row : null;
-    });
-    element('counts').tBodies[0].replaceChildren(...rows.filter(row => row));
+    const given = [...all.keys()].filter(number => all[number] > 0);
+    const rows = given.map(number => this.countRow(number, all[number], chosen[number]));
+    element('counts').tBodies[0].replaceChildren(...rows);
     element('chosen-head').textContent = choice.isAny() ? 'Chosen' : '';
+  }
+
+  countRow(number, count, chosen) {
+    const row = made('tr', '', { 'data-number': number, 'data-count': count });
+    const last = this.choice.isAny() ? grouped(chosen) : '';
+    const cells = [`${number}`, this.shift.words[number], grouped(count), last];
+    row.append(...cells.map(cell => made('td', cell)));
+    return row;
   }
 
   // ---- The refusals, of which only the visible rows are in the document
@@ -155,14 +167,14 @@ class Panel {
     const { shift, choice, listNumber } = this;
     this.list = choice.refusals.filter(turn => listNumber === null || shift.numbers[turn] === listNumber);
     element('refusal-count').textContent = `(${grouped(this.list.length)})`;
-    element('refusals').firstElementChild.style.height = `${22 * this.list.length}px`;
+    element('refusals').firstElementChild.style.height = `${LINE * this.list.length}px`;
     this.drawRefusals();
   }
 
   drawRefusals() {
     const box = element('refusals');
-    const first = Math.max(0, Math.floor(box.scrollTop / 22) - 2);
-    const shown = this.list.slice(first, first + Math.ceil(box.clientHeight / 22) + 4);
+    const first = Math.max(0, Math.floor(box.scrollTop / LINE) - 2);
+    const shown = this.list.slice(first, first + Math.ceil(box.clientHeight / LINE) + 4);
     box.firstElementChild.replaceChildren(...shown.map((turn, i) => this.refusal(turn, first + i)));
   }
 
@@ -171,7 +183,7 @@ class Panel {
     const number = shift.numbers[turn];
     const text = `${grouped(turn)}  ${number} ${shift.words[number]}: ${shift.sentence(turn)}`;
     const button = made('button', text, { type: 'button', title: text, 'data-turn': turn });
-    button.style.top = `${22 * place}px`;
+    button.style.top = `${LINE * place}px`;
     if (turn === this.picture.cursor.turn) button.setAttribute('aria-current', 'true');
     button.addEventListener('click', () => this.goTo(turn));
     return button;
@@ -182,7 +194,8 @@ class Panel {
     const place = lastUpTo(this.list, turn);
     if (place < 0 || this.list[place] !== turn) return;
     const box = element('refusals');
-    const top = 22 * place;
-    if (top < box.scrollTop || top > box.scrollTop + box.clientHeight - 22) box.scrollTop = top - box.clientHeight / 2;
+    const top = LINE * place;
+    const isInSight = top >= box.scrollTop && top <= box.scrollTop + box.clientHeight - LINE;
+    if (!isInSight) box.scrollTop = top - box.clientHeight / 2;
   }
 }

@@ -13,7 +13,9 @@ class Picture {
     this.shift = shift;
     this.choice = choice;
     this.contexts = {};
-    for (const id of ['overview', 'map', 'lanes', 'overlay']) this.contexts[id] = element(id).getContext('2d');
+    for (const id of ['overview', 'map', 'lanes', 'overlay']) {
+      this.contexts[id] = element(id).getContext('2d');
+    }
     this.from = 0;
     this.span = this.whole();
     this.top = 0;
@@ -99,17 +101,21 @@ class Picture {
   // ---- Moving and zooming
 
   show(from, span) {
-    const whole = this.whole();
-    this.span = Math.max(Math.min(LEAST_SPAN, whole), Math.min(whole, span));
-    this.from = Math.max(0, Math.min(whole - this.span, from));
+    this.span = this.spanWithin(span);
+    this.from = Math.max(0, Math.min(this.whole() - this.span, from));
   }
 
   // Zooms so that the message at x stays where it is.
   zoom(factor, x) {
     const share = Math.max(0, Math.min(1, (x - GUTTER) / this.width));
     const at = this.from + share * this.span;
-    const span = Math.max(Math.min(LEAST_SPAN, this.whole()), Math.min(this.whole(), this.span * factor));
+    const span = this.spanWithin(this.span * factor);
     this.show(at - share * span, span);
+  }
+
+  spanWithin(span) {
+    const whole = this.whole();
+    return Math.max(Math.min(LEAST_SPAN, whole), Math.min(whole, span));
   }
 
   // Brings a message into the picture.
@@ -147,7 +153,7 @@ class Picture {
   }
 
   colour(page) {
-    return this.isChosenPage(page) ? this.palette.page(page) : this.palette.dim;
+    return this.isChosenPage(page) ? this.palette.pages[page] : this.palette.dim;
   }
 
   // ---- Drawing
@@ -215,7 +221,8 @@ class Picture {
   }
 
   visibleTurns() {
-    return { first: Math.floor(this.from) + 1, last: Math.min(this.shift.messages, Math.ceil(this.from + this.span)) };
+    const last = Math.min(this.shift.messages, Math.ceil(this.from + this.span));
+    return { first: Math.floor(this.from) + 1, last };
   }
 
   countBars() {
@@ -298,11 +305,9 @@ class Picture {
 
   shades() {
     const { paper } = this.palette;
-    const pages = Array.from({ length: 64 }, (_, page) => page);
-    return {
-      full: Uint32Array.from(pages, page => pixelOf(this.colour(page), paper)),
-      light: Uint32Array.from(pages, page => pixelOf(this.colour(page), paper, 0.25)),
-    };
+    const shade = strength =>
+      Uint32Array.from({ length: PAGES }, (_, page) => pixelOf(this.colour(page), paper, strength));
+    return { full: shade(1), light: shade(0.25) };
   }
 
   paintRow(pixels, width, height, held, columns, shades, top, bottom) {
@@ -410,8 +415,9 @@ class Picture {
       const x = this.x(turn) + this.cell() / 2;
       context.moveTo(x, AXIS - 5);
       context.lineTo(x, AXIS);
-      const isNarrow = x > GUTTER + this.width - 30;
-      this.text(context, grouped(turn), isNarrow ? GUTTER + this.width - 2 : x, 9, palette.soft, isNarrow ? 'right' : 'center');
+      const isLast = x > GUTTER + this.width - 30;
+      const [at, align] = isLast ? [GUTTER + this.width - 2, 'right'] : [x, 'center'];
+      this.text(context, grouped(turn), at, 9, palette.soft, align);
     }
     context.stroke();
     this.text(context, 'message', GUTTER - 8, 9, palette.soft, 'right');
@@ -430,7 +436,8 @@ class Picture {
     if (left + width >= GUTTER && left <= GUTTER + this.width) {
       context.fillStyle = this.palette.accent;
       context.globalAlpha = width > 3 ? 0.25 : 0.8;
-      context.fillRect(Math.max(GUTTER, left), map.offsetTop, width, element('overlay').clientHeight - map.offsetTop);
+      const height = context.canvas.clientHeight - map.offsetTop;
+      context.fillRect(Math.max(GUTTER, left), map.offsetTop, width, height);
       context.globalAlpha = 1;
     }
     if (place.frame === null || this.rowOf[place.frame] < 0) return;
