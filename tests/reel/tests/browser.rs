@@ -192,4 +192,28 @@ fn the_shift_of_the_benchmark() {
     let first: u64 = first.expect("the time").parse().expect("a number");
     println!("written in {written} ms, {length} bytes, first picture after {first} ms");
     assert!(written < 5_000 && length < 10_000_000 && first < 2_000);
+    close_up(&scratch, &file, &page);
+}
+
+/// Single messages of the shift: the copies of a page in the panel are those of `reel page --at`.
+fn close_up(scratch: &Scratch, file: &Path, page: &Path) {
+    let words = ["12", "--at", "50020", "--fast", "127", "--slow", "127"];
+    let lines = printed("page", file, &words);
+    for choice in ["page=12", "station=5", "page=12&station=5"] {
+        let fragment = format!("#at=50020&from=50000&span=40&frame=102&{choice}");
+        let document = document(scratch, page, &fragment);
+        assert!(document.contains("Message 50,020 of 102,000"));
+        let copies = copies_in_panel(&document, 12);
+        assert_eq!(
+            copies.len(),
+            lines.lines().filter(|line| line.contains("copy ")).count()
+        );
+        for [copy, place, mark, since] in copies {
+            let line = match mark.as_str() {
+                "stale" => format!("stale: copy {copy}, frame {place}, since message {since}, "),
+                _ => format!("latest: copy {copy}, frame {place}, {mark}"),
+            };
+            assert!(lines.contains(&line), "{line} is not in\n{lines}");
+        }
+    }
 }

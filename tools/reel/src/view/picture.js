@@ -156,8 +156,6 @@ class Picture {
     return this.isChosenPage(page) ? this.palette.pages[page] : this.palette.dim;
   }
 
-  // ---- Drawing
-
   // The pages that chosen messages name in the part shown.
   findPagesNamed() {
     const turns = this.visibleTurns();
@@ -166,6 +164,8 @@ class Picture {
       if (this.choice.has(turn)) this.pagesNamed.add(this.shift.pageOf[turn]);
     }
   }
+
+  // ---- Drawing
 
   draw() {
     this.layRows();
@@ -281,14 +281,18 @@ class Picture {
     const width = Math.round(this.width * this.scale);
     const height = Math.round(this.height * this.scale);
     const image = context.createImageData(width, height);
-    const pixels = new Uint32Array(image.data.buffer);
-    const columns = this.columns(width);
-    const shades = this.shades();
+    const target = {
+      pixels: new Uint32Array(image.data.buffer),
+      width,
+      height,
+      columns: this.columns(width),
+      shades: this.shades(),
+    };
     for (const frame of this.visibleFrames()) {
       const top = Math.round((this.y(frame) - AXIS) * this.scale);
       const bottom = Math.round((this.y(frame) - AXIS + this.row) * this.scale);
       const bar = bottom - top - (bottom - top >= 3 ? 1 : 0);
-      this.paintRow(pixels, width, height, this.shift.held[frame], columns, shades, top, top + bar);
+      this.paintRow(target, this.shift.held[frame], top, top + bar);
     }
     context.putImageData(image, Math.round(GUTTER * this.scale), Math.round(AXIS * this.scale));
   }
@@ -310,8 +314,7 @@ class Picture {
     return { full: shade(1), light: shade(0.25) };
   }
 
-  paintRow(pixels, width, height, held, columns, shades, top, bottom) {
-    const { turns, pages, marks } = held;
+  paintRow({ pixels, width, height, columns, shades }, { turns, pages, marks }, top, bottom) {
     const { page: chosen } = this.choice;
     const stale = bottom - staleHeight(bottom - top);
     let at = lastUpTo(turns, columns[0]);
