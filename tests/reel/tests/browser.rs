@@ -172,7 +172,8 @@ fn pages_are_shown_as_the_model_has_them() {
 #[test]
 fn the_shift_of_the_benchmark() {
     let scratch = Scratch::new("shift");
-    let file = scratch.file("shift", &bench::shift().file);
+    let shift = bench::shift();
+    let file = scratch.file("shift", &shift.file);
     let size = ["--fast", "127", "--slow", "127"];
     let page = scratch.path("shift.html");
     let start = Instant::now();
@@ -188,6 +189,10 @@ fn the_shift_of_the_benchmark() {
         counts(&document),
         shown_counts(&printed("show", &file, &size))
     );
+    let [messages, refused, laid] = shift.peer.tally;
+    let summary = format!("{messages} messages {refused} refused {laid} bytes laid;");
+    let (_, shown) = document.split_once("id=\"summary\"").expect("the summary");
+    assert!(text(shown).starts_with(&summary), "not {summary}");
     let first = attributes(&document, "data-first-picture").next();
     let first: u64 = first.expect("the time").parse().expect("a number");
     println!("written in {written} ms, {length} bytes, first picture after {first} ms");
