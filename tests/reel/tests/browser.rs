@@ -2,7 +2,7 @@
 //! what it says is what the replies say.
 
 use reel::looks::Mark;
-use reel_tests::{modelled, printed, random_file, since, Scratch};
+use reel_tests::{modelled, printed, random_file, since, Scratch, Turn};
 use std::collections::BTreeMap;
 use std::path::{Path, PathBuf};
 use std::process::Command;
@@ -92,6 +92,32 @@ fn copies_in_panel(document: &str, page: usize) -> Vec<[String; 4]> {
     .collect()
 }
 
+/// What the panel says of the frame that is pointed at.
+fn frame_in_panel(document: &str) -> String {
+    let (_, title) = document.split_once("<h3>Frame ").expect("the frame");
+    let (_, words) = title.split_once("<p").expect("who is on it");
+    text(words.split("</p>").next().unwrap_or_default())
+}
+
+/// What it should say, by the model.
+fn frame_due(turns: &[Turn], at: usize, frame: u8) -> String {
+    let holder = |turn: &Turn| {
+        let pages = turn.pages.iter().enumerate();
+        let mut copies =
+            pages.flat_map(|(page, copies)| copies.iter().map(move |copy| (page, *copy)));
+        copies.find(|(_, copy)| copy.frame == Some(frame))
+    };
+    if let Some((page, copy)) = holder(&turns[at - 1]) {
+        let since = since(turns, at, page, &copy);
+        return format!("page {page} {} since message {since}", copy.mark.word());
+    }
+    let before = turns[..at].iter().rev();
+    match before.take_while(|turn| holder(turn).is_none()).count() {
+        free if free == at => "free from the start".into(),
+        free => format!("free since message {}", at + 1 - free),
+    }
+}
+
 /// The text between the tags of a part that begins within a tag.
 fn text(part: &str) -> String {
     let between = part
@@ -142,7 +168,14 @@ fn pages_are_shown_as_the_model_has_them() {
             (stale.count(), copies.len())
         });
         let number = number.expect("a page");
-        let document = document(&scratch, &page, &format!("#at={at}&page={number}"));
+        let frame = (at * 7 % 50) as u8;
+        let fragment = format!("#at={at}&page={number}&frame={frame}");
+        let document = document(&scratch, &page, &fragment);
+        assert_eq!(
+            frame_in_panel(&document),
+            frame_due(&turns, at, frame),
+            "frame {frame} at {at}"
+        );
         let copies = turns[at - 1].pages[number].iter().enumerate();
         let due: Vec<[String; 4]> = copies
             .map(|(copy, held)| {
