@@ -168,7 +168,9 @@ fn pages_are_shown_as_the_model_has_them() {
             (stale.count(), copies.len())
         });
         let number = number.expect("a page");
-        let frame = (at * 7 % 50) as u8;
+        // Where there is one, a frame that was held before; else any.
+        let is_freed = |frame: &u8| frame_due(&turns, at, *frame).starts_with("free since");
+        let frame = (0..50).find(is_freed).unwrap_or((at * 7 % 50) as u8);
         let fragment = format!("#at={at}&page={number}&frame={frame}");
         let document = document(&scratch, &page, &fragment);
         assert_eq!(
