@@ -24,18 +24,16 @@ pub fn run(command: Command) -> Result<Status, Failure> {
     match command {
         Command::Help => to_standard(|out| Ok(out.write_all(help().as_bytes())?)).map(done),
         Command::Write { lines, out } => write(&lines, &out).map(done),
-        Command::Words { file } => words_of(&file).map(done),
-        Command::Show { shift } => show(&shift).map(|outcome| status(&shift, &outcome)),
-        Command::Page { shift, page, at } => {
-            let outcome = match at {
-                None => history(&shift, page),
-                Some(turn) => latest(&shift, page, turn),
-            };
-            outcome.map(|outcome| status(&shift, &outcome))
+        Command::Words { file } => {
+            words_of(&file)?.tell_notes(&file);
+            Ok(Status::Done)
         }
-        Command::View { shift, out } => {
-            picture(&shift, &out).map(|outcome| status(&shift, &outcome))
-        }
+        Command::Show { shift } => end(&shift, show(&shift)),
+        Command::Page { shift, page, at } => match at {
+            None => end(&shift, history(&shift, page)),
+            Some(turn) => end(&shift, latest(&shift, page, turn)),
+        },
+        Command::View { shift, out } => end(&shift, picture(&shift, &out)),
     }
 }
 
@@ -43,11 +41,14 @@ fn done((): ()) -> Status {
     Status::Done
 }
 
-fn status(shift: &Shift, outcome: &Outcome) -> Status {
-    match shift.strict && outcome.refused > 0 {
-        true => Status::Refused,
-        false => Status::Done,
+/// Tells what is left to say after a shift.
+fn end(shift: &Shift, outcome: Result<Outcome, Failure>) -> Result<Status, Failure> {
+    let outcome = outcome?;
+    outcome.tell_notes(&shift.file);
+    if shift.strict && outcome.refused > 0 {
+        return Ok(Status::Refused);
     }
+    Ok(Status::Done)
 }
 
 /// Carries out `action` over buffered standard output.
@@ -97,12 +98,11 @@ fn write(path: &OsStr, out: &OsStr) -> Result<(), Failure> {
     }
 }
 
-fn words_of(file: &OsStr) -> Result<(), Failure> {
+fn words_of(file: &OsStr) -> Result<Outcome, Failure> {
     to_standard(|out| {
         each_message(file, true, |_, message| {
             Ok(writeln!(out, "{}", lines::line(message))?)
-        })?;
-        Ok(())
+        })
     })
 }
 
@@ -148,7 +148,7 @@ fn history(shift: &Shift, page: u8) -> Result<Outcome, Failure> {
 fn latest(shift: &Shift, page: u8, at: u64) -> Result<Outcome, Failure> {
     let mut watched = watched(shift)?;
     let mut history = History::default();
-    let outcome = each_turn(shift, true, |turn, message| {
+    let outcome = each_turn(shift, false, |turn, message| {
         let reply = watched.feed(message);
         if turn <= at {
             history.follow(turn, message, page, &watched);

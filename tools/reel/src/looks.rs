@@ -7,7 +7,7 @@ pub const PAGES: usize = 64;
 
 const LOOK_AT_PAGE: u8 = 10;
 /// The frame of a null copy in a look.
-const NO_FRAME: u8 = 255;
+pub const NO_FRAME: u8 = 255;
 
 /// How recent a copy is. A CURRENT one is MOST RECENT too.
 #[derive(Clone, Copy, Debug, PartialEq, Eq)]

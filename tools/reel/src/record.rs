@@ -1,10 +1,7 @@
 //! What the page of `reel view` is made of: the file, the answers and the changes of pages, each
 //! packed into bytes that view.js reads.
 
-use crate::looks::{Mark, PageCopy, Reply, Watched};
-
-/// The frame of a null copy.
-const NO_FRAME: u8 = 255;
+use crate::looks::{Mark, PageCopy, Reply, Watched, NO_FRAME};
 
 #[derive(Default)]
 pub struct Record {

@@ -271,6 +271,7 @@ class View {
       canvas.addEventListener('pointerdown', event => this.grab(event));
       canvas.addEventListener('pointermove', event => this.move(event));
       canvas.addEventListener('pointerup', event => this.release(event));
+      canvas.addEventListener('pointercancel', () => (this.grabbed = null));
       canvas.addEventListener('pointerleave', () => this.leave());
     }
     const overview = element('overview');
