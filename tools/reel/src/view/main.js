@@ -212,7 +212,7 @@ class View {
       this.goTo(Math.round(Number(element('message').value)) || 1);
     });
     element('tools').addEventListener('submit', event => event.preventDefault());
-    element('map').addEventListener('keydown', event => this.key(event));
+    document.addEventListener('keydown', event => this.key(event));
     window.addEventListener('resize', () => this.resize());
     window.addEventListener('hashchange', () => {
       this.readAddress();
@@ -234,7 +234,8 @@ class View {
   }
 
   key(event) {
-    if (event.ctrlKey || event.metaKey || event.altKey) return;
+    const isElsewhere = event.target.closest('input, select, #refusals');
+    if (isElsewhere || event.ctrlKey || event.metaKey || event.altKey) return;
     const { shift, choice, picture } = this;
     const { turn } = picture.cursor;
     const stride = event.shiftKey ? 10 : 1;
