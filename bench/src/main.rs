@@ -4,24 +4,15 @@
 //! unchecked or checked, does that work once on that side, for a count of instructions, and
 //! `bench WORK count` prints how many messages or tests it has.
 
-mod calls;
-mod kernel;
-mod peer;
+mod timing;
 
-use calls::{Calls, Counts, Mix};
-use kernel::Lent;
-use peer::Peer;
+use bench::calls::{Calls, Counts};
+use bench::peer::Peer;
+use bench::{FAST, MIX, SLOW};
+use kernel::Unit;
 use std::time::Instant;
 
-const FAST: u8 = 127;
-const SLOW: u8 = 127;
 const TESTS: u32 = 5_000;
-const MIX: Mix = Mix {
-    reads: 100,
-    writes: 50,
-    looks_and_grants: 8,
-    wrong: 8,
-};
 
 /// Who answers a call file, and how.
 #[derive(Clone, Copy)]
@@ -54,11 +45,7 @@ impl Work {
 
     /// A shift of 40,000 moves from fresh tables, which it fills first.
     fn shift() -> Work {
-        let mut calls = Calls::new(FAST, SLOW);
-        let start = calls.peer.clone();
-        calls.fill();
-        calls.shift(40_000, 246, &MIX);
-        Work::of(start, calls)
+        Work::of(Peer::fresh(FAST, SLOW), bench::shift())
     }
 
     /// Calls on full tables: one frame is free at the most.
@@ -83,17 +70,17 @@ impl Work {
         Work::of(start, calls)
     }
 
-    fn lent(&self) -> Lent {
-        let mut lent = Lent::fresh(FAST, SLOW);
-        lent.tables = self.start.tables.bytes();
-        lent.fast.clone_from(&self.start.fast);
-        lent.slow.clone_from(&self.start.slow);
-        lent
+    fn unit(&self) -> Unit {
+        let mut unit = Unit::fresh(FAST, SLOW).expect("fresh tables");
+        unit.tables = self.start.tables.bytes();
+        unit.fast.clone_from(&self.start.fast);
+        unit.slow.clone_from(&self.start.slow);
+        unit
     }
 
     /// Both sides leave the same: every reply, the tables, the stores, the tally and the count.
     fn check(&self) {
-        let (mut one, mut run, mut each) = (self.lent(), self.lent(), self.lent());
+        let (mut one, mut run, mut each) = (self.unit(), self.unit(), self.unit());
         let (mut unchecked, mut checked) = (self.start.clone(), self.start.clone());
         let mut single = self.start.clone();
         let mut rest = &self.file[..];
@@ -106,7 +93,7 @@ impl Work {
             rest = after;
         }
         run.run(&self.file);
-        let count = each.answers(&self.file);
+        let count = timing::answers(&mut each, &self.file);
         unchecked.run_by_rust::<false>(&self.file);
         checked.run_by_rust::<true>(&self.file);
         assert!(
@@ -114,12 +101,12 @@ impl Work {
             "tallies differ"
         );
         assert_eq!(count, run.tally[0], "counts differ");
-        for lent in [&one, &run, &each] {
+        for unit in [&one, &run, &each] {
             for peer in [&unchecked, &checked] {
-                assert!(lent.out == peer.out, "last replies differ");
-                assert!(lent.tables == peer.tables.bytes(), "tables differ");
+                assert!(unit.out == peer.out, "last replies differ");
+                assert!(unit.tables == peer.tables.bytes(), "tables differ");
                 assert!(
-                    lent.fast == peer.fast && lent.slow == peer.slow,
+                    unit.fast == peer.fast && unit.slow == peer.slow,
                     "stores differ"
                 );
             }
@@ -128,15 +115,15 @@ impl Work {
 
     /// The times of each side, round by round.
     fn times<const N: usize>(&self, rounds: usize, sides: [Side; N]) -> [Vec<f64>; N] {
-        let (mut lent, mut peer) = (self.lent(), self.start.clone());
-        let bytes = lent.tables.clone();
+        let (mut unit, mut peer) = (self.unit(), self.start.clone());
+        let bytes = unit.tables.clone();
         let mut times = [const { vec![] }; N];
         for _ in 0..rounds {
             for (side, times) in sides.iter().zip(&mut times) {
-                lent.tables.copy_from_slice(&bytes);
+                unit.tables.copy_from_slice(&bytes);
                 peer.tables.clone_from(&self.start.tables);
                 times.push(time(self.counts.messages, || {
-                    side.answer(&mut lent, &mut peer, &self.file)
+                    side.answer(&mut unit, &mut peer, &self.file)
                 }));
             }
         }
@@ -154,11 +141,11 @@ impl Work {
 }
 
 impl Side {
-    fn answer(self, lent: &mut Lent, peer: &mut Peer, file: &[u8]) {
+    fn answer(self, unit: &mut Unit, peer: &mut Peer, file: &[u8]) {
         match self {
-            Side::Run => lent.run(file),
+            Side::Run => unit.run(file),
             Side::Answers => {
-                lent.answers(file);
+                timing::answers(unit, file);
             }
             Side::Unchecked => peer.run_by_rust::<false>(file),
             Side::Checked => peer.run_by_rust::<true>(file),
@@ -206,11 +193,11 @@ fn report() {
     let [answers, checked] = full.times(400, [Side::Answers, Side::Checked]);
     line("answer, Rust with the test", &answers, &checked);
 
-    let (lent, mut peer) = (full.lent(), full.start.clone());
+    let (unit, mut peer) = (full.unit(), full.start.clone());
     let (mut kernel, mut rust) = (vec![], vec![]);
     for _ in 0..200 {
         kernel.push(time(TESTS as usize, || {
-            assert_eq!(lent.sound(TESTS), TESTS)
+            assert_eq!(timing::sound(&unit, TESTS), TESTS)
         }));
         rust.push(time(TESTS as usize, || {
             assert_eq!(peer.sound_by_rust(TESTS), TESTS)
@@ -244,18 +231,18 @@ fn once(work: &str, side: &str) {
         "run" => Work::shift(),
         _ => Work::full(),
     };
-    let (mut lent, mut peer) = (given.lent(), given.start.clone());
+    let (mut unit, mut peer) = (given.unit(), given.start.clone());
     let side = match (work, side) {
         ("sound", "count") => return println!("{TESTS}"),
         (_, "count") => return println!("{}", given.counts.messages),
-        ("sound", "kernel") => return assert_eq!(lent.sound(TESTS), TESTS),
+        ("sound", "kernel") => return assert_eq!(timing::sound(&unit, TESTS), TESTS),
         ("sound", _) => return assert_eq!(peer.sound_by_rust(TESTS), TESTS),
         ("run", "kernel") => Side::Run,
         (_, "kernel") => Side::Answers,
         (_, "unchecked") => Side::Unchecked,
         _ => Side::Checked,
     };
-    side.answer(&mut lent, &mut peer, &given.file);
+    side.answer(&mut unit, &mut peer, &given.file);
 }
 
 fn main() {

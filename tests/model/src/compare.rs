@@ -6,7 +6,7 @@ use crate::kernel::{packed, Kernel, Modelled};
 use crate::model::{
     self, Call, Lent, Reader, Refusal, Tables, ENTRIES, FRAME, RAW, RECORD, STATIONS,
 };
-use crate::words::{describe, hex, WORDS};
+use reel::words::{self, hex, WORDS};
 
 /// Each number must be given this often.
 pub const LEAST: u64 = 100;
@@ -120,7 +120,7 @@ impl Compare<'_> {
         Err(format!(
             "message {}, {}\n  bytes: {}{}{difference}",
             self.counts.messages,
-            describe(bytes),
+            words::message(bytes),
             hex(&bytes[..bytes.len().min(80)]),
             lent_in_words(lent)
         ))
@@ -307,7 +307,7 @@ impl Compare<'_> {
                 let out = &trial.lent.out;
                 let end = 2 + usize::from(u16::from_be_bytes([out[0], out[1]]));
                 let checked = demand3.turn(&before, message, &out[..end]);
-                checked.map_err(|error| format!("{}\n  {error}", describe(message)))?;
+                checked.map_err(|error| format!("{}\n  {error}", words::message(message)))?;
                 let accepted = out[3] == 0;
                 trial.reach(&mut self.counts, &before, message, accepted);
             }

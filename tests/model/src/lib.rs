@@ -6,4 +6,3 @@ pub mod flat;
 pub mod gen;
 pub mod kernel;
 pub mod model;
-pub mod words;

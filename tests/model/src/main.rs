@@ -1,8 +1,8 @@
 //! `compare [--seed N] [--messages N]`: compares the kernel with the model.
 
 use model::compare::{compare, DEPTHS};
-use model::kernel::{Subject, SUBJECT};
-use model::words::WORDS;
+use model::kernel::Embedded;
+use reel::words::WORDS;
 use std::process::ExitCode;
 
 const SEED: u64 = 1;
@@ -27,8 +27,8 @@ fn main() -> ExitCode {
         eprintln!("usage: compare [--seed N] [--messages N]");
         return ExitCode::from(2);
     };
-    println!("compare: seed {seed}, kernel: {SUBJECT}");
-    let counts = match compare(&Subject, seed, messages) {
+    println!("compare: seed {seed}");
+    let counts = match compare(&Embedded, seed, messages) {
         Ok(counts) => counts,
         Err(difference) => {
             println!("compare: MISMATCH, seed {seed}\n{difference}");

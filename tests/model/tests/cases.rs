@@ -5,7 +5,7 @@ use ::model::gen::{self, Rng, DAMAGES};
 use ::model::model::{
     self, frame_bytes, program, Call, Lent, Reader, Tables, FRAME, KINDS, PROGRAM_INPUT, RAW,
 };
-use ::model::words::hex;
+use reel::words::hex;
 
 /// The program's memory; free frames hold old bytes.
 fn fresh() -> Lent {

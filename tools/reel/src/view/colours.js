@@ -1,0 +1,90 @@
+// ---- Colours and shapes: a page has its colour, a mark its shape, so that no mark rests on colour.
+
+class Palette {
+  constructor() {
+    const style = getComputedStyle(document.documentElement);
+    const value = name => style.getPropertyValue(`--${name}`).trim();
+    this.paper = value('paper');
+    this.ink = value('ink');
+    this.soft = value('soft');
+    this.line = value('line');
+    this.dim = value('dim');
+    this.accent = value('accent');
+    this.refused = value('refused');
+    const isDark = matchMedia('(prefers-color-scheme: dark)').matches;
+    this.pages = Array.from({ length: PAGES }, (_, page) => pageColour(page, isDark));
+    this.hatches = new Map();
+  }
+
+  // Lines in one colour over a light tint of it.
+  hatch(context, colour) {
+    if (!this.hatches.has(colour)) {
+      this.hatches.set(colour, context.createPattern(hatchTile(colour), 'repeat'));
+    }
+    return this.hatches.get(colour);
+  }
+}
+
+// Neighbouring pages get hues far apart.
+function pageColour(page, isDark) {
+  const hue = (page * 137.508) % 360;
+  const level = (page % 3) * 7;
+  return isDark ? hslColour(hue, 58, 56 + level) : hslColour(hue, 62, 33 + level);
+}
+
+function hslColour(hue, saturation, lightness) {
+  const amount = (saturation / 100) * Math.min(lightness / 100, 1 - lightness / 100);
+  const part = n => {
+    const k = (n + hue / 30) % 12;
+    return Math.round(255 * (lightness / 100 - amount * Math.max(-1, Math.min(k - 3, 9 - k, 1))));
+  };
+  return `#${[0, 8, 4].map(n => part(n).toString(16).padStart(2, '0')).join('')}`;
+}
+
+function hatchTile(colour) {
+  const tile = document.createElement('canvas');
+  tile.width = tile.height = 6;
+  const context = tile.getContext('2d');
+  context.strokeStyle = colour;
+  context.globalAlpha = 0.2;
+  context.fillStyle = colour;
+  context.fillRect(0, 0, 6, 6);
+  context.globalAlpha = 1;
+  context.lineWidth = 1.6;
+  context.beginPath();
+  for (const shift of [-6, 0, 6]) {
+    context.moveTo(shift - 1, 7);
+    context.lineTo(shift + 7, -1);
+  }
+  context.stroke();
+  return tile;
+}
+
+// The height of the line that stands for a stale copy in a bar of this height.
+function staleHeight(height) {
+  return Math.max(1, Math.round(height / 5));
+}
+
+// CURRENT: a full bar; MOST RECENT: a hatched bar with a border; stale: a thin line.
+function drawCopy(context, palette, colour, mark, x, y, width, height) {
+  if (mark === STALE) {
+    const line = staleHeight(height);
+    context.fillStyle = colour;
+    context.fillRect(x, y + height - line, width, line);
+    return;
+  }
+  context.fillStyle = mark === CURRENT ? colour : palette.hatch(context, colour);
+  context.fillRect(x, y, width, height);
+  if (mark === RECENT && width > 3) {
+    context.strokeStyle = colour;
+    context.lineWidth = 1;
+    context.strokeRect(x + 0.5, y + 0.5, width - 1, height - 1);
+  }
+}
+
+// A colour as a pixel of image data; `strength` below 1 mixes it with the paper.
+function pixelOf(colour, paper, strength = 1) {
+  const part = (text, at) => parseInt(text.slice(at, at + 2), 16);
+  const mix = at => Math.round(part(colour, at) * strength + part(paper, at) * (1 - strength));
+  return ((255 << 24) | (mix(5) << 16) | (mix(3) << 8) | mix(1)) >>> 0;
+}
