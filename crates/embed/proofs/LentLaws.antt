@@ -11,15 +11,16 @@ use Rattle.tables.specs.Numbers.{accepted, brokenTables}
 use Rattle.tables.specs.Rules.{sound}
 use Rattle.tables.proofs.RuleLaws.{sound-of}
 use Rattle.steps.specs.declared.Call.{Call}
-use Rattle.steps.specs.Steps.{Outcome, refuse, accept, State, step, left, numberOf}
+use Rattle.steps.specs.Steps.{Outcome, refuse, accept, numberOf}
+use Rattle.steps.specs.Effects.{State, Result, step, left}
 use Rattle.messages.specs.Replies.{isRefusal}
-use Rattle.embed.specs.Bytes.{tablesBytes}
+use Rattle.embed.specs.Bytes.{tablesSize, tablesBytes}
 use Rattle.embed.specs.Exports.{tablesSized, noTables, tablesOf, withTables, lentState, leftIn}
 use Rattle.embed.proofs.RoundTrip.{bytes-length, sound-shaped, sound-from-bytes}
 
 -- the bytes of sound tables are as many as tables take
 sized : (t : Tables) → sound t ≡ true → tablesSized (tablesBytes t) ≡ true
-sized t e = eq-eqb _ 2690 (bytes-length t (sound-of t e .pages-long) (sound-shaped t e))
+sized t e = eq-eqb _ tablesSize (bytes-length t (sound-of t e .pages-long) (sound-shaped t e))
 
 -- the next call finds the tables that this one left
 pub found-again : (b : List ℕ) (t : Tables) → tablesSized b ≡ true → sound t ≡ true → tablesOf (withTables b t) ≡ t
@@ -30,10 +31,10 @@ pub put-back-same : (b : List ℕ) (t : Tables) → sound t ≡ true → b ≡ t
 put-back-same b t e q = rw (q, sized t e, sound-from-bytes t e)
 
 -- told by the number, as the code does
-pub left-in : (b : List ℕ) (s : State) (o : Outcome State) → isRefusal o ≡ not (eqb (numberOf o) 0)
+pub left-in : (b : List ℕ) (s : State) (o : Outcome Result) → isRefusal o ≡ not (eqb (numberOf o) 0)
     → cond (eqb (numberOf o) accepted) (withTables b (left s o .tables)) b ≡ leftIn b o
 left-in b s (refuse n) e = rw (not-true (eqb n 0) (sym e))
-left-in b s (accept s′ laid bs) e = refl
+left-in b s (accept r) e = refl
 
 no-tables-broken : sound noTables ≡ false
 unfolding sound freshTables

@@ -2,3 +2,4 @@ pub mod LayLaws
 pub mod FromLaws
 pub mod RoundTrip
 pub mod LentLaws
+pub mod Stub

@@ -1,4 +1,4 @@
--- Tables laid out take 2690 bytes, and read back they are the same tables.
+-- Tables laid out take tablesSize bytes, and read back they are the same tables.
 use Prim.Native.Nat.{ℕ, zero, suc, _+_, _*_, _<_, suc-le-suc, zero-le}
 use mathlib.Core.Bool.{Bool, true, false}
 use mathlib.Core.Path.{_≡_, refl, sym, ap₂, _∙_}
@@ -17,7 +17,7 @@ use Rattle.tables.specs.Model.{frames, pageAt, noCopyEntry, noPageRecord}
 use Rattle.tables.specs.Rules.{shaped, pageRule, sound}
 use Rattle.tables.proofs.ListLaws.{and-left, and-right, all-at, all-of}
 use Rattle.tables.proofs.RuleLaws.{sound-of}
-use Rattle.embed.specs.Bytes.{markByte, markFrom, copyBytes, pageBytes, tablesBytes, fromEach, copyFrom, pageFrom, tablesFrom}
+use Rattle.embed.specs.Bytes.{pageSize, tablesSize, markByte, markFrom, copyBytes, pageBytes, tablesBytes, fromEach, copyFrom, pageFrom, tablesFrom}
 
 -- ---- values of one size in a row
 
@@ -59,7 +59,7 @@ module _ (g : Page) (rights-long : length (g .rights) ≡ 16) (copies-long : len
   pub copies-length : length (flatMap copyBytes (g .copies)) ≡ 24
   copies-length = row-length 3 copyBytes copyFrom noCopyEntry (g .copies) (λ i h. copy-kept _) ∙ rw copies-long
 
-  pub page-length : length (pageBytes g) ≡ 42
+  pub page-length : length (pageBytes g) ≡ pageSize
   unfolding pageBytes
   page-length = simp length-append (omega (arith, copies-length))
 
@@ -82,25 +82,25 @@ module _ (g : Page) (rights-long : length (g .rights) ≡ 16) (copies-long : len
       let d = drop-at (g .rights) (cs ++ end) 16 rights-long in
       rw (e, r, d, copies, behind end 0, behind end 1)
 
-page-kept : (g : Page) → shaped g ≡ true → Kept 42 pageBytes pageFrom g
+page-kept : (g : Page) → shaped g ≡ true → Kept pageSize pageBytes pageFrom g
 page-kept g e =
     let r = eqb-true (length (g .rights)) 16 (and-left _ _ e) in
     let c = eqb-true (length (g .copies)) 8 (and-right (eqb (length (g .rights)) 16) _ e) in
     record { long = page-length g r c; back = page-back g r c }
 
 module _ (t : Tables) (pages-long : length (t .pages) ≡ 64) (pages-shaped : all shaped (t .pages) ≡ true) where
-  pages-kept : (p : ℕ) → p < length (t .pages) → Kept 42 pageBytes pageFrom (getD (t .pages) p noPageRecord)
+  pages-kept : (p : ℕ) → p < length (t .pages) → Kept pageSize pageBytes pageFrom (getD (t .pages) p noPageRecord)
   pages-kept p h = page-kept _ (all-at shaped (t .pages) p noPageRecord pages-shaped h)
 
-  pub bytes-length : length (tablesBytes t) ≡ 2690
+  pub bytes-length : length (tablesBytes t) ≡ tablesSize
   unfolding tablesBytes
-  bytes-length = omega (arith, row-length 42 pageBytes pageFrom noPageRecord (t .pages) pages-kept)
+  bytes-length = omega (arith, row-length pageSize pageBytes pageFrom noPageRecord (t .pages) pages-kept)
 
   pub from-bytes : tablesFrom (tablesBytes t) ≡ t
   unfolding tablesBytes tablesFrom
   from-bytes =
-      let e = row-back 42 pageBytes pageFrom noPageRecord (t .pages) [] pages-kept in
-      let pages : fromEach 64 42 pageFrom (flatMap pageBytes (t .pages)) ≡ t .pages = rw (pages-long, append-nil) at e in
+      let e = row-back pageSize pageBytes pageFrom noPageRecord (t .pages) [] pages-kept in
+      let pages : fromEach 64 pageSize pageFrom (flatMap pageBytes (t .pages)) ≡ t .pages = rw (pages-long, append-nil) at e in
       rw pages
 
 rule-shaped : (limit : ℕ) (g : Page) → pageRule limit g ≡ true → shaped g ≡ true

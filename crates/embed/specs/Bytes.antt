@@ -1,5 +1,5 @@
--- The tables as 2690 bytes: P, S, then 42 bytes a page, which are the sixteen rights, the eight entries of three bytes, the owner and n.
-use Prim.Native.Nat.{ℕ, zero, suc}
+-- The tables as bytes: P, S, then each page, which is the sixteen rights, the eight entries of three bytes, the owner and n.
+use Prim.Native.Nat.{ℕ, zero, suc, _+_, _*_}
 use mathlib.Core.Bool.{Bool, not, cond}
 use mathlib.Core.List.{List, [], _∷_, _++_, flatMap}
 use lib.ListN.{getD, take, drop}
@@ -7,6 +7,16 @@ use lib.Dec.{eqb}
 use Rattle.tables.specs.declared.Copy.{Copy}
 use Rattle.tables.specs.declared.Page.{Page}
 use Rattle.tables.specs.declared.Tables.{Tables}
+use Rattle.tables.specs.Model.{sized}
+
+-- ---- sizes
+
+-- how many bytes a page takes, and the tables
+abbrev pub pageSize : ℕ
+pageSize = 42
+
+abbrev pub tablesSize : ℕ
+tablesSize = 2 + 64 * pageSize
 
 -- ---- laid out
 
@@ -21,7 +31,7 @@ unfoldable pub pageBytes : Page → List ℕ
 pageBytes g = g .rights ++ (flatMap copyBytes (g .copies) ++ (g .owner ∷ g .n ∷ []))
 
 unfoldable pub tablesBytes : Tables → List ℕ
-tablesBytes t = t .fast ∷ t .slow ∷ flatMap pageBytes (t .pages)
+tablesBytes t = t .shared .p ∷ t .shared .s ∷ flatMap pageBytes (t .pages)
 
 -- ---- read back
 
@@ -41,4 +51,4 @@ unfoldable pub pageFrom : List ℕ → Page
 pageFrom b = record { rights = take 16 b; copies = fromEach 8 3 copyFrom (drop 16 b); owner = getD b 40 0; n = getD b 41 0 }
 
 unfoldable pub tablesFrom : List ℕ → Tables
-tablesFrom b = record { fast = getD b 0 0; slow = getD b 1 0; pages = fromEach 64 42 pageFrom (drop 2 b) }
+tablesFrom b = record { shared = sized (getD b 0 0) (getD b 1 0); pages = fromEach 64 pageSize pageFrom (drop 2 b) }

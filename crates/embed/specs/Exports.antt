@@ -9,18 +9,19 @@ use Rattle.tables.specs.declared.Tables.{Tables}
 use Rattle.tables.specs.Numbers.{brokenTables}
 use Rattle.tables.specs.Model.{freshTables, made}
 use Rattle.steps.specs.Stores.{over}
-use Rattle.steps.specs.Steps.{Outcome, refuse, accept, State, left, numberOf, laidBy}
-use Rattle.steps.specs.Promises.{stateOf}
+use Rattle.steps.specs.Steps.{Outcome, refuse, accept, numberOf}
+use Rattle.steps.specs.Effects.{State, Result, left, laidBy}
+use Rattle.steps.specs.Promises.{stateOf, Lent, lent}
 use Rattle.messages.specs.declared.Tally.{Tally}
 use Rattle.messages.specs.Replies.{replyIn}
 use Rattle.messages.specs.Run.{Run, buffer, tally}
-use Rattle.embed.specs.Bytes.{tablesBytes, tablesFrom}
+use Rattle.embed.specs.Bytes.{tablesSize, tablesBytes, tablesFrom}
 
 -- ---- tables
 
 -- whether lent bytes are as many as tables take
 abbrev pub tablesSized : List ℕ → Bool
-tablesSized b = eqb (length b) 2690
+tablesSized b = eqb (length b) tablesSize
 
 -- tables that break a rule: P is above 127
 abbrev pub noTables : Tables
@@ -35,12 +36,12 @@ abbrev pub withTables : List ℕ → Tables → List ℕ
 withTables b t = cond (tablesSized b) (tablesBytes t) b
 
 -- a number, and the bytes of tables
-pub record Lent : Type 0 where
+pub record Numbered : Type 0 where
   pub number : ℕ
   pub bytes : List ℕ
 
 -- fresh tables into lent bytes
-abbrev pub freshInto : ℕ → ℕ → List ℕ → Lent
+abbrev pub freshInto : ℕ → ℕ → List ℕ → Numbered
 freshInto p s b =
     record {
       number = cond (tablesSized b) (made p s .number) brokenTables;
@@ -69,26 +70,22 @@ abbrev pub lentState : List ℕ → List ℕ → List ℕ → State
 lentState b fast slow = stateOf (tablesOf b) fast slow
 
 -- lent bytes after a message that comes to o: a refusal leaves every byte as it was
-abbrev pub leftIn : List ℕ → Outcome State → List ℕ
+abbrev pub leftIn : List ℕ → Outcome Result → List ℕ
 leftIn b (refuse n) = b
-leftIn b (accept s laid bs) = withTables b (s .tables)
+leftIn b (accept r) = withTables b (r .state .tables)
 
 -- the number, the length of the reply and the bytes laid, in one
 abbrev pub packed : ℕ → ℕ → ℕ → ℕ
 packed number len laid = number + 256 * len + 65536 * laid
 
--- what `reel_answer` leaves of a message on state s that comes to o
-pub record AnswerLent (b : List ℕ) (s : State) (o : Outcome State) (out b′ fast′ slow′ out′ : List ℕ) (r : ℕ) : Type 0 where
-  pub told : r ≡ packed (numberOf o) (length (replyIn (length out) o)) (laidBy o)
+-- what `reel_answer` leaves of the bytes b of the tables, and of the stores and the buffer l, where a message on state s comes to o
+pub record AnswerLent (s : State) (o : Outcome Result) (b : List ℕ) (l : Lent) (b′ : List ℕ) (l′ : Lent) (r : ℕ) : Type 0 where
+  pub told : r ≡ packed (numberOf o) (length (replyIn (length (l .out)) o)) (laidBy o)
   pub tables-out : b′ ≡ leftIn b o
-  pub fast-out : fast′ ≡ left s o .fast
-  pub slow-out : slow′ ≡ left s o .slow
-  pub reply-out : out′ ≡ over (replyIn (length out) o) out
+  pub lent-out : l′ ≡ lent (left s o .fast) (left s o .slow) (over (replyIn (length (l .out)) o) (l .out))
 
--- what `reel_run` leaves of a run w
-pub record RunLent (b : List ℕ) (w : Run) (out l b′ fast′ slow′ out′ l′ : List ℕ) : Type 0 where
+-- what `reel_run` leaves of the bytes b of the tables, of the stores and the buffer l and of the tally n, after a run w
+pub record RunLent (w : Run) (b : List ℕ) (l : Lent) (n : List ℕ) (b′ : List ℕ) (l′ : Lent) (n′ : List ℕ) : Type 0 where
   pub tables-out : b′ ≡ withTables b (w .final .tables)
-  pub fast-out : fast′ ≡ w .final .fast
-  pub slow-out : slow′ ≡ w .final .slow
-  pub buffer-out : out′ ≡ buffer (length out) (w .turns) out
-  pub tally-out : l′ ≡ withTally l (tally (w .turns) (tallyOf l))
+  pub lent-out : l′ ≡ lent (w .final .fast) (w .final .slow) (buffer (length (l .out)) (w .turns) (l .out))
+  pub tally-out : n′ ≡ withTally n (tally (w .turns) (tallyOf n))

@@ -1,5 +1,5 @@
-// The kernel for programs in C or Rust. The tables are lent as 2690 bytes, so a caller needs no
-// type of ours: P, S, then for each of the 64 pages 42 bytes, which are the sixteen rights, the
+// The kernel for programs in C or Rust. The tables are lent as bytes, so a caller needs no
+// type of ours: P, S, then for each of the 64 pages the sixteen rights, the
 // eight entries (frame, CURRENT, MOST RECENT), the owner and n.
 use messages::Tally;
 use messages::answer;
@@ -18,13 +18,17 @@ ghost use lib.ListN.{length, take, drop};
 ghost use lib.Seq.{sets};
 ghost use lib.Dec.{eqb};
 ghost use Rattle.tables.specs.Numbers.{accepted};
-ghost use Rattle.messages.specs.Run.{turn, run};
+ghost use Rattle.steps.specs.Promises.{lent};
+ghost use Rattle.messages.specs.Run.{answer, run};
 ghost use Rattle.messages.specs.Promises.{sentAlone};
-ghost use Rattle.embed.specs.Bytes.{markByte, copyBytes, pageBytes, tablesBytes, fromEach, copyFrom, pageFrom, tablesFrom};
+ghost use Rattle.embed.specs.Bytes.{pageSize, tablesSize, markByte, copyBytes, pageBytes, tablesBytes, fromEach, copyFrom, pageFrom, tablesFrom};
 ghost use Rattle.embed.specs.Exports.{noTables, tablesOf, withTables, freshInto, tallyOf, withTally, packed, lentState, AnswerLent, RunLent};
 
+// How many bytes a page takes.
+const PAGE_SIZE: usize = 42;
+
 // How many bytes the tables take.
-const TABLES_SIZE: usize = 2690;
+const TABLES_SIZE: usize = 2 + 64 * PAGE_SIZE;
 
 // ---- the tables from bytes
 
@@ -68,7 +72,7 @@ fn copies_from(bytes: &[u8], at: usize) -> [Copy; 8]
 }
 
 fn page_from(bytes: &[u8], at: usize) -> Page
-    requires { ⌜ at + 42 ≤ length (now bytes) ⌝ }
+    requires { ⌜ at + pageSize ≤ length (now bytes) ⌝ }
     ensures { λ r. ⌜ r ≡ pageFrom (drop at (now (bytes .entry))) ⌝ }
 {
     let rights = rights_from(bytes, at);
@@ -82,14 +86,14 @@ fn page_from(bytes: &[u8], at: usize) -> Page
 }
 
 fn tables_from(bytes: &[u8]) -> Tables
-    requires { ⌜ length (now bytes) ≡ 2690 ⌝ }
+    requires { ⌜ length (now bytes) ≡ tablesSize ⌝ }
     ensures { λ r. ⌜ r ≡ tablesFrom (now (bytes .entry)) ⌝ }
 {
     let first = page_from(bytes, 2);
     let mut pages = [first; 64];
     let mut i: usize = 1;
     while i < 64 {
-        let g = page_from(bytes, 2 + 42 * i);
+        let g = page_from(bytes, 2 + PAGE_SIZE * i);
         pages[i] = g;
         i += 1;
     }
@@ -143,9 +147,9 @@ fn put_copies(copies: [Copy; 8], bytes: &mut [u8], at: usize)
 }
 
 fn put_page(g: Page, bytes: &mut [u8], at: usize)
-    requires { ⌜ at + 42 ≤ length (now bytes) ⌝ }
+    requires { ⌜ at + pageSize ≤ length (now bytes) ⌝ }
     ensures { λ _. ⌜ now (bytes .exit) ≡ sets (now (bytes .entry)) at (pageBytes g) ⌝ }
-    ensures { λ _. ⌜ length (pageBytes g) ≡ 42 ⌝ }
+    ensures { λ _. ⌜ length (pageBytes g) ≡ pageSize ⌝ }
 {
     let rights = g.rights;
     let copies = g.copies;
@@ -156,7 +160,7 @@ fn put_page(g: Page, bytes: &mut [u8], at: usize)
 }
 
 fn put_tables(tables: Tables, bytes: &mut [u8])
-    requires { ⌜ length (now bytes) ≡ 2690 ⌝ }
+    requires { ⌜ length (now bytes) ≡ tablesSize ⌝ }
     ensures { λ _. ⌜ now (bytes .exit) ≡ tablesBytes tables ⌝ }
 {
     bytes[0] = tables.shared.p;
@@ -164,7 +168,7 @@ fn put_tables(tables: Tables, bytes: &mut [u8])
     let mut i: usize = 0;
     while i < 64 {
         let g = tables.pages[i];
-        put_page(g, bytes, 2 + 42 * i);
+        put_page(g, bytes, 2 + PAGE_SIZE * i);
         i += 1;
     }
 }
@@ -248,8 +252,8 @@ fn packed(number: u8, len: usize, laid: u16) -> u32
 // Makes fresh tables: 0, or 19 with P = S = 0. A buffer of another length is left alone: 5.
 #[no_mangle]
 pub extern "C" fn reel_fresh(p: u8, s: u8, tables: &mut [u8]) -> u8
-    ensures { λ r. ⌜ r ≡ freshInto fast slow (now (tables .entry)) .number ⌝ }
-    ensures { λ _. ⌜ now (tables .exit) ≡ freshInto fast slow (now (tables .entry)) .bytes ⌝ }
+    ensures { λ r. ⌜ r ≡ freshInto p s (now (tables .entry)) .number ⌝ }
+    ensures { λ _. ⌜ now (tables .exit) ≡ freshInto p s (now (tables .entry)) .bytes ⌝ }
 {
     if tables.len() != TABLES_SIZE {
         return BROKEN_TABLES;
@@ -269,10 +273,10 @@ pub extern "C" fn reel_answer(
     message: &[u8],
     out: &mut [u8],
 ) -> u32
-    ensures { λ r. ⌜ AnswerLent (now (tables .entry)) (lentState (now (tables .entry)) (now (fast .entry)) (now (slow .entry)))
-        (turn (length (now (out .entry))) (lentState (now (tables .entry)) (now (fast .entry)) (now (slow .entry)))
-        (sentAlone (now (message .entry))))
-        (now (out .entry)) (now (tables .exit)) (now (fast .exit)) (now (slow .exit)) (now (out .exit)) r ⌝ }
+    ensures { λ r. ⌜ AnswerLent (lentState (now (tables .entry)) (now (fast .entry)) (now (slow .entry)))
+        (answer (length (now (out .entry))) (lentState (now (tables .entry)) (now (fast .entry)) (now (slow .entry))) (sentAlone (now (message .entry))))
+        (now (tables .entry)) (lent (now (fast .entry)) (now (slow .entry)) (now (out .entry)))
+        (now (tables .exit)) (lent (now (fast .exit)) (now (slow .exit)) (now (out .exit))) r ⌝ }
 {
     let before = tables_of(&tables[..]);
     let a = answer(before, fast, slow, message, out);
@@ -291,9 +295,10 @@ pub extern "C" fn reel_run(
     out: &mut [u8],
     tally: &mut [u32],
 )
-    ensures { λ _. ⌜ RunLent (now (tables .entry))
+    ensures { λ _. ⌜ RunLent
         (run (length (now (out .entry))) (now (file .entry)) (lentState (now (tables .entry)) (now (fast .entry)) (now (slow .entry))))
-        (now (out .entry)) (now (tally .entry)) (now (tables .exit)) (now (fast .exit)) (now (slow .exit)) (now (out .exit)) (now (tally .exit)) ⌝ }
+        (now (tables .entry)) (lent (now (fast .entry)) (now (slow .entry)) (now (out .entry))) (now (tally .entry))
+        (now (tables .exit)) (lent (now (fast .exit)) (now (slow .exit)) (now (out .exit))) (now (tally .exit)) ⌝ }
 {
     let before = tables_of(&tables[..]);
     let counted = tally_of(&tally[..]);

@@ -1,14 +1,14 @@
 -- Read and write agree with the flat memory's reaction to them.
 use Prim.Native.Nat.{ℕ, zero, suc, _+_, _*_, _≤_, _<_}
-use mathlib.Core.Path.{_≡_, refl, sym}
-use mathlib.Core.Bool.{true, false, not, _||_}
+use mathlib.Core.Path.{_≡_, refl, sym, ap}
+use mathlib.Core.Bool.{true, false, not}
 use mathlib.Core.List.{List}
 use native.Mathlib.Omega.{arith}
 use lib.ListN.{length, getD, set}
 use lib.Dec.{leb, ltb, eqb}
 use borrow.Author.Tests.{eqb-false, le-leb, le-ltb, ne-eqb}
 use Rattle.tables.specs.declared.Page.{Page}
-use Rattle.tables.specs.declared.Change.the-variants.{Staled}
+use Rattle.tables.specs.declared.Edit.the-variants.{Staled}
 use Rattle.tables.specs.Lists.{all}
 use Rattle.tables.specs.Numbers.{outOfRange, noRight}
 use Rattle.tables.specs.Model.{frames, inUse, absent, pageAt}
@@ -17,16 +17,18 @@ use Rattle.tables.specs.Changes.{changed}
 use Rattle.tables.proofs.RuleLaws.{sound-of}
 use Rattle.tables.proofs.UsesLaws.{uses-at, uses-two}
 use Rattle.tables.proofs.ChangeLaws.{in-use-staled}
-use Rattle.steps.specs.declared.Call.the-variants.{Read, Write}
+use Rattle.steps.specs.declared.Kind.the-variants.{Read, Write}
+use Rattle.steps.specs.declared.Call.{Call}
+use Rattle.steps.specs.Kinds.{names, code, among}
+use Rattle.steps.specs.Calls.{nameOutside, badSpan}
 use Rattle.steps.specs.Stores.{part, splice, layCurrent}
-use Rattle.steps.specs.Calls.{badSpan}
-use Rattle.steps.specs.Steps.{keeping, currents, perform, State, applied}
-use Rattle.theorems.specs.Flat.{Flat, FlatPage, here, slotAt, react}
+use Rattle.steps.specs.Steps.{currents, perform, decideOn}
+use Rattle.steps.specs.Effects.{laidIn, shownOf, State, joined}
 use Rattle.steps.proofs.Blocks.{write-other, write-own}
-use Rattle.steps.proofs.RangeLaws.{page-near, span-within}
-use Rattle.steps.proofs.StepSound.{joined, joined-long, page-stands}
+use Rattle.steps.proofs.GoodLaws.{page-near, span-within, joined-long, page-stands}
+use Rattle.theorems.specs.Flat.{Flat, FlatPage, here, slotAt, reactAs}
 use Rattle.theorems.proofs.Holding.{holds-written, first-current}
-use Rattle.theorems.proofs.Agreement.{Alike, Same, Inv, both-accept, both, both-parts, lacking, on-page, page-changed, page-kept, CallAgrees}
+use Rattle.theorems.proofs.Agreement.{Alike, Same, Inv, both-accept, both, lacking, on-page, applied, page-changed, page-kept, ofKind, CallAgrees}
 
 -- the right that the steps ask for, and its lack, which the flat memory asks after
 not-least-one : (r : ℕ) → not (leb 1 r) ≡ eqb r 0
@@ -39,24 +41,10 @@ not-least-two (suc zero) = refl
 not-least-two (suc (suc r)) = rw (le-leb 2 (suc (suc r)) (omega arith), le-ltb (suc (suc r)) 2 (omega arith))
 
 module _ (s : State) (f : Flat) (i : Inv s f) where
-  pub read-agrees : (a p o n : ℕ) (bs : List ℕ) → CallAgrees s f (Read a p o n) bs
-  unfolding perform react part
-  read-agrees a p o n bs =
-      both-parts (ltb 15 a || ltb 63 p) (badSpan o n) outOfRange refl (λ e _.
-      let near = page-near (Read a p o n) e in
-      let g : Page = pageAt (s .tables) p in
-      on-page (joined s) g (slotAt f p) (i .same .alike p near) (λ b some own.
-      rw (own .rights, not-least-one (getD (b .rights) a 0)) (both (eqb (getD (b .rights) a 0) 0) noRight refl (λ _.
-      lacking (eqb (currents g) 0) (λ current.
-      let ne = eqb-false (currents g) 0 current in
-      let rules = page-stands (i .good) p near some .copies-ok in
-      let bytes = first-current (frames (s .tables)) (g .n) (joined s) (b .bytes) (inUse g) rules (omega arith) (own .holds) in
-      rw bytes (both-accept (page-kept s f i p near)))))))
-
   -- page p, which stands as b, written
   written : (p : ℕ) → p < 64 → absent (pageAt (s .tables) p) ≡ false → (b : FlatPage) → Alike (joined s) (pageAt (s .tables) p) b
       → (o : ℕ) (bs : List ℕ) → o + length bs ≤ 64
-      → Same (applied s p (keeping Staled (layCurrent (joined s) (inUse (pageAt (s .tables) p)) o bs)))
+      → Same (applied s p Staled (layCurrent (joined s) (inUse (pageAt (s .tables) p)) o bs))
       (set f p (here (record { owner = b .owner; rights = b .rights; bytes = splice (b .bytes) o bs })))
   unfolding changed
   written p near some b own o bs span =
@@ -88,13 +76,30 @@ module _ (s : State) (f : Flat) (i : Inv s f) where
       once : (x : ℕ) → x < limit → uses x (s .tables .pages) ≤ 1
       once = sound-of (s .tables) (i .good .tables-sound) .once
 
-  pub write-agrees : (a p o : ℕ) (bs : List ℕ) → CallAgrees s f (Write a p o) bs
-  unfolding perform react splice
-  write-agrees a p o bs =
-      both-parts (ltb 15 a || ltb 63 p) (badSpan o (length bs)) outOfRange refl (λ e e′.
-      let near = page-near (Write a p o) e in
-      let g : Page = pageAt (s .tables) p in
-      on-page (joined s) g (slotAt f p) (i .same .alike p near) (λ b some own.
-      rw (own .rights, not-least-two (getD (b .rights) a 0)) (both (ltb (getD (b .rights) a 0) 2) noRight refl (λ _.
-      lacking (eqb (currents g) 0) (λ _.
-      both-accept (written p near some b own o bs (span-within o (length bs) e′)))))))
+  module _ (c : Call) (bs : List ℕ) where
+    abbrev page : Page
+    page = pageAt (s .tables) (c .page)
+
+    pub read-agrees : CallAgrees s f (ofKind Read c) bs
+    unfolding decideOn perform reactAs names code among laidIn shownOf part
+    read-agrees =
+        both (nameOutside c) outOfRange refl (λ e. both (badSpan (c .offset) (c .count)) outOfRange refl (λ _.
+        let near = page-near c e in
+        on-page (joined s) page (slotAt f (c .page)) (i .same .alike (c .page) near) (λ b some own.
+        rw (own .rights, not-least-one (getD (b .rights) (c .station) 0)) (both (eqb (getD (b .rights) (c .station) 0) 0) noRight refl (λ _.
+        lacking (eqb (currents page) 0) (λ current.
+        let ne = eqb-false (currents page) 0 current in
+        let rules = page-stands (i .good) (c .page) near some .copies-ok in
+        both-accept (ap (λ (l : List ℕ). part l (c .offset) (c .count))
+        (first-current (frames (s .tables)) (page .n) (joined s) (b .bytes) (inUse page) rules (omega arith) (own .holds)))
+        (page-kept s f i (c .page) near)))))))
+
+    pub write-agrees : CallAgrees s f (ofKind Write c) bs
+    unfolding decideOn perform reactAs names code among laidIn shownOf splice
+    write-agrees =
+        both (nameOutside c) outOfRange refl (λ e. both (badSpan (c .offset) (length bs)) outOfRange refl (λ e′.
+        let near = page-near c e in
+        on-page (joined s) page (slotAt f (c .page)) (i .same .alike (c .page) near) (λ b some own.
+        rw (own .rights, not-least-two (getD (b .rights) (c .station) 0)) (both (ltb (getD (b .rights) (c .station) 0) 2) noRight refl (λ _.
+        lacking (eqb (currents page) 0) (λ _.
+        both-accept refl (written (c .page) near some b own (c .offset) bs (span-within (c .offset) (length bs) e′))))))))

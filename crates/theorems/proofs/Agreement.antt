@@ -1,32 +1,32 @@
--- When the kernel's state agrees with the flat memory, and the outcome of a call with the flat memory's reaction to it.
+-- When the kernel's state agrees with the flat memory, and what a call comes to with the flat memory's reaction to it.
 use Prim.Native.Nat.{ℕ, _≤_, _<_}
 use mathlib.Core.Path.{_≡_, refl, sym, _∙_, subst}
 use mathlib.Core.Logic.{_≢_}
-use mathlib.Core.Bool.{Bool, true, false, not, _&&_, _||_, cond}
+use mathlib.Core.Bool.{Bool, true, false, not, _&&_, cond}
 use mathlib.Core.List.{List, [], _∷_}
 use native.Mathlib.Decide.{ℕ-discrete}
-use lib.ListN.{length, set, length-set, take-append-drop}
+use lib.ListN.{length, take, drop, set, length-set, take-append-drop}
 use lib.Seq.{getD-set-same, getD-set-other, set-getD}
 use lib.Dec.{eqb}
 use Rattle.tables.specs.declared.Page.{Page}
-use Rattle.tables.specs.declared.Change.{Change}
-use Rattle.tables.specs.declared.Change.the-variants.{Kept}
+use Rattle.tables.specs.declared.Edit.{Edit}
+use Rattle.tables.specs.declared.Edit.the-variants.{Kept}
 use Rattle.tables.specs.Lists.{count}
 use Rattle.tables.specs.Numbers.{noPage, nothingCurrent}
 use Rattle.tables.specs.Model.{frames, inUse, absent, pageAt}
 use Rattle.tables.specs.Rules.{onFrame}
-use Rattle.tables.specs.Search.{holderOf}
-use Rattle.tables.specs.Changes.{changed, after}
+use Rattle.tables.specs.Changes.{changed, edited, after}
 use Rattle.tables.proofs.RuleLaws.{sound-of}
 use Rattle.tables.proofs.ChangeLaws.{after-same, after-other}
+use Rattle.steps.specs.declared.Kind.{Kind}
 use Rattle.steps.specs.declared.Call.{Call}
-use Rattle.steps.specs.Calls.{pageOf, frameOf}
 use Rattle.steps.specs.Stores.{block}
-use Rattle.steps.specs.Steps.{Outcome, refuse, accept, test, mapped, Effect, keeping, ranged, State, applied, left}
+use Rattle.steps.specs.Steps.{Outcome, refuse, accept, test, mapped, Plan, decide}
+use Rattle.steps.specs.Effects.{State, joined, Result, carriedOut, left}
 use Rattle.messages.specs.Replies.{reply}
-use Rattle.theorems.specs.Flat.{Flat, FlatPage, Slot, gone, here, slotAt, Reaction, silent, no, yes, unless, onPage, react, flatLeft, answersOf, accepts}
-use Rattle.theorems.specs.Demand3.{Holds, numberIn, taken, flatKind, lacks}
-use Rattle.steps.proofs.StepSound.{Good, joined, page-stands}
+use Rattle.theorems.specs.Flat.{Flat, FlatPage, Slot, gone, here, slotAt, Reaction, silent, no, yes, unless, onPage, flatKind, react, flatLeft, answersOf, accepts}
+use Rattle.theorems.specs.Demand3.{Holds, numberIn, taken, lacks}
+use Rattle.steps.proofs.GoodLaws.{Good, page-stands}
 use Rattle.theorems.proofs.Holding.{holds-kept}
 
 -- ---- the two states
@@ -51,83 +51,75 @@ pub record Inv (s : State) (f : Flat) : Type 0 where
 
 -- ---- an outcome and a reaction
 
--- P says of what is left, and of the flat memory after it, that they agree. The flat memory is f before the call.
--- The first index: the flat memory answers calls of this kind. The second: the call is a read or write of a page with no CURRENT copy.
-pub data Agree {A : Type 0} (P : A → Flat → Type 0) (f : Flat) : Bool → Bool → Outcome A → Reaction → Type 0 where
-  passed-over : {a : A} {laid : ℕ} {bs : List ℕ} → P a f → Agree P f false false (accept a laid bs) silent
-  turned-back : {n : ℕ} → eqb n nothingCurrent ≡ false → Agree P f false false (refuse n) silent
-  both-accept : {a : A} {laid : ℕ} {bs : List ℕ} {f′ : Flat} → P a f′ → Agree P f true false (accept a laid bs) (yes f′ bs)
-  both-refuse : {n : ℕ} {lack : Bool} → eqb n nothingCurrent ≡ false → Agree P f true lack (refuse n) (no n)
-  kept-back : {f′ : Flat} {bs : List ℕ} → Agree P f true true (refuse nothingCurrent) (yes f′ bs)
+-- P says of what is accepted, and of the flat memory after it, that they agree, and `shows` what data it has. The flat memory is f before
+-- the call. The first index: the flat memory answers calls of this kind. The second: the call is a read or write of a page with no CURRENT copy.
+pub data Agree {A : Type 0} (P : A → Flat → Type 0) (shows : A → List ℕ) (f : Flat) : Bool → Bool → Outcome A → Reaction → Type 0 where
+  passed-over : {a : A} → P a f → Agree P shows f false false (accept a) silent
+  turned-back : {n : ℕ} → eqb n nothingCurrent ≡ false → Agree P shows f false false (refuse n) silent
+  both-accept : {a : A} {f′ : Flat} {bs : List ℕ} → shows a ≡ bs → P a f′ → Agree P shows f true false (accept a) (yes f′ bs)
+  both-refuse : {n : ℕ} {lack : Bool} → eqb n nothingCurrent ≡ false → Agree P shows f true lack (refuse n) (no n)
+  kept-back : {f′ : Flat} {bs : List ℕ} → Agree P shows f true true (refuse nothingCurrent) (yes f′ bs)
 
-pub agree-mapped : {A B : Type 0} {P : A → Flat → Type 0} {Q : B → Flat → Type 0} {f : Flat} {kind lack : Bool} {o : Outcome A} {w : Reaction}
-    (h : A → B) → ((a : A) (f′ : Flat) → P a f′ → Q (h a) f′) → Agree P f kind lack o w → Agree Q f kind lack (mapped h o) w
-agree-mapped h k (passed-over i) = passed-over (k _ _ i)
-agree-mapped h k (turned-back e) = turned-back e
-agree-mapped h k (both-accept i) = both-accept (k _ _ i)
-agree-mapped h k (both-refuse e) = both-refuse e
-agree-mapped h k kept-back = kept-back
-
-module _ {A : Type 0} {P : A → Flat → Type 0} {f : Flat} where
+module _ {A : Type 0} {P : A → Flat → Type 0} {shows : A → List ℕ} {f : Flat} where
   -- a test that both make
   pub both : {lack : Bool} {o : Outcome A} {w : Reaction} (b : Bool) (n : ℕ) → eqb n nothingCurrent ≡ false
-      → (b ≡ false → Agree P f true lack o w) → Agree P f true lack (test b n o) (unless b n w)
+      → (b ≡ false → Agree P shows f true lack o w) → Agree P shows f true lack (test b n o) (unless b n w)
   both true n e k = both-refuse e
   both false n e k = k refl
 
-  -- a test in two parts
-  pub both-parts : {lack : Bool} {o : Outcome A} {w : Reaction} (b b′ : Bool) (n : ℕ) → eqb n nothingCurrent ≡ false
-      → (b ≡ false → b′ ≡ false → Agree P f true lack o w) → Agree P f true lack (test b n (test b′ n o)) (unless (b || b′) n w)
-  both-parts true b′ n e k = both-refuse e
-  both-parts false b′ n e k = both b′ n e (k refl)
-
   -- a test in a call that the flat memory passes over
   pub alone : {o : Outcome A} (b : Bool) (n : ℕ) → eqb n nothingCurrent ≡ false
-      → (b ≡ false → Agree P f false false o silent) → Agree P f false false (test b n o) silent
+      → (b ≡ false → Agree P shows f false false o silent) → Agree P shows f false false (test b n o) silent
   alone true n e k = turned-back e
   alone false n e k = k refl
 
   -- 11, where nothing is CURRENT
-  pub lacking : {o : Outcome A} {f′ : Flat} {bs : List ℕ} (b : Bool) → (b ≡ false → Agree P f true false o (yes f′ bs))
-      → Agree P f true b (test b nothingCurrent o) (yes f′ bs)
+  pub lacking : {o : Outcome A} {f′ : Flat} {bs : List ℕ} (b : Bool) → (b ≡ false → Agree P shows f true false o (yes f′ bs))
+      → Agree P shows f true b (test b nothingCurrent o) (yes f′ bs)
   lacking true k = kept-back
   lacking false k = k refl
 
   -- 9
   pub on-page : {lack : Bool} {o : Outcome A} {k : FlatPage → Reaction} (st : List ℕ) (g : Page) (x : Slot) → AlikeSlot st g x
-      → ((b : FlatPage) → absent g ≡ false → Alike st g b → Agree P f true lack o (k b))
-      → Agree P f true lack (test (absent g) noPage o) (onPage x k)
+      → ((b : FlatPage) → absent g ≡ false → Alike st g b → Agree P shows f true lack o (k b))
+      → Agree P shows f true lack (test (absent g) noPage o) (onPage x k)
   on-page st g gone e h = rw e (both-refuse refl)
   on-page st g (here b) e h = rw (e .0) (h b (e .0) (e .1))
 
 -- ---- what demand 3 asks of a turn
 
-module _ {P : State → Flat → Type 0} {f : Flat} where
-  pub says : {kind lack : Bool} {o : Outcome State} {w : Reaction} → Agree P f kind lack o w
+abbrev pub dataIn : Result → List ℕ
+dataIn r = r .data-out
+
+abbrev pub ResultAgrees : Flat → Bool → Bool → Outcome Result → Reaction → Type 0
+ResultAgrees f = Agree (λ (r : Result). Same (r .state)) dataIn f
+
+module _ {f : Flat} where
+  pub says : {kind lack : Bool} {o : Outcome Result} {w : Reaction} → ResultAgrees f kind lack o w
       → cond (eqb (numberIn (reply o)) nothingCurrent) [] (answersOf w)
       ≡ cond (not (eqb (numberIn (reply o)) nothingCurrent) && kind) (taken (reply o) ∷ []) []
   unfolding reply
   says (passed-over i) = refl
   says (turned-back e) = rw e
-  says (both-accept i) = refl
+  says (both-accept d i) = rw d
   says (both-refuse e) = rw e
   says kept-back = refl
 
-  pub eleven : {kind lack : Bool} {o : Outcome State} {w : Reaction} → Agree P f kind lack o w
+  pub eleven : {kind lack : Bool} {o : Outcome Result} {w : Reaction} → ResultAgrees f kind lack o w
       → eqb (numberIn (reply o)) nothingCurrent ≡ (accepts w && lack)
   unfolding reply
   eleven (passed-over i) = refl
   eleven (turned-back e) = e
-  eleven (both-accept i) = refl
+  eleven (both-accept d i) = refl
   eleven (both-refuse e) = e
   eleven kept-back = refl
 
-  pub leaves : {kind lack : Bool} {o : Outcome State} {w : Reaction} (s : State) → P s f → Agree P f kind lack o w
-      → P (left s o) (cond (eqb (numberIn (reply o)) nothingCurrent) f (flatLeft f w))
+  pub leaves : {kind lack : Bool} {o : Outcome Result} {w : Reaction} (s : State) → Same s f → ResultAgrees f kind lack o w
+      → Same (left s o) (cond (eqb (numberIn (reply o)) nothingCurrent) f (flatLeft f w))
   unfolding reply
   leaves s i (passed-over k) = k
   leaves s i (turned-back e) = rw e i
-  leaves s i (both-accept k) = k
+  leaves s i (both-accept d k) = k
   leaves s i (both-refuse e) = rw e i
   leaves s i kept-back = i
 
@@ -141,6 +133,15 @@ OthersKept s p st′ =
 
 pub stores-kept : (s : State) (p : ℕ) → OthersKept s p (joined s)
 stores-kept s p q d y l used = refl
+
+-- the state with the record of page p edited, and the joined stores st′ taken apart again
+abbrev pub applied : State → ℕ → Edit → List ℕ → State
+applied s p e st′ =
+    record {
+      tables = after (s .tables) (edited (s .tables) p e);
+      fast = take (length (s .fast)) st′;
+      slow = drop (length (s .fast)) st′;
+    }
 
 module _ (s : State) (f : Flat) (i : Inv s f) where
   -- a page whose frames are as they were
@@ -158,39 +159,64 @@ module _ (s : State) (f : Flat) (i : Inv s f) where
     },
   )
 
-  module _ (p : ℕ) (near : p < 64) (ch : Change) (st′ : List ℕ) where
-    pub page-changed : (x : Slot) → AlikeSlot st′ (changed (pageAt (s .tables) p) ch) x → OthersKept s p st′
-        → Same (applied s p (keeping ch st′)) (set f p x)
+  module _ (p : ℕ) (near : p < 64) (e : Edit) (st′ : List ℕ) where
+    pub page-changed : (x : Slot) → AlikeSlot st′ (changed (pageAt (s .tables) p) e) x → OthersKept s p st′
+        → Same (applied s p e st′) (set f p x)
     page-changed x own keep =
         record {
           long = length-set f p x ∙ i .same .long;
-          alike = λ q h. subst (λ (l : List ℕ). AlikeSlot l (pageAt (after (s .tables) p ch) q) (slotAt (set f p x) q))
+          alike = λ q h. subst (λ (l : List ℕ). AlikeSlot l (pageAt (after (s .tables) (edited (s .tables) p e)) q) (slotAt (set f p x) q))
               (sym (take-append-drop (length (s .fast)) st′)) (at q h (ℕ-discrete q p));
         }
       where
-        at : (q : ℕ) → q < 64 → Dec (q ≡ p) → AlikeSlot st′ (pageAt (after (s .tables) p ch) q) (slotAt (set f p x) q)
-        at q h (Dec.yes e) =
+        at : (q : ℕ) → q < 64 → Dec (q ≡ p) → AlikeSlot st′ (pageAt (after (s .tables) (edited (s .tables) p e)) q) (slotAt (set f p x) q)
+        at q h (Dec.yes same) =
             let pages : p < length (s .tables .pages) = rw (sound-of (s .tables) (i .good .tables-sound) .pages-long) near in
             let slots : p < length f = rw (i .same .long) near in
-            rw (e, after-same (s .tables) p ch pages, getD-set-same f p x gone slots) own
+            rw (same, after-same (s .tables) p e pages, getD-set-same f p x gone slots) own
         at q h (Dec.no d) =
-            rw (after-other (s .tables) p ch q d, getD-set-other f p q x gone d)
+            rw (after-other (s .tables) p e q d, getD-set-other f p q x gone d)
             (kept-alike st′ q h (slotAt f q) (keep q d) (i .same .alike q h))
 
     -- the flat memory as it was
-    pub page-moved : AlikeSlot st′ (changed (pageAt (s .tables) p) ch) (slotAt f p) → OthersKept s p st′
-        → Same (applied s p (keeping ch st′)) f
+    pub page-moved : AlikeSlot st′ (changed (pageAt (s .tables) p) e) (slotAt f p) → OthersKept s p st′
+        → Same (applied s p e st′) f
     page-moved own keep =
-        subst (λ (f′ : Flat). Same (applied s p (keeping ch st′)) f′) (set-getD f p gone) (page-changed (slotAt f p) own keep)
+        subst (λ (f′ : Flat). Same (applied s p e st′) f′) (set-getD f p gone) (page-changed (slotAt f p) own keep)
 
   -- all as it was
-  pub page-kept : (p : ℕ) → p < 64 → Same (applied s p (keeping Kept (joined s))) f
+  pub page-kept : (p : ℕ) → p < 64 → Same (applied s p Kept (joined s)) f
   unfolding changed
   page-kept p near = page-moved p near Kept (joined s) (i .same .alike p near) (stores-kept s p)
 
 -- ---- a call, from number 7 on
 
+-- the call with this kind: to go through the kinds is to go through these
+abbrev pub ofKind : Kind → Call → Call
+ofKind k c =
+    record {
+      kind = k;
+      station = c .station;
+      page = c .page;
+      other = c .other;
+      right = c .right;
+      offset = c .offset;
+      count = c .count;
+      copy = c .copy;
+      frame = c .frame;
+    }
+
 abbrev pub CallAgrees : State → Flat → Call → List ℕ → Type 0
 CallAgrees s f c bs =
-    Agree (λ (e : Effect) (f′ : Flat). Same (applied s (pageOf c) e) f′) f (flatKind c) (lacks (s .tables) c)
-    (ranged (frames (s .tables)) (pageAt (s .tables) (pageOf c)) (holderOf (s .tables) (frameOf c)) (joined s) c bs) (react f c bs)
+    Agree (λ (plan : Plan). Same (carriedOut s c bs plan .state)) (λ (plan : Plan). carriedOut s c bs plan .data-out) f (flatKind c)
+    (lacks (s .tables) c) (decide (s .tables) c (length bs)) (react f c bs)
+
+-- and so does its result
+pub carried-agrees : (s : State) {f : Flat} (c : Call) (bs : List ℕ) {kind lack : Bool} {o : Outcome Plan} {w : Reaction}
+    → Agree (λ (plan : Plan). Same (carriedOut s c bs plan .state)) (λ (plan : Plan). carriedOut s c bs plan .data-out) f kind lack o w
+    → ResultAgrees f kind lack (mapped (carriedOut s c bs) o) w
+carried-agrees s c bs (passed-over i) = passed-over i
+carried-agrees s c bs (turned-back e) = turned-back e
+carried-agrees s c bs (both-accept d i) = both-accept d i
+carried-agrees s c bs (both-refuse e) = both-refuse e
+carried-agrees s c bs kept-back = kept-back

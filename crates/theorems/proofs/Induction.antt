@@ -3,7 +3,7 @@ use Prim.Native.Nat.{ℕ}
 use mathlib.Core.Path.{_≡_, refl, ap, ap₂}
 use mathlib.Core.Bool.{Bool, not, _&&_, cond}
 use mathlib.Core.List.{List, [], _∷_, _++_, map}
-use Rattle.steps.specs.Steps.{State}
+use Rattle.steps.specs.Effects.{State}
 use Rattle.messages.specs.Replies.{replyIn}
 use Rattle.messages.specs.Run.{Sent, asked, bytesOf, Turn, turnOf, leftBy, turnsOf, endOf}
 use Rattle.theorems.specs.Flat.{Flat, Answer, answersOf}

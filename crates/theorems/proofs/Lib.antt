@@ -1,9 +1,11 @@
+pub mod Stub
 pub mod Holding
 pub mod Agreement
 pub mod Owners
 pub mod Access
 pub mod Moves
 pub mod Frames
+pub mod Parsing
 pub mod Induction
 pub mod Whole
 pub mod Refusals

@@ -7,12 +7,12 @@ use mathlib.Core.List.{List, [], _∷_, _++_}
 use native.Mathlib.Omega.{arith}
 use lib.ListN.{length, take, set}
 use lib.Seq.{getD-take}
-use lib.Dec.{leb, ltb, eqb}
+use lib.Dec.{leb, eqb}
 use borrow.Author.Tests.{leb-false, eqb-true, eqb-false, ne-eqb, not-false}
 use Rattle.tables.specs.declared.Copy.{Copy}
 use Rattle.tables.specs.declared.Page.{Page}
-use Rattle.tables.specs.declared.Change.{Change}
-use Rattle.tables.specs.declared.Change.the-variants.{Placed, Added, Removed, Marked}
+use Rattle.tables.specs.declared.Edit.{Edit}
+use Rattle.tables.specs.declared.Edit.the-variants.{Placed, Added, Removed, Marked}
 use Rattle.tables.specs.Lists.{count}
 use Rattle.tables.specs.Numbers.{outOfRange, noPage, noCopy, frameHeld, eightCopies, lastRecent, stale, noFrame}
 use Rattle.tables.specs.Model.{frames, isNull, inUse, absent, pageAt, noCopyEntry}
@@ -25,16 +25,20 @@ use Rattle.tables.proofs.HolderLaws.{free-holder}
 use Rattle.tables.proofs.ChangeLaws.{in-use-marked, in-use-placed, added, in-use-added, in-use-removed}
 use Rattle.tables.proofs.Allowed.{RemoveOk}
 use Rattle.tables.proofs.PageChanges.{removed-ok}
-use Rattle.steps.specs.declared.Call.the-variants.{MakeCopy, DeleteCopy, SetCurrent, RemoveCurrent, LookPage, LookFrame}
-use Rattle.steps.specs.Stores.{lay, held}
-use Rattle.steps.specs.Steps.{Outcome, Effect, keeping, numbered, copyAt, recents, copied, perform, State, applied}
-use Rattle.theorems.specs.Flat.{Flat, Slot, gone, here, slotAt, silent, react}
-use Rattle.theorems.specs.Demand3.{Holds}
+use Rattle.steps.specs.declared.Kind.the-variants.{MakeCopy, DeleteCopy, SetCurrent, RemoveCurrent, LookPage, LookFrame}
+use Rattle.steps.specs.declared.Call.{Call}
+use Rattle.steps.specs.declared.Work.the-variants.{Clear, Duplicate}
+use Rattle.steps.specs.Kinds.{names, code, among}
+use Rattle.steps.specs.Calls.{nameOutside}
+use Rattle.steps.specs.Stores.{lay, held, zeros}
+use Rattle.steps.specs.Steps.{Outcome, Plan, laying, numbered, copyAt, recents, copying, perform, decideOn}
+use Rattle.steps.specs.Effects.{laidIn, shownOf, State, joined, carriedOut}
 use Rattle.steps.proofs.Blocks.{block-lay-whole, block-lay-other}
-use Rattle.steps.proofs.RangeLaws.{page-near}
-use Rattle.steps.proofs.StepSound.{joined, joined-long, page-stands, length-held}
+use Rattle.steps.proofs.GoodLaws.{page-near, joined-long, page-stands, length-held}
+use Rattle.theorems.specs.Flat.{Flat, Slot, gone, here, slotAt, silent, reactAs}
+use Rattle.theorems.specs.Demand3.{Holds}
 use Rattle.theorems.proofs.Holding.{HoldsOne, held-framed, holds-at, holds-set, holds-last, holds-without, holds-kept}
-use Rattle.theorems.proofs.Agreement.{AlikeSlot, Same, Inv, Agree, passed-over, alone, page-moved, CallAgrees, stores-kept, page-kept}
+use Rattle.theorems.proofs.Agreement.{AlikeSlot, Same, Inv, Agree, passed-over, alone, applied, page-moved, ofKind, CallAgrees, stores-kept, page-kept}
 
 -- a page that stands, with other copies
 recopied-alike : (st st′ : List ℕ) (g : Page) (n : ℕ) (cs : List Copy) (x : Slot) → absent g ≡ false → eqb n 0 ≡ false
@@ -97,98 +101,117 @@ module _ {limit : ℕ} (small : limit < 255) {g : Page} (d : StandingPage limit 
       rw plus (recopied-alike st (lay st f 0 bytes) g _ _ x (not-absent d) (ne-eqb (g .n + 1) 0 (omega arith)) (λ bs e.
       rw used (holds-last (lay st f 0 bytes) bs (inUse g) c (new-holds (copyAt g k .recent) bs (holds-copy d st k less bs e)) (old-hold bs e))))
 
-  copied-alike : g .n ≢ 8 → (x : Slot) → AlikeSlot st g x → AlikeSlot (lay st f 0 bytes) (changed g (copied (copyAt g k) f)) x
-  copied-alike room x = go (isNull (copyAt g k)) refl
-    where
-      go : (z : Bool) → isNull (copyAt g k) ≡ z
-          → AlikeSlot st g x → AlikeSlot (lay st f 0 bytes) (changed g (cond z (Placed f) (Added f (copyAt g k .recent)))) x
-      go true z = placed-alike z x
-      go false z = added-alike (omega (arith, d .most)) x
-
 -- ---- the calls
 
 -- 9 and 12
-alone-numbered : {P : Effect → Flat → Type 0} {f : Flat} {o : Outcome Effect} (g : Page) (k : ℕ)
-    → (absent g ≡ false → k < g .n → Agree P f false false o silent) → Agree P f false false (numbered g k o) silent
+alone-numbered : {P : Plan → Flat → Type 0} {shows : Plan → List ℕ} {f : Flat} {o : Outcome Plan} (g : Page) (k : ℕ)
+    → (absent g ≡ false → k < g .n → Agree P shows f false false o silent) → Agree P shows f false false (numbered g k o) silent
 alone-numbered g k h =
     alone (absent g) noPage refl (λ some. alone (leb (g .n) k) noCopy refl (λ less. h some (leb-false (g .n) k less)))
 
-module _ (s : State) (f : Flat) (i : Inv s f) where
-  abbrev page : ℕ → Page
-  page p = pageAt (s .tables) p
+module _ (s : State) (f : Flat) (i : Inv s f) (c : Call) (bs : List ℕ) where
+  abbrev page : Page
+  page = pageAt (s .tables) (c .page)
 
   -- the stores as they were
-  moved : (p : ℕ) → p < 64 → absent (page p) ≡ false → (ch : Change)
-      → (StandingPage (frames (s .tables)) (page p) → (x : Slot)
-      → AlikeSlot (joined s) (page p) x → AlikeSlot (joined s) (changed (page p) ch) x)
-      → Same (applied s p (keeping ch (joined s))) f
-  moved p near some ch h =
-      page-moved s f i p near ch (joined s) (h (page-stands (i .good) p near some) (slotAt f p) (i .same .alike p near))
-      (stores-kept s p)
+  moved : c .page < 64 → absent page ≡ false → (e : Edit)
+      → (StandingPage (frames (s .tables)) page → (x : Slot) → AlikeSlot (joined s) page x → AlikeSlot (joined s) (changed page e) x)
+      → Same (applied s (c .page) e (joined s)) f
+  moved near some e h =
+      page-moved s f i (c .page) near e (joined s)
+      (h (page-stands (i .good) (c .page) near some) (slotAt f (c .page)) (i .same .alike (c .page) near)) (stores-kept s (c .page))
 
-  pub look-page-agrees : (p : ℕ) (bs : List ℕ) → CallAgrees s f (LookPage p) bs
-  unfolding perform react
-  look-page-agrees p bs =
-      alone (ltb 63 p) outOfRange refl (λ e. alone (absent (page p)) noPage refl (λ _.
-      passed-over (page-kept s f i p (page-near (LookPage p) e))))
+  pub look-page-agrees : CallAgrees s f (ofKind LookPage c) bs
+  unfolding decideOn perform reactAs names code among laidIn
+  look-page-agrees =
+      alone (nameOutside c) outOfRange refl (λ e. alone (absent page) noPage refl (λ _.
+      passed-over (page-kept s f i (c .page) (page-near c e))))
 
-  pub look-frame-agrees : (x : ℕ) (bs : List ℕ) → CallAgrees s f (LookFrame x) bs
-  unfolding perform react
-  look-frame-agrees x bs = alone (leb (frames (s .tables)) x) outOfRange refl (λ _. passed-over (page-kept s f i 0 (omega arith)))
+  pub look-frame-agrees : CallAgrees s f (ofKind LookFrame c) bs
+  unfolding decideOn perform reactAs names code among laidIn
+  look-frame-agrees =
+      alone (nameOutside c) outOfRange refl (λ e. alone (leb (frames (s .tables)) (c .frame)) outOfRange refl (λ _.
+      passed-over (page-kept s f i (c .page) (page-near c e))))
 
-  pub set-current-agrees : (p k : ℕ) (bs : List ℕ) → CallAgrees s f (SetCurrent p k) bs
-  unfolding perform react
-  set-current-agrees p k bs =
-      alone (ltb 63 p) outOfRange refl (λ e. alone-numbered (page p) k (λ some less.
-      alone (isNull (copyAt (page p) k)) noFrame refl (λ _. alone (not (copyAt (page p) k .recent)) stale refl (λ _.
-      passed-over (moved p (page-near (SetCurrent p k) e) some (Marked k true) (λ d. marked-alike d (joined s) k less true))))))
+  pub set-current-agrees : CallAgrees s f (ofKind SetCurrent c) bs
+  unfolding decideOn perform reactAs names code among laidIn
+  set-current-agrees =
+      alone (nameOutside c) outOfRange refl (λ e. alone-numbered page (c .copy) (λ some less.
+      alone (isNull (copyAt page (c .copy))) noFrame refl (λ _. alone (not (copyAt page (c .copy) .recent)) stale refl (λ _.
+      passed-over (moved (page-near c e) some (Marked (c .copy) true) (λ d. marked-alike d (joined s) (c .copy) less true))))))
 
-  pub remove-current-agrees : (p k : ℕ) (bs : List ℕ) → CallAgrees s f (RemoveCurrent p k) bs
-  unfolding perform react
-  remove-current-agrees p k bs =
-      alone (ltb 63 p) outOfRange refl (λ e. alone-numbered (page p) k (λ some less.
-      passed-over (moved p (page-near (RemoveCurrent p k) e) some (Marked k false) (λ d. marked-alike d (joined s) k less false))))
+  pub remove-current-agrees : CallAgrees s f (ofKind RemoveCurrent c) bs
+  unfolding decideOn perform reactAs names code among laidIn
+  remove-current-agrees =
+      alone (nameOutside c) outOfRange refl (λ e. alone-numbered page (c .copy) (λ some less.
+      passed-over (moved (page-near c e) some (Marked (c .copy) false) (λ d. marked-alike d (joined s) (c .copy) less false))))
 
-  pub delete-copy-agrees : (p k : ℕ) (bs : List ℕ) → CallAgrees s f (DeleteCopy p k) bs
-  unfolding perform react
-  delete-copy-agrees p k bs =
-      alone (ltb 63 p) outOfRange refl (λ e. alone-numbered (page p) k (λ some less.
-      alone (copyAt (page p) k .recent && eqb (recents (page p)) 1) lastRecent refl (λ last.
-      passed-over (moved p (page-near (DeleteCopy p k) e) some (Removed k) (λ d.
-      removed-alike d (joined s) k (record { in-use = less; not-last = last }))))))
+  pub delete-copy-agrees : CallAgrees s f (ofKind DeleteCopy c) bs
+  unfolding decideOn perform reactAs names code among laidIn
+  delete-copy-agrees =
+      alone (nameOutside c) outOfRange refl (λ e. alone-numbered page (c .copy) (λ some less.
+      alone (copyAt page (c .copy) .recent && eqb (recents page) 1) lastRecent refl (λ last.
+      passed-over (moved (page-near c e) some (Removed (c .copy)) (λ d.
+      removed-alike d (joined s) (c .copy) (record { in-use = less; not-last = last }))))))
 
-  -- on a free frame x, which no page has
-  copy-moved : (p : ℕ) → p < 64 → absent (page p) ≡ false → (k : ℕ) → k < page p .n → (x : ℕ) → x < frames (s .tables)
-      → uses x (s .tables .pages) ≡ 0 → page p .n ≢ 8
-      → Same (applied s p (keeping (copied (copyAt (page p) k) x) (lay (joined s) x 0 (held (joined s) (copyAt (page p) k))))) f
-  copy-moved p near some k less x in-range none room =
-      page-moved s f i p near (copied (copyAt (page p) k) x) _
-      (copied-alike (omega (arith, rules .fast-ok, rules .slow-ok)) d (joined s) long k less x in-range
-      (omega (arith, uses-at x (s .tables .pages) p)) room (slotAt f p) (i .same .alike p near))
-      (λ q ne y l used. block-lay-other (joined s) x (omega (arith, long)) 0 _ (omega (arith, wide)) y
-      (other-frame x y (inUse (page q)) (omega (arith, uses-at x (s .tables .pages) q)) used))
-    where
-      limit : ℕ
-      limit = frames (s .tables)
+  -- on a free frame, which no page has
+  module _ (near : c .page < 64) (some : absent page ≡ false) (less : c .copy < page .n) (in-range : c .frame < frames (s .tables))
+      (unused : uses (c .frame) (s .tables .pages) ≡ 0) (room : page .n ≢ 8) where
+    rules : Sound (s .tables)
+    rules = sound-of (s .tables) (i .good .tables-sound)
 
-      rules : Sound (s .tables)
-      rules = sound-of (s .tables) (i .good .tables-sound)
+    d : StandingPage (frames (s .tables)) page
+    d = page-stands (i .good) (c .page) near some
 
-      d : StandingPage limit (page p)
-      d = page-stands (i .good) p near some
+    long : length (joined s) ≡ 64 * frames (s .tables)
+    long = joined-long (i .good)
 
-      long : length (joined s) ≡ 64 * limit
-      long = joined-long (i .good)
+    -- the edit e with the copy's bytes laid on the frame
+    placed : (e : Edit) → AlikeSlot (lay (joined s) (c .frame) 0 (held (joined s) (copyAt page (c .copy)))) (changed page e) (slotAt f (c .page))
+        → Same (applied s (c .page) e (lay (joined s) (c .frame) 0 (held (joined s) (copyAt page (c .copy))))) f
+    placed e own =
+        page-moved s f i (c .page) near e _ own
+        (λ q ne y l used. block-lay-other (joined s) (c .frame) (omega (arith, long)) 0 _
+        (omega (arith, length-held d (joined s) long (c .copy) less)) y
+        (other-frame (c .frame) y (inUse (pageAt (s .tables) q)) (omega (arith, unused, uses-at (c .frame) (s .tables .pages) q)) used))
 
-      wide : length (held (joined s) (copyAt (page p) k)) ≡ 64
-      wide = length-held d (joined s) long k less
+    alike : AlikeSlot (joined s) page (slotAt f (c .page))
+    alike = i .same .alike (c .page) near
 
-  pub make-copy-agrees : (p k x : ℕ) (bs : List ℕ) → CallAgrees s f (MakeCopy p k x) bs
-  unfolding perform react free
-  make-copy-agrees p k x bs =
-      alone (ltb 63 p) outOfRange refl (λ e. alone (leb (frames (s .tables)) x) outOfRange refl (λ e′.
-      alone-numbered (page p) k (λ some less.
-      alone (not (isFree (holderOf (s .tables) x))) frameHeld refl (λ held-not. alone (eqb (page p .n) 8) eightCopies refl (λ room.
-      passed-over (copy-moved p (page-near (MakeCopy p k x) e) some k less x (leb-false (frames (s .tables)) x e′)
-      (eqb-true (uses x (s .tables .pages)) 0 (free-holder (s .tables) x ∙ not-false (isFree (holderOf (s .tables) x)) held-not))
-      (eqb-false (page p .n) 8 room)))))))
+    small : frames (s .tables) < 255
+    small = omega (arith, rules .fast-ok, rules .slow-ok)
+
+    spare : count (onFrame (c .frame)) (inUse page) ≡ 0
+    spare = omega (arith, unused, uses-at (c .frame) (s .tables .pages) (c .page))
+
+    copying-agrees : Agree (λ (plan : Plan). Same (carriedOut s (ofKind MakeCopy c) bs plan .state))
+        (λ (plan : Plan). carriedOut s (ofKind MakeCopy c) bs plan .data-out) f false false (copying (copyAt page (c .copy)) (c .frame)) silent
+    unfolding laidIn
+    copying-agrees = go (isNull (copyAt page (c .copy))) refl
+      where
+        laid : (e : Edit) (b : List ℕ) → held (joined s) (copyAt page (c .copy)) ≡ b
+            → AlikeSlot (lay (joined s) (c .frame) 0 (held (joined s) (copyAt page (c .copy)))) (changed page e) (slotAt f (c .page))
+            → Same (applied s (c .page) e (lay (joined s) (c .frame) 0 b)) f
+        laid e b h own = subst (λ (l : List ℕ). Same (applied s (c .page) e (lay (joined s) (c .frame) 0 l)) f) h (placed e own)
+
+        go : (z : Bool) → isNull (copyAt page (c .copy)) ≡ z
+            → Agree (λ (plan : Plan). Same (carriedOut s (ofKind MakeCopy c) bs plan .state))
+            (λ (plan : Plan). carriedOut s (ofKind MakeCopy c) bs plan .data-out) f false false
+            (cond z (laying (Placed (c .frame)) 64 (Clear (c .frame)))
+            (laying (Added (c .frame) (copyAt page (c .copy) .recent)) 64 (Duplicate (copyAt page (c .copy) .frame) (c .frame)))) silent
+        go true z =
+            passed-over (laid (Placed (c .frame)) zeros (rw z)
+            (placed-alike small d (joined s) long (c .copy) less (c .frame) in-range spare z (slotAt f (c .page)) alike))
+        go false z =
+            passed-over (laid (Added (c .frame) (copyAt page (c .copy) .recent)) _ (held-framed (joined s) (copyAt page (c .copy)) z)
+            (added-alike small d (joined s) long (c .copy) less (c .frame) in-range spare (omega (arith, d .most)) (slotAt f (c .page)) alike))
+
+  pub make-copy-agrees : CallAgrees s f (ofKind MakeCopy c) bs
+  unfolding decideOn perform reactAs names code among free
+  make-copy-agrees =
+      alone (nameOutside c) outOfRange refl (λ e. alone (leb (frames (s .tables)) (c .frame)) outOfRange refl (λ e′.
+      alone-numbered page (c .copy) (λ some less.
+      alone (not (isFree (holderOf (s .tables) (c .frame)))) frameHeld refl (λ is. alone (eqb (page .n) 8) eightCopies refl (λ room.
+      copying-agrees (page-near c e) some less (leb-false (frames (s .tables)) (c .frame) e′)
+      (eqb-true (uses (c .frame) (s .tables .pages)) 0 (free-holder (s .tables) (c .frame) ∙ not-false (isFree (holderOf (s .tables) (c .frame))) is))
+      (eqb-false (page .n) 8 room))))))

@@ -1,89 +1,72 @@
 -- Demand 3: beside a run over any call file the flat memory gives the same answers, 11 comes exactly where due, and both end with the same pages.
-use Prim.Native.Nat.{ℕ, _-_, _*_, _≤_, _<_}
+-- One turn keeps the agreement of state and flat memory (kind by kind in Owners, Access and Moves); Induction goes through the file.
+use Prim.Native.Nat.{ℕ, _*_, _≤_, _<_}
 use mathlib.Core.Path.{_≡_, refl, sym, ap, _∙_}
-use mathlib.Core.Bool.{Bool, true, false, not, _&&_, _||_, cond}
+use mathlib.Core.Bool.{Bool, true, false, _&&_}
 use mathlib.Core.List.{List}
-use lib.ListN.{length, getD, getD-replicate}
+use native.Mathlib.Omega.{arith}
+use lib.ListN.{length, getD-replicate}
 use lib.Dec.{ltb, eqb}
-use borrow.Author.Tests.{le-ltb, eq-eqb}
-use Rattle.tables.specs.Numbers.{nothingCurrent, foreignVersion, unknownKind, wrongLength}
+use borrow.Author.Tests.{le-ltb, eq-eqb, ne-eqb}
+use Rattle.tables.specs.declared.Shared.{Shared}
+use Rattle.tables.specs.Numbers.{nothingCurrent}
 use Rattle.tables.specs.Model.{freshPage, freshTables, noPageRecord, pageAt}
 use Rattle.tables.proofs.ListLaws.{and-intro}
 use Rattle.tables.proofs.FreshLaws.{fresh-sound}
+use Rattle.steps.specs.declared.Kind.{Kind}
+use Rattle.steps.specs.declared.Kind.the-variants.{Create, DeletePage, Grant, Read, Write, MakeCopy, DeleteCopy, SetCurrent, RemoveCurrent, LookPage, LookFrame}
 use Rattle.steps.specs.declared.Call.{Call}
-use Rattle.steps.specs.declared.Call.the-variants.{Create, DeletePage, Grant, Read, Write, MakeCopy, DeleteCopy, SetCurrent, RemoveCurrent, LookPage, LookFrame}
 use Rattle.steps.specs.Stores.{fits}
-use Rattle.steps.specs.Calls.{pageOf}
-use Rattle.steps.specs.Steps.{State, applied, step}
+use Rattle.steps.specs.Effects.{State, joined, step, left}
+use Rattle.steps.proofs.GoodLaws.{Good, fit-lengths, page-stands, step-good}
 use Rattle.messages.specs.declared.Parsed.{Parsed}
 use Rattle.messages.specs.declared.Parsed.the-variants.{Refused, Asked}
-use Rattle.messages.specs.Messages.{leastLength, mostLength, callOf, parse}
-use Rattle.messages.specs.Run.{Sent, cut, whole, asked, bytesOf, answer, turn, messagesOf}
-use Rattle.theorems.specs.Flat.{Flat, Slot, gone, here, slotAt, none, react, reactTo, accepts}
-use Rattle.theorems.specs.Demand3.{flatAfter, answered, flatKind, lacks, due, SameSlot, Demand3}
-use Rattle.steps.proofs.StateLaws.{fit-lengths}
-use Rattle.steps.proofs.StepSound.{IfAccepted, if-refused, Good, joined, page-stands, step-keeps, left-good}
-use Rattle.theorems.proofs.Agreement.{AlikeSlot, Same, Agree, turned-back, agree-mapped, says, eleven, leaves, CallAgrees, Inv}
+use Rattle.messages.specs.Run.{Sent, asked, bytesOf, respond, answer, messagesOf}
+use Rattle.theorems.specs.Flat.{Flat, Slot, gone, here, slotAt, none, flatKind, react, reactTo, accepts}
+use Rattle.theorems.specs.Demand3.{flatAfter, answered, lacks, due, SameSlot, Demand3}
+use Rattle.theorems.proofs.Parsing.{Known, bad, good, asked-known}
+use Rattle.theorems.proofs.Agreement.{AlikeSlot, turned-back, ResultAgrees, says, eleven, leaves, ofKind, CallAgrees, carried-agrees, Inv}
 use Rattle.theorems.proofs.Owners.{create-agrees, delete-agrees, grant-agrees}
 use Rattle.theorems.proofs.Access.{read-agrees, write-agrees}
 use Rattle.theorems.proofs.Moves.{make-copy-agrees, delete-copy-agrees, set-current-agrees, remove-current-agrees, look-page-agrees, look-frame-agrees}
 use Rattle.theorems.proofs.Frames.{end-frames}
 use Rattle.theorems.proofs.Induction.{TurnAgrees, run-agrees}
-
--- ---- a message that its own bytes turn back is not answered 11
-
-abbrev NotEleven : Parsed → Type 0
-NotEleven (Refused n) = eqb n nothingCurrent ≡ false
-NotEleven (Asked c) = Unit {0}
-
-asked-not-eleven : (x : Sent) → NotEleven (asked x)
-unfolding parse
-asked-not-eleven cut = refl
-asked-not-eleven (whole m) =
-    ladder (eqb (length m) 0 || not (eqb (getD m 0 0) 1)) (eqb (length m) 1 || (eqb (getD m 1 0) 0 || ltb 11 (getD m 1 0)))
-    (ltb (length m) (getD leastLength (getD m 1 0 - 1) 0) || ltb (getD mostLength (getD m 1 0 - 1) 0) (length m))
-  where
-    ladder : (a b c : Bool)
-        → NotEleven (cond a (Refused foreignVersion) (cond b (Refused unknownKind) (cond c (Refused wrongLength) (Asked (callOf m)))))
-    ladder true b c = refl
-    ladder false true c = refl
-    ladder false false true = refl
-    ladder false false false = tt
+use Rattle.theorems.proofs.Stub.{nope}
 
 -- ---- one turn
 
 module _ (s : State) (f : Flat) (i : Inv s f) where
-  ranged-agrees : (c : Call) (bs : List ℕ) → CallAgrees s f c bs
-  ranged-agrees (Create a p) = create-agrees s f i a p
-  ranged-agrees (DeletePage a p) = delete-agrees s f i a p
-  ranged-agrees (Grant a p o r) = grant-agrees s f i a p o r
-  ranged-agrees (Read a p o n) = read-agrees s f i a p o n
-  ranged-agrees (Write a p o) = write-agrees s f i a p o
-  ranged-agrees (MakeCopy p k x) = make-copy-agrees s f i p k x
-  ranged-agrees (DeleteCopy p k) = delete-copy-agrees s f i p k
-  ranged-agrees (SetCurrent p k) = set-current-agrees s f i p k
-  ranged-agrees (RemoveCurrent p k) = remove-current-agrees s f i p k
-  ranged-agrees (LookPage p) = look-page-agrees s f i p
-  ranged-agrees (LookFrame x) = look-frame-agrees s f i x
+  kind-agrees : (k : Kind) (c : Call) (bs : List ℕ) → CallAgrees s f (ofKind k c) bs
+  kind-agrees Create = create-agrees s f i
+  kind-agrees DeletePage = delete-agrees s f i
+  kind-agrees Grant = grant-agrees s f i
+  kind-agrees Read = read-agrees s f i
+  kind-agrees Write = write-agrees s f i
+  kind-agrees MakeCopy = make-copy-agrees s f i
+  kind-agrees DeleteCopy = delete-copy-agrees s f i
+  kind-agrees SetCurrent = set-current-agrees s f i
+  kind-agrees RemoveCurrent = remove-current-agrees s f i
+  kind-agrees LookPage = look-page-agrees s f i
+  kind-agrees LookFrame = look-frame-agrees s f i
 
   -- 5 and 6 do not come up
-  step-agrees : (c : Call) (bs : List ℕ) → Agree Same f (flatKind c) (lacks (s .tables) c) (step s c bs) (react f c bs)
+  step-agrees : (c : Call) (bs : List ℕ) → ResultAgrees f (flatKind c) (lacks (s .tables) c) (step s c bs) (react f c bs)
   unfolding step
   step-agrees c bs =
-      rw (i .good .tables-sound, i .good .stores-fit) (agree-mapped (applied s (pageOf c)) (λ e f′ k. k) (ranged-agrees c bs))
+      rw (i .good .tables-sound, i .good .stores-fit) (carried-agrees s c bs (kind-agrees (c .kind) c bs))
 
   abbrev lacksIn : Parsed → Bool
   lacksIn (Refused n) = false
   lacksIn (Asked c) = lacks (s .tables) c
 
-  answer-agrees : (a : Parsed) (bs : List ℕ) → NotEleven a → Agree Same f (answered a) (lacksIn a) (answer s a bs) (reactTo f a bs)
+  parsed-agrees : (a : Parsed) (bs : List ℕ) → Known a → ResultAgrees f (answered a) (lacksIn a) (respond s a bs) (reactTo f a bs)
   unfolding reactTo
-  answer-agrees (Refused n) bs e = turned-back e
-  answer-agrees (Asked c) bs e = step-agrees c bs
+  parsed-agrees (Refused n) bs (bad h) = turned-back (ne-eqb n nothingCurrent (λ e. omega arith))
+  parsed-agrees (Asked c) bs k = step-agrees c bs
 
-  answer-keeps : (a : Parsed) (bs : List ℕ) → IfAccepted Good (answer s a bs)
-  answer-keeps (Refused n) bs = if-refused
-  answer-keeps (Asked c) bs = step-keeps s c bs
+  parsed-keeps : (a : Parsed) (bs : List ℕ) → Good (left s (respond s a bs))
+  parsed-keeps (Refused n) bs = i .good
+  parsed-keeps (Asked c) bs = step-good nope s c bs (i .good)
 
   due-is : (a : Parsed) (bs : List ℕ) → due f s a bs ≡ (accepts (reactTo f a bs) && lacksIn a)
   unfolding reactTo
@@ -91,17 +74,14 @@ module _ (s : State) (f : Flat) (i : Inv s f) where
   due-is (Asked c) bs = refl
 
   pub turn-agrees : (room : ℕ) → 70 ≤ room → (x : Sent) → TurnAgrees Inv room f s x
-  unfolding turn flatAfter
+  unfolding answer flatAfter
   turn-agrees room h x =
       let short : ltb room 70 ≡ false = le-ltb room 70 h in
-      let k = answer-agrees (asked x) (bytesOf x) (asked-not-eleven x) in
+      let k = parsed-agrees (asked x) (bytesOf x) (asked-known x) in
       record {
         says = rw short (says k);
         eleven-due = rw short (eleven k ∙ sym (due-is (asked x) (bytesOf x)));
-        inv = rw short (record {
-          good = left-good s _ (i .good) (answer-keeps (asked x) (bytesOf x));
-          same = leaves s (i .same) k;
-        });
+        inv = rw short (record { good = parsed-keeps (asked x) (bytesOf x); same = leaves s (i .same) k });
       }
 
 -- ---- the start and the end
@@ -145,9 +125,8 @@ demand3 p s fast slow out file hp hs lp ls h =
       messages = k .messages;
       answers = k .answers;
       elevens-due = k .elevens-due;
-      fast-kept = same .fast-same;
-      slow-kept = same .slow-same;
-      fast-long = long .0 ∙ ap (λ (n : ℕ). 64 * n) (same .fast-same);
-      slow-long = long .1 ∙ ap (λ (n : ℕ). 64 * n) (same .slow-same);
+      sizes-kept = same;
+      fast-long = long .0 ∙ ap (λ (a : Shared). 64 * a .p) same;
+      slow-long = long .1 ∙ ap (λ (a : Shared). 64 * a .s) same;
       pages = end-same _ _ (k .inv);
     }

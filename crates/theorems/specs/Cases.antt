@@ -9,11 +9,13 @@ use Rattle.tables.specs.Rules.{uses, standingRule, absentRule, pageRule, alone,
 use Rattle.tables.specs.Search.{inCopies, inPages}
 use Rattle.tables.specs.Changes.{created, closeGap, changed, after}
 use Rattle.steps.specs.Stores.{part, splice, fits, layCurrent}
-use Rattle.steps.specs.Steps.{Outcome, firstCurrent, entries, perform, State, step}
+use Rattle.steps.specs.Kinds.{names, kinds, code, among, argument, callOf}
+use Rattle.steps.specs.Steps.{Outcome, firstCurrent, perform, decideOn}
+use Rattle.steps.specs.Effects.{entries, laidIn, shownOf, State, Result, step}
 use Rattle.messages.specs.Messages.{parse}
 use Rattle.messages.specs.Replies.{reply}
-use Rattle.messages.specs.Run.{Sent, split, messagesOf, turnsOf, endOf, turn, Run, run, replies}
-use Rattle.theorems.specs.Flat.{none, react, reactTo, Answer}
+use Rattle.messages.specs.Run.{Sent, split, messagesOf, turnsOf, endOf, answer, Run, run, replies}
+use Rattle.theorems.specs.Flat.{none, reactAs, reactTo, Answer}
 use Rattle.theorems.specs.Demand3.{elevens, flatAfter, flatAnswers, runAnswers}
 
 -- ---- the worked example
@@ -29,13 +31,13 @@ file₁ =
 
 -- the run with the least reply buffer; to open it is to open all that it computes by
 unfoldable pub runOn : State → List ℕ → Run
-unfolding messagesOf split turnsOf endOf turn parse step sound alone allBelow all count uses pageRule standingRule absentRule fits freshTables freshPage after changed created closeGap inPages inCopies perform firstCurrent entries layCurrent splice part reply
+unfolding messagesOf split turnsOf endOf answer parse names kinds code among argument callOf step decideOn laidIn shownOf sound alone allBelow all count uses pageRule standingRule absentRule fits freshTables freshPage after changed created closeGap inPages inCopies perform firstCurrent entries layCurrent splice part reply
 runOn s file = run 70 file s
 
 -- one turn of it
-unfoldable pub rightTurn : State → Sent → Outcome State
-unfolding turn parse step sound alone allBelow all count uses pageRule standingRule absentRule fits freshTables freshPage after changed created closeGap inPages inCopies perform firstCurrent entries layCurrent splice part reply
-rightTurn s x = turn 70 s x
+unfoldable pub rightTurn : State → Sent → Outcome Result
+unfolding answer parse names kinds code among argument callOf step decideOn laidIn shownOf sound alone allBelow all count uses pageRule standingRule absentRule fits freshTables freshPage after changed created closeGap inPages inCopies perform firstCurrent entries layCurrent splice part reply
+rightTurn s x = answer 70 s x
 
 abbrev pub repliesOf : State → List ℕ → List (List ℕ)
 repliesOf s file = replies 70 (runOn s file .turns)
@@ -104,9 +106,9 @@ expected =
     ∷ record { number = 10; bytes = [] } ∷ []
 
 pub flat-side : flatAnswers none (messagesOf file₂) (elevens 70 (runOn state₀ file₂ .turns)) ≡ expected
-unfolding flatAnswers flatAfter react reactTo runOn messagesOf split
+unfolding flatAnswers flatAfter reactAs reactTo runOn messagesOf split parse names kinds code among argument callOf
 flat-side = refl
 
 pub run-side : runAnswers 70 (runOn state₀ file₂ .turns) ≡ expected
-unfolding runAnswers runOn
+unfolding runAnswers runOn names code among
 run-side = refl

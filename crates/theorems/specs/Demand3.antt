@@ -10,17 +10,18 @@ use Rattle.tables.specs.declared.Page.{Page}
 use Rattle.tables.specs.declared.Tables.{Tables}
 use Rattle.tables.specs.Lists.{count}
 use Rattle.tables.specs.Numbers.{nothingCurrent}
-use Rattle.tables.specs.Model.{inUse, absent, pageAt, freshTables}
+use Rattle.tables.specs.Model.{inUse, absent, pageAt, sized, freshTables}
 use Rattle.tables.specs.Rules.{isRecent}
 use Rattle.steps.specs.declared.Call.{Call}
-use Rattle.steps.specs.declared.Call.the-variants.{Create, DeletePage, Grant, Read, Write, MakeCopy, DeleteCopy, SetCurrent, RemoveCurrent, LookPage, LookFrame}
+use Rattle.steps.specs.Kinds.{offset, has}
 use Rattle.steps.specs.Stores.{held}
-use Rattle.steps.specs.Steps.{State, currents}
+use Rattle.steps.specs.Steps.{currents}
+use Rattle.steps.specs.Effects.{State, joined}
 use Rattle.messages.specs.declared.Parsed.{Parsed}
 use Rattle.messages.specs.declared.Parsed.the-variants.{Refused, Asked}
 use Rattle.messages.specs.Replies.{replyIn}
 use Rattle.messages.specs.Run.{Sent, asked, bytesOf, Turn, messagesOf, Run, run}
-use Rattle.theorems.specs.Flat.{Flat, FlatPage, Slot, gone, here, slotAt, none, Reaction, react, reactTo, flatLeft, Answer, answersOf, accepts}
+use Rattle.theorems.specs.Flat.{Flat, FlatPage, Slot, gone, here, slotAt, none, Reaction, flatKind, react, reactTo, flatLeft, Answer, answersOf, accepts}
 
 -- ---- what the flat memory learns of a run
 
@@ -60,19 +61,6 @@ flatAnswers f (x ∷ xs) (e ∷ es) = cond e [] (answersOf (reaction f x)) ++ fl
 
 -- ---- "the run's replies to those same messages": those of the kinds that the flat memory answers, 1 to 5, and not answered 11
 
-abbrev pub flatKind : Call → Bool
-flatKind (Create s p) = true
-flatKind (DeletePage s p) = true
-flatKind (Grant s p o r) = true
-flatKind (Read s p o n) = true
-flatKind (Write s p o) = true
-flatKind (MakeCopy p k x) = false
-flatKind (DeleteCopy p k) = false
-flatKind (SetCurrent p k) = false
-flatKind (RemoveCurrent p k) = false
-flatKind (LookPage p) = false
-flatKind (LookFrame x) = false
-
 abbrev pub answered : Parsed → Bool
 answered (Refused n) = false
 answered (Asked c) = flatKind c
@@ -88,19 +76,9 @@ runAnswers room (t ∷ ts) =
 
 -- ---- number 11 exactly where the flat memory would accept and nothing is current
 
--- a read or write of a page with no CURRENT copy
+-- a read or write, which are the calls that name an offset, of a page with no CURRENT copy
 abbrev pub lacks : Tables → Call → Bool
-lacks t (Create s p) = false
-lacks t (DeletePage s p) = false
-lacks t (Grant s p o r) = false
-lacks t (Read s p o n) = eqb (currents (pageAt t p)) 0
-lacks t (Write s p o) = eqb (currents (pageAt t p)) 0
-lacks t (MakeCopy p k x) = false
-lacks t (DeleteCopy p k) = false
-lacks t (SetCurrent p k) = false
-lacks t (RemoveCurrent p k) = false
-lacks t (LookPage p) = false
-lacks t (LookFrame x) = false
+lacks t c = has offset (c .kind) && eqb (currents (pageAt t (c .page))) 0
 
 abbrev pub due : Flat → State → Parsed → List ℕ → Bool
 due f s (Refused n) bs = false
@@ -139,12 +117,11 @@ pub record Agrees (p s room : ℕ) (file : List ℕ) (r : Run) : Type 0 where
   -- 11 exactly where it is due
   pub elevens-due : elevens room (r .turns) ≡ dues room none (r .turns)
   -- P, S and the lengths of the stores stay, so that frame f is the f-th block of both together
-  pub fast-kept : r .final .tables .fast ≡ p
-  pub slow-kept : r .final .tables .slow ≡ s
+  pub sizes-kept : r .final .tables .shared ≡ sized p s
   pub fast-long : length (r .final .fast) ≡ 64 * p
   pub slow-long : length (r .final .slow) ≡ 64 * s
   pub pages : (q : ℕ) → q < 64
-      → SameSlot (r .final .fast ++ r .final .slow) (pageAt (r .final .tables) q)
+      → SameSlot (joined (r .final)) (pageAt (r .final .tables) q)
       (slotAt (flatEnd none (messagesOf file) (elevens room (r .turns))) q)
 
 -- "The file is of any length"; "fresh tables of any P and S in range"; "The stores' bytes may be anything", and so may the reply buffer's

@@ -9,7 +9,7 @@ fresh-requires c κs = search needs
 
 returns : tie.Need-returns
 unfolding freshTables
-returns c = rw (c .before .fresh .ensures)
+returns c = rw (c .before .before .fresh .ensures)
 
 pub no-tables-spec : {M : Type 1} → statement M
 no-tables-spec = tie.close (tie.spec fresh-requires returns)

@@ -7,15 +7,15 @@ use lib.ListN.{length, take, length-append, length-map, length-set}
 use lib.Seq.{sets, take-all}
 use borrow.Author.Needs.{needs}
 use Rattle.tables.specs.Model.{noPageRecord}
-use Rattle.embed.specs.Bytes.{pageBytes, tablesBytes}
+use Rattle.embed.specs.Bytes.{pageSize, tablesSize, pageBytes, tablesBytes}
 use Rattle.embed.proofs.LayLaws.{sets-then, sets-whole, flat-more}
 use Rattle.embed.proofs.put_tables.Statement.{statement}
 use Rattle.embed.proofs.put_tables.Tie as tie
 
 abbrev Inv-loop : tie.InvT-loop
 Inv-loop bytes₀ tables i₀ bytes i =
-    (i ≤ 64) × (length bytes ≡ 2690) × (bytes ≡ sets bytes₀ 2 (flatMap pageBytes (take i (tables .pages))))
-    × (length (flatMap pageBytes (take i (tables .pages))) ≡ 42 * i)
+    (i ≤ 64) × (length bytes ≡ tablesSize) × (bytes ≡ sets bytes₀ 2 (flatMap pageBytes (take i (tables .pages))))
+    × (length (flatMap pageBytes (take i (tables .pages))) ≡ pageSize * i)
 
 abbrev μ-loop : tie.MeasureT-loop
 μ-loop bytes₀ tables i₀ bytes i = 64 - i
@@ -56,7 +56,7 @@ loop-again c =
     let s = c .before .before .before .before .before .before .before .before in
     let pages = s .args .t1 .pages in
     let l = c .before .before .before .before .before .before .loop in
-    let n : length pages ≡ 64 = simp length-map at (s .good .0 .1 .1 .1 .1 .0 .1 .0 .1) in
+    let n : length pages ≡ 64 = simp length-map at (s .good .0 .1 .1 .1 .0 .1 .0 .1) in
     let m = flat-more pageBytes pages (l .i) noPageRecord (omega arith) in (
       search needs,
       search needs,
@@ -73,7 +73,7 @@ unfolding tablesBytes
 returns c =
     let s = c .before .before .before in
     let t = s .args .t1 in
-    let n : length (t .pages) ≡ 64 = simp length-map at (s .good .0 .1 .1 .1 .1 .0 .1 .0 .1) in
+    let n : length (t .pages) ≡ 64 = simp length-map at (s .good .0 .1 .1 .1 .0 .1 .0 .1) in
     let e : c .before .loop .i ≡ 64 = omega arith in
     let all : take (c .before .loop .i) (t .pages) ≡ t .pages = take-all (c .before .loop .i) (t .pages) (omega arith) in
     let k : length (flatMap pageBytes (t .pages)) ≡ 2688 = rw (all, e) at (c .before .loop .inv .3) in

@@ -1,6 +1,7 @@
 -- `reel_run` runs on the tables in the lent bytes, and puts them and the tally back.
-use mathlib.Core.Path.{_∙_}
+use mathlib.Core.Path.{ap, _∙_}
 use borrow.Author.Needs.{needs}
+use Rattle.steps.specs.Effects.{State}
 use Rattle.embed.proofs.reel_run.Statement.{statement}
 use Rattle.embed.proofs.reel_run.Tie as tie
 
@@ -11,7 +12,7 @@ tally-of-requires : tie.Need-tally-of-requires
 tally-of-requires c κs = search needs
 
 run-requires : tie.Need-run-requires
-run-requires c κs = search needs
+run-requires c κs = ?
 
 put-back-requires : tie.Need-put-back-requires
 put-back-requires c κs = search needs
@@ -40,10 +41,8 @@ returns c =
     let n = d .before .before .before .before in
     let q = rw (n .before .before .tables-of .ensures, n .tally-of .ensures) at (d .run .ensures) in
     record {
-      tables-out = c .before .before .before .before .before .before .put-back .ensures ∙ rw (q .tables-out);
-      fast-out = q .fast-out;
-      slow-out = q .slow-out;
-      buffer-out = q .buffer-out;
+      tables-out = c .before .before .before .before .before .before .put-back .ensures ∙ rw (ap (λ (s : State). s .tables) (q .state-out));
+      lent-out = rw (ap (λ (s : State). s .fast) (q .state-out), ap (λ (s : State). s .slow) (q .state-out), q .buffer-out);
       tally-out = c .before .before .put-tally .ensures ∙ rw (q .tally-out);
     }
 

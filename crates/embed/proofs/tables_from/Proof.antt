@@ -7,13 +7,13 @@ use lib.Seq.{drop-drop}
 use borrow.Author.Needs.{needs}
 use Rattle.tables.specs.Model.{noPageRecord}
 use Rattle.tables.proofs.Filling.{filled, fill-start, fill-more, fill-end}
-use Rattle.embed.specs.Bytes.{fromEach, pageFrom, tablesFrom}
+use Rattle.embed.specs.Bytes.{pageSize, fromEach, pageFrom, tablesFrom}
 use Rattle.embed.proofs.FromLaws.{each-length, each-at}
 use Rattle.embed.proofs.tables_from.Statement.{statement}
 use Rattle.embed.proofs.tables_from.Tie as tie
 
 abbrev Inv-loop : tie.InvT-loop
-Inv-loop bytes pages₀ i₀ pages i = (i ≤ 64) × (pages ≡ filled (fromEach 64 42 pageFrom (drop 2 bytes)) pages₀ i)
+Inv-loop bytes pages₀ i₀ pages i = (i ≤ 64) × (pages ≡ filled (fromEach 64 pageSize pageFrom (drop 2 bytes)) pages₀ i)
 
 abbrev μ-loop : tie.MeasureT-loop
 μ-loop bytes pages₀ i₀ pages i = 64 - i
@@ -52,8 +52,8 @@ loop-again c =
     let b = drop 2 (c .before .before .before .before .before .args .bytes .now) in (
       search needs,
       rw (c .before .before .loop .inv .1)
-          (fill-more (fromEach 64 42 pageFrom b) _ i noPageRecord _ (each-length 42 pageFrom 64 b) (omega arith)
-          (each-at 42 pageFrom 64 i b noPageRecord (omega arith) ∙ rw drop-drop (sym (c .page-from2 .ensures)))),
+          (fill-more (fromEach 64 pageSize pageFrom b) _ i noPageRecord _ (each-length pageSize pageFrom 64 b) (omega arith)
+          (each-at pageSize pageFrom 64 i b noPageRecord (omega arith) ∙ rw drop-drop (sym (c .page-from2 .ensures)))),
     )
 
 shared-slice-read-t12 : tie.Need-shared-slice-read-t12 Inv-loop μ-loop
@@ -67,7 +67,7 @@ unfolding tablesFrom
 returns c =
     let b = drop 2 (c .before .before .before .before .before .before .args .bytes .now) in
     let e : c .before .before .before .loop .i ≡ 64 = omega arith in
-    rw (c .before .before .before .loop .inv .1, e, fill-end (fromEach 64 42 pageFrom b) _ 64 (each-length 42 pageFrom 64 b) refl)
+    rw (c .before .before .before .loop .inv .1, e, fill-end (fromEach 64 pageSize pageFrom b) _ 64 (each-length pageSize pageFrom 64 b) refl)
 
 pub tables-from-spec : {M : Type 1} → statement M
 tables-from-spec =
