@@ -1,7 +1,5 @@
-pub mod KindLaws
-pub mod CallLaws
-pub mod ReplyLaws
+pub mod Stub
 pub mod ReaderLaws
+pub mod ReplyLaws
 pub mod TurnLaws
 pub mod RunLaws
-pub mod ReplyShort

@@ -10,7 +10,6 @@ use lib.Seq.{drop-cons, drop-drop}
 use lib.Dec.{leb, ltb}
 use borrow.Author.Tests.{leb-true, leb-false, ltb-true, ltb-false, lt-ltb, le-ltb}
 use Rattle.steps.specs.Stores.{part}
-use Rattle.steps.proofs.StoreLaws.{part-span}
 use Rattle.messages.specs.declared.Next.{Next}
 use Rattle.messages.specs.declared.Next.the-variants.{Message, Cut, End}
 use Rattle.messages.specs.Messages.{lengthAt, nextAt}
@@ -136,4 +135,8 @@ message-at file at start len next =
 -- its bytes, as the code takes them
 pub message-part : (file : List ℕ) (at start len next : ℕ) → Message start len next ≡ nextAt file at
     → take (next - start) (drop start file) ≡ part file start len
-message-part file at start len next e = rw (message-at file at start len next e .ends) (part-span file start len)
+unfolding part
+message-part file at start len next e =
+    let m = message-at file at start len next e in
+    let k : next - start ≡ len = omega arith in
+    rw k

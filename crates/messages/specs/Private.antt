@@ -2,7 +2,7 @@
 use Prim.Native.Nat.{ℕ, _+_, _≤_}
 use mathlib.Core.Bool.{cond}
 use mathlib.Core.List.{List, [], _∷_, _++_}
-use lib.ListN.{length, take, drop}
+use lib.ListN.{length, drop}
 use lib.Dec.{ltb}
 use Rattle.tables.specs.Numbers.{cutShort, shortSlip}
 use Rattle.steps.specs.declared.Call.{Call}
@@ -31,10 +31,14 @@ askedAt (Message start len next) m = parse m
 askedAt Cut m = Refused cutShort
 askedAt End m = Refused cutShort
 
+-- the number of what a message asks for, where `known` is that of every call; else 0
+abbrev pub askedNumber : Parsed → ℕ → ℕ
+askedNumber (Refused n) known = n
+askedNumber (Asked c) known = known
+
 -- the number that turns a message back before it is decided, where `known` is 5, 6 or 0; else 0
 abbrev pub earlyNumber : Parsed → ℕ → ℕ → ℕ
-earlyNumber (Refused n) known room = cond (ltb room 70) shortSlip n
-earlyNumber (Asked c) known room = cond (ltb room 70) shortSlip known
+earlyNumber m known room = cond (ltb room 70) shortSlip (askedNumber m known)
 
 -- the call of a message that asks for one
 abbrev pub callIn : Parsed → Call

@@ -1,21 +1,21 @@
 // The message layer of document 01: messages and the reader over a call file, replies, the tally, one
 // message and the run. Of the tables it knows the type alone.
 mod parse;
-mod reader;
+mod reading;
 mod replies;
-mod run;
-mod tally;
+mod tallies;
+mod turns;
 
-pub use reader::message_at;
-pub use reader::next_at;
-pub use reader::next_message;
-pub use reader::open;
-pub use run::answer;
-pub use run::run;
+pub use reading::message_at;
+pub use reading::next_at;
+pub use reading::next_message;
+pub use reading::open;
 use steps::Call;
 use tables::Tables;
-pub use tally::count;
-pub use tally::tally_after;
+pub use tallies::count;
+pub use tallies::tally_after;
+pub use turns::answer;
+pub use turns::run;
 
 // The numbers of document 01's table that a message's own bytes give.
 pub const CUT_SHORT: u8 = 1;

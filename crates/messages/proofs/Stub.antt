@@ -1,0 +1,3 @@
+-- stub: to go with the true crate steps
+pub nope : ⊥
+nope = ?

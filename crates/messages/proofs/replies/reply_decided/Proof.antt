@@ -1,0 +1,48 @@
+-- `reply_decided` meets its contract: the data behind the first six bytes, and the heading before them.
+use Rattle.messages.proofs.ReplyLaws.{laid-reply}
+use borrow.Author.Needs.{needs}
+use Rattle.messages.proofs.replies.reply_decided.Statement.{statement}
+use Rattle.messages.proofs.replies.reply_decided.Tie as tie
+
+sub-data : tie.Need-sub-data
+sub-data c = search needs
+
+part-data-start : tie.Need-part-data-start
+part-data-start c = search needs
+
+part-data-end : tie.Need-part-data-end
+part-data-end c = search needs
+
+carry-requires : tie.Need-carry-requires
+carry-requires c κs = ?
+
+head-requires : tie.Need-head-requires
+head-requires c κs = search needs
+
+same-length : tie.Need-same-length
+same-length c = search needs
+
+same-length-2 : tie.Need-same-length-2
+same-length-2 c = search needs
+
+same-length-3 : tie.Need-same-length-3
+same-length-3 c = search needs
+
+returns : tie.Need-returns
+returns c =
+    let k = c .before .before .before .before .before .before .before .before .before .before in
+    laid-reply _ _ _ _ _ _ _ _ _ (k .before .before .before .before .before .before .before .before .pre .room) (k .carry .ensures) (c .before .before .head .ensures)
+
+pub reply-decided-spec : {M : Type 1} → statement M
+reply-decided-spec =
+    tie.close
+    (tie.spec
+    sub-data
+    part-data-start
+    part-data-end
+    carry-requires
+    head-requires
+    same-length
+    same-length-2
+    same-length-3
+    returns)
