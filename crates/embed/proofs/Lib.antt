@@ -2,4 +2,3 @@ pub mod LayLaws
 pub mod FromLaws
 pub mod RoundTrip
 pub mod LentLaws
-pub mod Stub

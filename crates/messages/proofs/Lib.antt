@@ -1,4 +1,3 @@
-pub mod Stub
 pub mod ReaderLaws
 pub mod ReplyLaws
 pub mod TurnLaws

@@ -18,7 +18,6 @@ use Rattle.steps.specs.Promises.{Lent, lent, carried}
 use Rattle.steps.proofs.StepLaws.{Carries, data-short}
 use Rattle.messages.specs.Replies.{reply, replyIn}
 use Rattle.messages.specs.Private.{heading, repliedWith}
-use Rattle.messages.proofs.Stub.{nope}
 
 -- six bytes set at the front of a list
 pub six-set : (l : List ℕ) (a b c d e f : ℕ) → 6 ≤ length l
@@ -90,7 +89,7 @@ carried-reply s c bs out d room q =
     let o = step s c bs in
     ap (λ (l : Lent). lent (l .fast) (l .slow) (heading (d .number) (d .laid) (d .len) ++ (l .out ++ drop 70 out))) (q .left-is)
     ∙ ap (lent (left s o .fast) (left s o .slow))
-    (rw (q .number-is, q .laid-is, q .len-is) (reply-over o out (data-short nope s c bs) room))
+    (rw (q .number-is, q .laid-is, q .len-is) (reply-over o out (data-short s c bs) room))
 
 -- ---- the length of a reply
 

@@ -30,7 +30,6 @@ use Rattle.messages.specs.Run.{Sent, cut, whole, asked, bytesOf, respond
 use Rattle.messages.specs.Promises.{sentBy, sentAlone, Replied}
 use Rattle.messages.specs.Private.{bytesAt, askedAt, askedNumber, earlyNumber, callIn, repliedWith}
 use Rattle.messages.proofs.ReplyLaws.{part-long, carried-reply, reply-length}
-use Rattle.messages.proofs.Stub.{nope}
 
 -- the number of the rules on a state
 abbrev pub rulesOf : State → ℕ
@@ -64,7 +63,7 @@ module _ (room : ℕ) (s : State) (x : Sent) (known : ℕ) where
           → test b shortSlip (respond s m (bytesOf x)) ≡ refuse (cond b shortSlip (askedNumber m known))
       by true m some = refl
       by false (Refused n) some = refl
-      by false (Asked c) some = step-unruled nope s c (bytesOf x) known (rules some) some
+      by false (Asked c) some = step-unruled s c (bytesOf x) known (rules some) some
 
   -- else it is a step
   record Passed : Type 0 where
@@ -133,10 +132,10 @@ module _ (s : State) (x : Sent) (m : Parsed) (known n : ℕ) (out : List ℕ) (e
       let o = step s c bs in
       let p = passed (length out) s x known (sym (rw em at en) ∙ none) in
       let is : answer (length out) s x ≡ o = p .is-step ∙ rw (em, eb) in
-      let k = carries nope s c bs (part out 6 64) d (omega (arith, part-long out (p .roomy))) (q (p .unknown)) in
+      let k = carries s c bs (part out 6 64) d (omega (arith, part-long out (p .roomy))) (q (p .unknown)) in
       record {
         roomy = p .roomy;
-        few = rw (k .len-is) (data-short nope s c bs);
+        few = rw (k .len-is) (data-short s c bs);
         served = λ t′ fast′ slow′ out′ et el.
             let e : lent fast′ slow′ out′ ≡ lent (left s o .fast) (left s o .slow) (over (reply o) out) = el ∙ carried-reply s c bs out d (p .roomy) k in
             rw is
@@ -190,8 +189,8 @@ unfolding answer
 rules-kept room s x = by (ltb room 70) (asked x)
   where
     go : (c : Call) (b : Bool) → eqb (rulesOf s) 0 ≡ b → rulesOf (left s (step s c (bytesOf x))) ≡ rulesOf s
-    go c true e = let k = eqb-true (rulesOf s) 0 e in step-ruled nope s c (bytesOf x) k ∙ sym k
-    go c false e = ap (λ (o : Outcome Result). rulesOf (left s o)) (step-unruled nope s c (bytesOf x) (rulesOf s) refl (eqb-false (rulesOf s) 0 e))
+    go c true e = let k = eqb-true (rulesOf s) 0 e in step-ruled s c (bytesOf x) k ∙ sym k
+    go c false e = ap (λ (o : Outcome Result). rulesOf (left s o)) (step-unruled s c (bytesOf x) (rulesOf s) refl (eqb-false (rulesOf s) 0 e))
 
     by : (b : Bool) (m : Parsed) → rulesOf (left s (test b shortSlip (respond s m (bytesOf x)))) ≡ rulesOf s
     by true m = refl
@@ -210,7 +209,7 @@ reply-short room s x =
     by : (b : Bool) (m : Parsed) → length (dataOf (test b shortSlip (respond s m (bytesOf x)))) ≤ 64
     by true m = zero-le
     by false (Refused n) = zero-le
-    by false (Asked c) = data-short nope s c (bytesOf x)
+    by false (Asked c) = data-short s c (bytesOf x)
 
     under : (b : Bool) {n : ℕ} → n ≤ 64 → cond b 0 (6 + n) ≤ 70
     under true h = zero-le

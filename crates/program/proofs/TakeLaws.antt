@@ -8,16 +8,14 @@ use lib.ListN.{length, take, drop, length-drop, drop-of-length-le}
 use lib.Seq.{take-all, drop-length, drop-drop}
 use lib.Dec.{leb, ltb}
 use borrow.Author.Tests.{leb-true}
-use Rattle.tables.specs.declared.Tables.{Tables}
-use Rattle.steps.specs.Steps.{State}
-use Rattle.steps.specs.Promises.{stateOf}
+use Rattle.steps.specs.Effects.{State}
 use Rattle.messages.specs.declared.Next.{Next}
 use Rattle.messages.specs.declared.Next.the-variants.{Message, Cut, End}
 use Rattle.messages.specs.Messages.{lengthAt, nextAt}
 use Rattle.messages.specs.Run.{Sent, split, messagesOf, yielded, leftBy, endOf}
 use Rattle.messages.specs.Promises.{sentBy, sentAlone}
 use Rattle.messages.proofs.ReaderLaws.{reader-yields, message-at}
-use Rattle.program.specs.Served.{takenBy, firstTakes, Left}
+use Rattle.program.specs.Served.{takenBy, firstTakes}
 
 -- what is left of a file, as the code takes it
 pub rest-of : (at : ℕ) (file : List ℕ) → take (length file - at) (drop at file) ≡ drop at file
@@ -81,11 +79,3 @@ one-turn room at s file h =
 pub no-turn : (room at : ℕ) (s : State) (file : List ℕ) → length file ≤ at → endOf room s (messagesOf (drop at file)) ≡ s
 unfolding endOf
 no-turn room at s file h = ap (endOf room s) (ap messagesOf (drop-of-length-le file h) ∙ no-messages)
-
--- the state that a turn left, put together again
-pub left-state : {s : State} {t : Tables} {fast slow : List ℕ} → Left s t fast slow → stateOf t fast slow ≡ s
-left-state {s} l = rw (l .tables-out) (rw (l .fast-out) (rw (l .slow-out) refl))
-
--- the state at the end, taken apart
-pub left-of : {s : State} {t : Tables} {fast slow : List ℕ} → s ≡ stateOf t fast slow → Left s t fast slow
-left-of e = rw e (record { tables-out = refl; fast-out = refl; slow-out = refl })

@@ -1,10 +1,7 @@
 -- What the program makes of a call file, as far as its memory shows it.
 use Prim.Native.Nat.{ℕ}
-use mathlib.Core.Path.{_≡_}
 use mathlib.Core.List.{List}
 use lib.ListN.{length}
-use Rattle.tables.specs.declared.Tables.{Tables}
-use Rattle.steps.specs.Steps.{Outcome, State, left}
 use Rattle.messages.specs.declared.Next.{Next}
 use Rattle.messages.specs.declared.Next.the-variants.{Message, Cut, End}
 use Rattle.messages.specs.Messages.{nextAt}
@@ -17,9 +14,3 @@ takenBy all End = all
 
 abbrev pub firstTakes : List ℕ → ℕ
 firstTakes l = takenBy (length l) (nextAt l 0)
-
--- tables and stores as a state has them
-pub record Left (s : State) (t : Tables) (fast slow : List ℕ) : Type 0 where
-  pub tables-out : t ≡ s .tables
-  pub fast-out : fast ≡ s .fast
-  pub slow-out : slow ≡ s .slow

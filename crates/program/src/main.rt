@@ -10,18 +10,16 @@ ghost use mathlib.Core.Path.{_≡_};
 ghost use Prim.Native.Nat.{_≤_};
 ghost use lib.ListN.{length};
 ghost use Rattle.tables.specs.Model.{freshTables};
-ghost use Rattle.steps.specs.Steps.{left};
 ghost use Rattle.steps.specs.Promises.{stateOf};
-ghost use Rattle.messages.specs.Run.{messagesOf, turn, endOf};
+ghost use Rattle.messages.specs.Run.{messagesOf, leftBy, endOf};
 ghost use Rattle.messages.specs.Promises.{sentAlone};
-ghost use Rattle.program.specs.Served.{firstTakes, Left};
+ghost use Rattle.program.specs.Served.{firstTakes};
 
 // Answers one message and writes the reply.
 fn reply(tables: Tables, message: &[u8], fast: &mut [u8], slow: &mut [u8], out: &mut [u8]) -> Tables
     requires { ⌜ 70 ≤ length (now out) ⌝ }
-    ensures { λ r. ⌜ Left (left (stateOf tables (now (fast .entry)) (now (slow .entry)))
-        (turn (length (now (out .entry))) (stateOf tables (now (fast .entry)) (now (slow .entry))) (sentAlone (now (message .entry)))))
-        r (now (fast .exit)) (now (slow .exit)) ⌝ }
+    ensures { λ r. ⌜ stateOf r (now (fast .exit)) (now (slow .exit))
+        ≡ leftBy (length (now (out .entry))) (stateOf tables (now (fast .entry)) (now (slow .entry))) (sentAlone (now (message .entry))) ⌝ }
 {
     let a = answer(tables, fast, slow, message, out);
     let len = a.len;
@@ -43,8 +41,8 @@ fn first_takes(rest: &[u8]) -> usize
 // Answers the messages of the file, one after the other, from fresh tables.
 fn serve(file: &[u8], fast: &mut [u8], slow: &mut [u8], out: &mut [u8]) -> Tables
     requires { ⌜ 70 ≤ length (now out) ⌝ }
-    ensures { λ r. ⌜ Left (endOf (length (now (out .entry))) (stateOf (freshTables 4 4) (now (fast .entry)) (now (slow .entry))) (messagesOf (now (file .entry))))
-        r (now (fast .exit)) (now (slow .exit)) ⌝ }
+    ensures { λ r. ⌜ stateOf r (now (fast .exit)) (now (slow .exit))
+        ≡ endOf (length (now (out .entry))) (stateOf (freshTables 4 4) (now (fast .entry)) (now (slow .entry))) (messagesOf (now (file .entry))) ⌝ }
 {
     let made = Tables::fresh(4, 4);
     let mut tables = made.tables;

@@ -1,4 +1,3 @@
-pub mod Stub
 pub mod Holding
 pub mod Agreement
 pub mod Owners

@@ -14,11 +14,10 @@ use Rattle.messages.specs.Replies.{reply, replyIn}
 use Rattle.messages.specs.Run.{Sent, asked, bytesOf, respond, answer}
 use Rattle.theorems.specs.Demand1.{Demand1}
 use Rattle.theorems.proofs.Parsing.{Known, bad, good, asked-known}
-use Rattle.theorems.proofs.Stub.{nope}
 
 responded : (s : State) {a : Parsed} (bs : List ℕ) → Known a → numberOf (respond s a bs) ≤ 18
 responded s bs (bad h) = omega arith
-responded s bs (good {c}) = omega (arith, step-number nope s c bs)
+responded s bs (good {c}) = omega (arith, step-number s c bs)
 
 answered : (room : ℕ) (s : State) (x : Sent) → numberOf (answer room s x) ≤ 18
 unfolding answer

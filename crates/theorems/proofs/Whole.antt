@@ -31,7 +31,6 @@ use Rattle.theorems.proofs.Access.{read-agrees, write-agrees}
 use Rattle.theorems.proofs.Moves.{make-copy-agrees, delete-copy-agrees, set-current-agrees, remove-current-agrees, look-page-agrees, look-frame-agrees}
 use Rattle.theorems.proofs.Frames.{end-frames}
 use Rattle.theorems.proofs.Induction.{TurnAgrees, run-agrees}
-use Rattle.theorems.proofs.Stub.{nope}
 
 -- ---- one turn
 
@@ -66,7 +65,7 @@ module _ (s : State) (f : Flat) (i : Inv s f) where
 
   parsed-keeps : (a : Parsed) (bs : List ℕ) → Good (left s (respond s a bs))
   parsed-keeps (Refused n) bs = i .good
-  parsed-keeps (Asked c) bs = step-good nope s c bs (i .good)
+  parsed-keeps (Asked c) bs = step-good s c bs (i .good)
 
   due-is : (a : Parsed) (bs : List ℕ) → due f s a bs ≡ (accepts (reactTo f a bs) && lacksIn a)
   unfolding reactTo

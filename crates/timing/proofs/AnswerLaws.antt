@@ -8,18 +8,18 @@ use lib.ListN.{length, take, drop, length-drop}
 use lib.Seq.{take-all}
 use lib.Dec.{eqb}
 use Rattle.steps.specs.Stores.{part}
-use Rattle.steps.specs.Steps.{State, left, laidBy}
-use Rattle.steps.specs.Promises.{stateOf}
+use Rattle.steps.specs.Effects.{State, left, laidBy}
 use Rattle.messages.specs.declared.Next.{Next}
 use Rattle.messages.specs.declared.Next.the-variants.{Message, Cut, End}
 use Rattle.messages.specs.declared.Tally.{Tally}
 use Rattle.messages.specs.declared.Answered.{Answered}
 use Rattle.messages.specs.Messages.{nextAt}
 use Rattle.messages.specs.Replies.{counted, isRefusal}
-use Rattle.messages.specs.Run.{Sent, cut, whole, turn, messagesOf, yielded, run}
+use Rattle.messages.specs.Run.{Sent, cut, whole, answer, messagesOf, yielded, run}
 use Rattle.messages.specs.Promises.{sentBy, sentAlone, Replied, RunEnded}
 use Rattle.messages.proofs.ReaderLaws.{reader-yields, message-at}
-use Rattle.messages.proofs.RunLaws.{turn-told, Rest, rest-message, rest-cut, rest-none}
+use Rattle.messages.proofs.TurnLaws.{answer-told}
+use Rattle.messages.proofs.RunLaws.{Rest, rest-message, rest-cut, rest-none}
 
 -- ---- the first message of what is left of the file
 
@@ -47,24 +47,21 @@ pub record Going (s₀ : State) (file out₀ : List ℕ) (n₀ : Tally) (at : �
 
 module _ {s₀ : State} {file out₀ : List ℕ} {n₀ : Tally} {at : ℕ} {s : State} {out : List ℕ} {n : Tally} (q : Going s₀ file out₀ n₀ at s out n) where
   -- the answer to the message that comes next
-  module _ (x : Sent) (xs : List Sent) (follows : messagesOf (drop at file) ≡ x ∷ xs) (x′ y′ out′ : List ℕ) (n′ : Tally) (a : Answered)
-      (v : Replied s (turn (length out) s (sentAlone (take (length file - at) (drop at file)))) out x′ y′ out′ a)
+  module _ (x : Sent) (xs : List Sent) (follows : messagesOf (drop at file) ≡ x ∷ xs) (s′ : State) (out′ : List ℕ) (n′ : Tally) (a : Answered)
+      (v : Replied s (answer (length out) s (sentAlone (take (length file - at) (drop at file)))) out s′ out′ a)
       (en : n′ ≡ counted n (not (eqb (a .number) 0)) (a .laid)) where
-    reply-here : Replied s (turn (length out) s x) out x′ y′ out′ a
+    reply-here : Replied s (answer (length out) s x) out s′ out′ a
     reply-here = rw (sent-here file at x xs follows) at v
 
-    state-here : stateOf (a .tables) x′ y′ ≡ left s (turn (length out) s x)
-    state-here = let w = reply-here in rw (w .tables-out, w .fast-out, w .slow-out)
-
-    counts-here : n′ ≡ counted n (isRefusal (turn (length out) s x)) (laidBy (turn (length out) s x))
-    counts-here = let w = reply-here in en ∙ rw (turn-told (length out) s x, w .number-told, w .laid-told)
+    counts-here : n′ ≡ counted n (isRefusal (answer (length out) s x)) (laidBy (answer (length out) s x))
+    counts-here = let w = reply-here in en ∙ rw (answer-told (length out) s x, w .number-told, w .laid-told)
 
   -- after a message
-  pub going-on : (start len next : ℕ) (x′ y′ out′ : List ℕ) (n′ : Tally) (a : Answered) → Message start len next ≡ nextAt file at
-      → Replied s (turn (length out) s (sentAlone (take (length file - at) (drop at file)))) out x′ y′ out′ a
-      → length x′ ≡ length (s .fast) → length y′ ≡ length (s .slow) → length out′ ≡ length out
-      → n′ ≡ counted n (not (eqb (a .number) 0)) (a .laid) → Going s₀ file out₀ n₀ next (stateOf (a .tables) x′ y′) out′ n′
-  going-on start len next x′ y′ out′ n′ a e v lx ly lo en =
+  pub going-on : (start len next : ℕ) (s′ : State) (out′ : List ℕ) (n′ : Tally) (a : Answered) → Message start len next ≡ nextAt file at
+      → Replied s (answer (length out) s (sentAlone (take (length file - at) (drop at file)))) out s′ out′ a
+      → length (s′ .fast) ≡ length (s .fast) → length (s′ .slow) ≡ length (s .slow) → length out′ ≡ length out
+      → n′ ≡ counted n (not (eqb (a .number) 0)) (a .laid) → Going s₀ file out₀ n₀ next s′ out′ n′
+  going-on start len next s′ out′ n′ a e v lx ly lo en =
       let x = whole (part file start len) in
       let xs = messagesOf (drop next file) in
       let follows : messagesOf (drop at file) ≡ x ∷ xs = reader-yields file at ∙ rw (← e) in
@@ -74,39 +71,35 @@ module _ {s₀ : State} {file out₀ : List ℕ} {n₀ : Tally} {at : ℕ} {s : 
         slow-long = ly ∙ q .slow-long;
         out-long = lo ∙ q .out-long;
         rest =
-            rest-message (length out₀) file s₀ out₀ n₀ at s out n (q .rest) start len next (stateOf (a .tables) x′ y′) out′ n′ e
-            (rw (q .out-long) at (state-here x xs follows x′ y′ out′ n′ a v en))
-            (rw (q .out-long) at (reply-here x xs follows x′ y′ out′ n′ a v en .reply-out))
-            (rw (q .out-long) at (counts-here x xs follows x′ y′ out′ n′ a v en));
+            rest-message (length out₀) file s₀ out₀ n₀ at s out n (q .rest) start len next s′ out′ n′ e
+            (rw (q .out-long) at (reply-here x xs follows s′ out′ n′ a v en .state-out))
+            (rw (q .out-long) at (reply-here x xs follows s′ out′ n′ a v en .reply-out))
+            (rw (q .out-long) at (counts-here x xs follows s′ out′ n′ a v en));
       }
 
   -- at a cut end
-  pub going-cut : (x′ y′ out′ : List ℕ) (n′ : Tally) (a : Answered) → Cut ≡ nextAt file at
-      → Replied s (turn (length out) s (sentAlone (take (length file - at) (drop at file)))) out x′ y′ out′ a
+  pub going-cut : (s′ : State) (out′ : List ℕ) (n′ : Tally) (a : Answered) → Cut ≡ nextAt file at
+      → Replied s (answer (length out) s (sentAlone (take (length file - at) (drop at file)))) out s′ out′ a
       → n′ ≡ counted n (not (eqb (a .number) 0)) (a .laid)
-      → RunEnded (run (length out₀) file s₀) n₀ out₀ x′ y′ out′ (record { tables = a .tables; tally = n′ })
-  going-cut x′ y′ out′ n′ a e v en =
+      → RunEnded (run (length out₀) file s₀) n₀ out₀ s′ out′ (record { tables = a .tables; tally = n′ })
+  going-cut s′ out′ n′ a e v en =
       let follows : messagesOf (drop at file) ≡ cut ∷ [] = reader-yields file at ∙ rw (← e) in
       let w = rest-cut (length out₀) file s₀ out₀ n₀ at s out n (q .rest) out′ n′ e
-      (rw (q .out-long) at (reply-here cut [] follows x′ y′ out′ n′ a v en .reply-out))
-      (rw (q .out-long) at (counts-here cut [] follows x′ y′ out′ n′ a v en)) in
-      let z = rw (q .out-long) at (state-here cut [] follows x′ y′ out′ n′ a v en) ∙ w .state-is in
+      (rw (q .out-long) at (reply-here cut [] follows s′ out′ n′ a v en .reply-out))
+      (rw (q .out-long) at (counts-here cut [] follows s′ out′ n′ a v en)) in
+      let z = rw (q .out-long) at (reply-here cut [] follows s′ out′ n′ a v en .state-out) ∙ w .state-is in
       record {
-        tables-out = ap (λ (k : State). k .tables) z;
-        fast-out = ap (λ (k : State). k .fast) z;
-        slow-out = ap (λ (k : State). k .slow) z;
+        state-out = z;
         buffer-out = w .buffer-is;
         tally-out = w .tally-is;
       }
 
   -- at the end
-  pub going-none : End ≡ nextAt file at → RunEnded (run (length out₀) file s₀) n₀ out₀ (s .fast) (s .slow) out (record { tables = s .tables; tally = n })
+  pub going-none : End ≡ nextAt file at → RunEnded (run (length out₀) file s₀) n₀ out₀ s out (record { tables = s .tables; tally = n })
   going-none e =
       let w = rest-none (length out₀) file s₀ out₀ n₀ at s out n (q .rest) e in
       record {
-        tables-out = ap (λ (k : State). k .tables) (w .state-is);
-        fast-out = ap (λ (k : State). k .fast) (w .state-is);
-        slow-out = ap (λ (k : State). k .slow) (w .state-is);
+        state-out = w .state-is;
         buffer-out = w .buffer-is;
         tally-out = w .tally-is;
       }

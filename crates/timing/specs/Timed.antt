@@ -3,11 +3,12 @@ use Prim.Native.Nat.{ℕ, zero, suc, _+_, _%_}
 use mathlib.Core.Bool.{cond}
 use mathlib.Core.List.{List}
 use mathlib.Core.Path.{_≡_}
-use lib.ListN.{length, set}
+use lib.ListN.{length}
 use Rattle.tables.specs.declared.Tables.{Tables}
 use Rattle.tables.specs.declared.Page.{Page}
-use Rattle.tables.specs.Model.{pageAt}
+use Rattle.tables.specs.Model.{pageAt, withPage}
 use Rattle.tables.specs.Rules.{sound}
+use Rattle.steps.specs.Promises.{Lent, lent}
 use Rattle.messages.specs.declared.Tally.{Tally}
 use Rattle.messages.specs.Run.{Run, buffer, tally}
 use Rattle.embed.specs.Exports.{withTables}
@@ -16,11 +17,9 @@ abbrev pub none : Tally
 none = record { messages = 0; refusals = 0; laid = 0 }
 
 -- what `reel_answers` leaves of a run w: the same as `reel_run`, and the count of the messages
-pub record AnsweredAll (b : List ℕ) (w : Run) (out b′ fast′ slow′ out′ : List ℕ) (r : ℕ) : Type 0 where
+pub record AnsweredAll (w : Run) (b : List ℕ) (l : Lent) (b′ : List ℕ) (l′ : Lent) (r : ℕ) : Type 0 where
   pub tables-out : b′ ≡ withTables b (w .final .tables)
-  pub fast-out : fast′ ≡ w .final .fast
-  pub slow-out : slow′ ≡ w .final .slow
-  pub buffer-out : out′ ≡ buffer (length out) (w .turns) out
+  pub lent-out : l′ ≡ lent (w .final .fast) (w .final .slow) (buffer (length (l .out)) (w .turns) (l .out))
   pub told : r ≡ tally (w .turns) none .messages
 
 abbrev pub withOwner : Page → ℕ → Page
@@ -29,11 +28,7 @@ withOwner g s = record { rights = g .rights; copies = g .copies; owner = s; n = 
 -- the tables with another owner of page 0
 abbrev pub owned : Tables → ℕ → Tables
 owned t s =
-    record {
-      fast = t .fast;
-      slow = t .slow;
-      pages = set (t .pages) 0 (withOwner (pageAt t 0) s);
-    }
+    withPage t 0 (withOwner (pageAt t 0) s)
 
 -- how many of k tests hold, the owner of page 0 going round the stations
 unfoldable pub soundTimes : Tables → ℕ → ℕ

@@ -11,7 +11,7 @@ use messages::tally_after;
 use tables::Tables;
 ghost use mathlib.Core.Path.{_≡_};
 ghost use lib.ListN.{length};
-ghost use Rattle.steps.specs.Promises.{stateOf};
+ghost use Rattle.steps.specs.Promises.{stateOf, lent};
 ghost use Rattle.messages.specs.Run.{run};
 ghost use Rattle.messages.specs.Promises.{RunEnded};
 ghost use Rattle.embed.specs.Exports.{tablesOf, lentState};
@@ -27,7 +27,7 @@ fn answers(
     mut tally: Tally,
 ) -> Ran
     ensures { λ r. ⌜ RunEnded (run (length (now (out .entry))) (now (file .entry)) (stateOf tables (now (fast .entry)) (now (slow .entry)))) tally
-        (now (out .entry)) (now (fast .exit)) (now (slow .exit)) (now (out .exit)) r ⌝ }
+        (now (out .entry)) (stateOf (r .tables) (now (fast .exit)) (now (slow .exit))) (now (out .exit)) r ⌝ }
 {
     let mut at = 0;
     loop {
@@ -59,9 +59,10 @@ pub extern "C" fn reel_answers(
     file: &[u8],
     out: &mut [u8],
 ) -> u32
-    ensures { λ r. ⌜ AnsweredAll (now (tables .entry))
+    ensures { λ r. ⌜ AnsweredAll
         (run (length (now (out .entry))) (now (file .entry)) (lentState (now (tables .entry)) (now (fast .entry)) (now (slow .entry))))
-        (now (out .entry)) (now (tables .exit)) (now (fast .exit)) (now (slow .exit)) (now (out .exit)) r ⌝ }
+        (now (tables .entry)) (lent (now (fast .entry)) (now (slow .entry)) (now (out .entry)))
+        (now (tables .exit)) (lent (now (fast .exit)) (now (slow .exit)) (now (out .exit))) r ⌝ }
 {
     let before = tables_of(&tables[..]);
     let none = Tally {

@@ -8,9 +8,8 @@ use Rattle.steps.specs.Promises.{stateOf}
 use Rattle.messages.specs.Promises.{sentAlone}
 use Rattle.messages.specs.Run.{answer}
 use Rattle.embed.specs.Exports.{lentState}
-use Rattle.messages.proofs.RunLaws.{answer-told, reply-short}
+use Rattle.messages.proofs.TurnLaws.{answer-told, reply-short}
 use Rattle.embed.proofs.LentLaws.{left-in}
-use Rattle.embed.proofs.Stub.{nope}
 use Rattle.embed.proofs.reel_answer.Statement.{statement}
 use Rattle.embed.proofs.reel_answer.Tie as tie
 
@@ -18,7 +17,7 @@ tables-of-requires : tie.Need-tables-of-requires
 tables-of-requires c κs = search needs
 
 answer-requires : tie.Need-answer-requires
-answer-requires c κs = ?
+answer-requires c κs = search needs
 
 put-accepted-requires : tie.Need-put-accepted-requires
 put-accepted-requires c κs = search needs
@@ -29,7 +28,7 @@ packed-requires c κs =
     let a = d .before .before .before .before .before .before .before .before .before .before .before .args in
     let t = d .before .before .before .before .tables-of .result in
     let s = stateOf t (a .fast .now) (a .slow .now) in
-    omega (arith, d .answer .ensures .len-told, reply-short nope (length (a .out .now)) s (sentAlone (a .message .now)))
+    omega (arith, d .answer .ensures .len-told, reply-short (length (a .out .now)) s (sentAlone (a .message .now)))
 
 same-length : tie.Need-same-length
 same-length c = search needs
@@ -54,7 +53,7 @@ returns c =
     record {
       told = c .packed .ensures ∙ rw (q .number-told, q .len-told, q .laid-told);
       tables-out = c .before .before .before .put-accepted .ensures
-          ∙ rw (q .number-told, ap (λ (s : State). s .tables) (q .state-out)) (left-in (a .tables .now) s (answer room s x) (answer-told nope room s x));
+          ∙ rw (q .number-told, ap (λ (s : State). s .tables) (q .state-out)) (left-in (a .tables .now) s (answer room s x) (answer-told room s x));
       lent-out = rw (ap (λ (s : State). s .fast) (q .state-out), ap (λ (s : State). s .slow) (q .state-out), q .reply-out);
     }
 

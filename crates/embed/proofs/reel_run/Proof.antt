@@ -12,7 +12,7 @@ tally-of-requires : tie.Need-tally-of-requires
 tally-of-requires c κs = search needs
 
 run-requires : tie.Need-run-requires
-run-requires c κs = ?
+run-requires c κs = search needs
 
 put-back-requires : tie.Need-put-back-requires
 put-back-requires c κs = search needs

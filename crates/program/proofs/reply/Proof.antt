@@ -6,7 +6,7 @@ use lib.ListN.{length-take, length}
 use borrow.Author.Needs.{needs}
 use Rattle.steps.specs.Promises.{stateOf}
 use Rattle.messages.specs.Promises.{sentAlone}
-use Rattle.messages.proofs.ReplyShort.{reply-short}
+use Rattle.messages.proofs.TurnLaws.{reply-short}
 use Rattle.program.proofs.reply.Statement.{statement}
 use Rattle.program.proofs.reply.Tie as tie
 

@@ -8,12 +8,12 @@ use borrow.Author.Needs.{needs}
 use Rattle.tables.specs.declared.Tables.{Tables}
 use Rattle.tables.specs.declared.Made.{Made}
 use Rattle.tables.specs.Model.{freshTables}
-use Rattle.steps.specs.Steps.{State}
+use Rattle.steps.specs.Effects.{State}
 use Rattle.steps.specs.Promises.{stateOf}
 use Rattle.messages.specs.Run.{messagesOf, leftBy, endOf}
 use Rattle.messages.specs.Promises.{sentAlone}
 use Rattle.program.specs.Served.{firstTakes}
-use Rattle.program.proofs.TakeLaws.{rest-of, goes-on, one-turn, no-turn, left-state, left-of}
+use Rattle.program.proofs.TakeLaws.{rest-of, goes-on, one-turn, no-turn}
 use Rattle.program.proofs.serve.Statement.{statement}
 use Rattle.program.proofs.serve.Tie as tie
 
@@ -92,7 +92,7 @@ loop-again c =
     let s′ = stateOf (r .result) (r .last .1 .1 .0) (r .last .1 .1 .1 .0) in
     let turned : leftBy room s (sentAlone (drop (l .at) file)) ≡ s′ =
     sym
-    (left-state (r .ensures)
+    (r .ensures
     ∙ ap (λ (n : ℕ). leftBy n s (sentAlone (take (length file - l .at) (drop (l .at) file)))) (i .1)
     ∙ ap (λ (m : List ℕ). leftBy room s (sentAlone m)) (rest-of (l .at) file)) in (
       on .1,
@@ -118,7 +118,7 @@ returns : tie.Need-returns Inv-loop μ-loop
 returns c =
     let a = c .before .before .before .before .before .before .before .before .args in
     let l = c .before .loop in
-    left-of
+    sym
     (l .inv .4 ∙ no-turn (length (a .out .now)) (l .at) (stateOf (l .tables) (l .fast) (l .slow)) (a .file .now) (search needs))
 
 pub serve-spec : {M : Type 1} → statement M

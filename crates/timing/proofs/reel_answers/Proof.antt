@@ -1,6 +1,7 @@
 -- `reel_answers` answers on the tables in the lent bytes, and puts them back.
 use mathlib.Core.Path.{ap, _∙_}
 use borrow.Author.Needs.{needs}
+use Rattle.steps.specs.Effects.{State}
 use Rattle.messages.specs.declared.Tally.{Tally}
 use Rattle.timing.proofs.reel_answers.Statement.{statement}
 use Rattle.timing.proofs.reel_answers.Tie as tie
@@ -30,10 +31,8 @@ returns : tie.Need-returns
 returns c =
     let q = rw (c .before .before .before .before .before .before .before .before .before .before .before .before .before .before .tables-of .ensures) at (c .before .before .before .before .before .before .before .before .before .before .answers .ensures) in
     record {
-      tables-out = c .before .before .put-back .ensures ∙ rw (q .tables-out);
-      fast-out = q .fast-out;
-      slow-out = q .slow-out;
-      buffer-out = q .buffer-out;
+      tables-out = c .before .before .put-back .ensures ∙ rw (ap (λ (s : State). s .tables) (q .state-out));
+      lent-out = rw (ap (λ (s : State). s .fast) (q .state-out), ap (λ (s : State). s .slow) (q .state-out), q .buffer-out);
       told = ap (λ (n : Tally). n .messages) (q .tally-out);
     }
 

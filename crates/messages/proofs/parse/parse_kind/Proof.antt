@@ -43,7 +43,7 @@ byte-at-requires-4 : tie.Need-byte-at-requires-4
 byte-at-requires-4 c κs = search needs
 
 form-of-requires : tie.Need-form-of-requires
-form-of-requires c κs = ?
+form-of-requires c κs = search needs
 
 cast-if1 : tie.Need-cast-if1
 cast-if1 c = search needs

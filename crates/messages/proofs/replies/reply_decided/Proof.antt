@@ -14,7 +14,7 @@ part-data-end : tie.Need-part-data-end
 part-data-end c = search needs
 
 carry-requires : tie.Need-carry-requires
-carry-requires c κs = ?
+carry-requires c κs = search needs
 
 head-requires : tie.Need-head-requires
 head-requires c κs = search needs

@@ -65,7 +65,7 @@ write-bytes-requires : tie.Need-write-bytes-requires
 write-bytes-requires c κs = search needs
 
 judge-any-requires : tie.Need-judge-any-requires
-judge-any-requires c κs = ?
+judge-any-requires c κs = search needs
 
 reply-decided-requires : tie.Need-reply-decided-requires
 reply-decided-requires c κs =
@@ -73,7 +73,7 @@ reply-decided-requires c κs =
     record { room = w .roomy; few = w .few }
 
 settle-requires : tie.Need-settle-requires
-settle-requires c κs = ?
+settle-requires c κs = search needs
 
 add-t30 : tie.Need-add-t30
 add-t30 c =

@@ -10,7 +10,7 @@ enum-told : tie.Need-enum-told
 enum-told c = search needs
 
 form-of-requires : tie.Need-form-of-requires
-form-of-requires c κs = ?
+form-of-requires c κs = search needs
 
 returns : tie.Need-returns
 returns c = search needs

@@ -15,7 +15,6 @@ use Rattle.messages.specs.Run.{whole}
 use Rattle.messages.proofs.ReaderLaws.{message-at, message-part}
 use Rattle.messages.proofs.TurnLaws.{served-early, Decided, decided}
 use Rattle.messages.proofs.RunLaws.{Going, rest-all, going-on, going-cut, going-none}
-use Rattle.messages.proofs.Stub.{nope}
 use borrow.Author.Needs.{needs}
 use Rattle.messages.proofs.turns.run.Statement.{statement}
 use Rattle.messages.proofs.turns.run.Tie as tie
@@ -44,10 +43,10 @@ done c =
     decided (stateOf (v .tables) (v .fast) (v .slow)) (whole (part _ _ _)) _ _ _ (v .out)
     (c .before .before .before .before .before .parse .ensures ∙ ap parse k) (c .before .before .before .before .early-number .ensures)
     _ (c .judge .result) (c .before .before .before .if1 .left) (c .before .write-bytes .ensures ∙ ap writeBytes k)
-    (λ z. rw (← c .before .before .call-in .ensures, decide-ruled nope (v .tables) (length (v .fast)) (length (v .slow)) _ _ (sym (v .inv .rules) ∙ z)) (c .judge .ensures))
+    (λ z. rw (← c .before .before .call-in .ensures, decide-ruled (v .tables) (length (v .fast)) (length (v .slow)) _ _ (sym (v .inv .rules) ∙ z)) (c .judge .ensures))
 
 rules-requires : tie.Need-rules-requires Inv-loop μ-loop
-rules-requires c κs = ?
+rules-requires c κs = search needs
 
 loop-holds : tie.Need-loop-holds Inv-loop μ-loop
 loop-holds c =
@@ -93,7 +92,7 @@ write-bytes-requires : tie.Need-write-bytes-requires Inv-loop μ-loop
 write-bytes-requires c κs = search needs
 
 judge-requires : tie.Need-judge-requires Inv-loop μ-loop
-judge-requires c κs = ?
+judge-requires c κs = search needs
 
 reply-decided-requires : tie.Need-reply-decided-requires Inv-loop μ-loop
 reply-decided-requires c κs =
@@ -101,7 +100,7 @@ reply-decided-requires c κs =
     record { room = w .roomy; few = w .few }
 
 settle-requires : tie.Need-settle-requires Inv-loop μ-loop
-settle-requires c κs = ?
+settle-requires c κs = search needs
 
 tally-after-requires-2 : tie.Need-tally-after-requires-2 Inv-loop μ-loop
 tally-after-requires-2 c κs = search needs

@@ -1,3 +1,0 @@
--- stub: to go with the true crate steps
-pub nope : ⊥
-nope = ?
