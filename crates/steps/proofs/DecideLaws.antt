@@ -1,0 +1,131 @@
+-- What is to be known of a call's plan, from one walk over the kinds. In order: what holds of an outcome if it is accepted; the
+-- CURRENT copies of a page; one plan of each form; the walk; the call on tables that keep the rules.
+use Prim.Native.Nat.{ℕ, _+_, _*_, _≤_, _<_, zero-le}
+use mathlib.Core.Path.{_≡_, refl, sym, ap, _∙_}
+use mathlib.Core.Logic.{_≢_}
+use mathlib.Core.Bool.{Bool, true, false, not, _&&_, _||_, cond, false≢true}
+use mathlib.Core.List.{List, [], _∷_}
+use native.Mathlib.Nat.{mul-le-mul}
+use native.Mathlib.Omega.{arith}
+use lib.ListN.{length}
+use lib.Dec.{leb, ltb, eqb}
+use borrow.Author.Tests.{ltb-false, leb-false, eqb-false, lt-ltb, le-leb, lt-leb, not-true, not-false}
+use Rattle.tables.specs.declared.Copy.{Copy}
+use Rattle.tables.specs.declared.Page.{Page}
+use Rattle.tables.specs.declared.Tables.{Tables}
+use Rattle.tables.specs.declared.Holder.{Holder}
+use Rattle.tables.specs.declared.Holder.the-variants.{At, Free}
+use Rattle.tables.specs.declared.Edit.{Edit}
+use Rattle.tables.specs.declared.Edit.the-variants.{Kept, Created, Deleted, Granted, Staled, Placed, Added, Removed, Marked}
+use Rattle.tables.specs.Lists.{all, count}
+use Rattle.tables.specs.Numbers.{noPage, noRight, noCopy}
+use Rattle.tables.specs.Model.{frames, isNull, inUse, absent, pageAt}
+use Rattle.tables.specs.Rules.{free, isCurrent, copyRule, sound}
+use Rattle.tables.specs.Search.{holderOf, isFree, shown}
+use Rattle.tables.proofs.ListLaws.{and-intro, and-left, and-right, or-left, or-right, all-imp, count-le}
+use Rattle.tables.proofs.RuleLaws.{GoodCopy, good-copy, current-frame, StandingPage, copy-at, length-in-use, sound-of, standing-at}
+use Rattle.tables.proofs.HolderLaws.{free-holder}
+use Rattle.tables.proofs.Allowed.{FrameOk, Allowed}
+use Rattle.steps.specs.declared.Kind.{Kind}
+use Rattle.steps.specs.declared.Kind.the-variants.{Create, DeletePage, Grant, Read, Write, MakeCopy, DeleteCopy, SetCurrent, RemoveCurrent, LookPage, LookFrame}
+use Rattle.steps.specs.declared.Call.{Call}
+use Rattle.steps.specs.declared.Work.{Work}
+use Rattle.steps.specs.declared.Work.the-variants.{Nothing, Clear, Duplicate, Spread, Show, ShowPage, ShowHolder}
+use Rattle.steps.specs.Kinds.{offset, bytes, frame, names, code, among, has}
+use Rattle.steps.specs.Calls.{nameOutside, frameOutside, badSpan, spanOutside}
+use Rattle.steps.specs.Steps.{Outcome, refuse, accept, test, mapped, Plan, editing, showing, laying, mayRead, mayWrite, owns, copyAt, currents, recents, firstCurrent, standing, numbered, copying, perform, decideOn, decide}
+use Rattle.steps.specs.Effects.{shownOf}
+use Rattle.steps.specs.Promises.{currentWithin, workWithin}
+use Rattle.steps.proofs.StoreLaws.{length-frame-part}
+use Rattle.steps.proofs.CopyLaws.{length-entries}
+
+-- ---- what holds of an outcome if it is accepted; the numbers that calls are turned back with go up to 17
+
+pub data IfAccepted {A : Type 0} (P : A → Type 0) : Outcome A → Type 0 where
+  if-refused : {n : ℕ} → leb n 17 ≡ true → IfAccepted P (refuse n)
+  if-accepted : {a : A} → P a → IfAccepted P (accept a)
+
+-- behind a test
+pub past : {A : Type 0} {P : A → Type 0} {o : Outcome A} (b : Bool) (n : ℕ) → leb n 17 ≡ true → (b ≡ false → IfAccepted P o)
+    → IfAccepted P (test b n o)
+past true n low h = if-refused low
+past false n low h = h refl
+
+-- behind 9 and 10
+past-standing : {P : Plan → Type 0} {o : Outcome Plan} (g : Page) (may : Bool) → (absent g ≡ false → IfAccepted P o)
+    → IfAccepted P (standing g may o)
+past-standing g may h = past (absent g) noPage refl (λ some. past (not may) noRight refl (λ _. h some))
+
+-- behind 9 and 12
+past-numbered : {P : Plan → Type 0} {o : Outcome Plan} (g : Page) (k : ℕ) → (absent g ≡ false → k < g .n → IfAccepted P o)
+    → IfAccepted P (numbered g k o)
+past-numbered g k h = past (absent g) noPage refl (λ some. past (leb (g .n) k) noCopy refl (λ less. h some (leb-false (g .n) k less)))
+
+-- ---- the names of a call that passes number 7
+
+pub page-near : (c : Call) → nameOutside c ≡ false → c .page < 64
+page-near c e =
+    let k = ltb-false 63 (c .page) (or-right (ltb 15 (c .station)) _ (or-left (ltb 15 (c .station) || ltb 63 (c .page)) _ e)) in
+    omega arith
+
+pub span-within : (o n : ℕ) → badSpan o n ≡ false → o + n ≤ 64
+span-within o n e = ltb-false 64 (o + n) (or-right (eqb n 0) _ (or-right (ltb 63 o) _ e))
+
+-- ---- the CURRENT copies of a page that stands
+
+module _ {limit : ℕ} where
+  -- are on frames below the limit
+  pub currents-within : {g : Page} → StandingPage limit g → all (currentWithin limit) (inUse g) ≡ true
+  currents-within {g} s = all-imp (copyRule limit (g .n)) (currentWithin limit) (inUse g) one (s .copies-ok)
+    where
+      one : (c : Copy) → copyRule limit (g .n) c ≡ true → currentWithin limit c ≡ true
+      one c e = go (c .current) refl
+        where
+          go : (u : Bool) → c .current ≡ u → not (u && leb limit (c .frame)) ≡ true
+          go true q = ap not (lt-leb limit (c .frame) (current-frame (good-copy limit (g .n) c e) q))
+          go false q = refl
+
+  -- the frame of the first, where there is one
+  first-low : (cs : List Copy) → all (currentWithin limit) cs ≡ true → 1 ≤ count isCurrent cs → firstCurrent cs < limit
+  unfolding all count firstCurrent
+  first-low [] e h = absurd (omega arith)
+  first-low (c ∷ cs) e h = go (c .current) (and-left (currentWithin limit c) _ e) (first-low cs (and-right (currentWithin limit c) _ e)) h
+    where
+      go : (u : Bool) → not (u && leb limit (c .frame)) ≡ true → (1 ≤ count isCurrent cs → firstCurrent cs < limit)
+          → 1 ≤ cond u 1 0 + count isCurrent cs → cond u (c .frame) (firstCurrent cs) < limit
+      go true q k h = leb-false limit (c .frame) (not-true (leb limit (c .frame)) q)
+      go false q k h = k (omega arith)
+
+-- ---- one plan
+
+-- what is known of the plan of a call on page g of tables t: its edit is allowed, what it lays and shows fits, and lies within the frames
+pub record PlanOk (t : Tables) (c : Call) (size : ℕ) (plan : Plan) : Type 0 where
+  pub near : c .page < 64
+  pub allowed : Allowed t (c .page) (plan .edit)
+  pub short : plan .len ≤ 64
+  pub laid-fits : plan .laid ≤ 512
+  pub inside : workWithin (pageAt t (c .page)) (plan .len) (frames t) size (plan .work) ≡ true
+  pub shows : (st : List ℕ) → length st ≡ 64 * frames t → length (shownOf (pageAt t (c .page)) (plan .work) (plan .len) st) ≡ plan .len
+
+module _ (t : Tables) (c : Call) (size : ℕ) (near : c .page < 64)
+    (stands : absent (pageAt t (c .page)) ≡ false → StandingPage (frames t) (pageAt t (c .page))) where
+  g : Page
+  g = pageAt t (c .page)
+
+  -- one that only edits, shows or lays
+  edit-ok : (e : Edit) → Allowed t (c .page) e → IfAccepted (PlanOk t c size) (editing e)
+  unfolding shownOf
+  edit-ok e a =
+      if-accepted (record { near = near; allowed = a; short = zero-le; laid-fits = zero-le; inside = refl; shows = λ st l. refl })
+
+  show-ok : (len : ℕ) (w : Work) → len ≤ 64 → workWithin (pageAt t (c .page)) len (frames t) size w ≡ true
+      → ((st : List ℕ) → length st ≡ 64 * frames t → length (shownOf (pageAt t (c .page)) w len st) ≡ len)
+      → IfAccepted (PlanOk t c size) (showing len w)
+  show-ok len w short inside shows =
+      if-accepted (record { near = near; allowed = tt; short = short; laid-fits = zero-le; inside = inside; shows = shows })
+
+  lay-ok : (e : Edit) (laid : ℕ) (w : Work) → Allowed t (c .page) e → laid ≤ 512
+      → workWithin (pageAt t (c .page)) 0 (frames t) size w ≡ true → ((st : List ℕ) → length (shownOf (pageAt t (c .page)) w 0 st) ≡ 0)
+      → IfAccepted (PlanOk t c size) (laying e laid w)
+  lay-ok e laid w a few inside none =
+      if-accepted (record { near = near; allowed = a; short = zero-le; laid-fits = few; inside = inside; shows = λ st l. none st })

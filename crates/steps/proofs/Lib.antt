@@ -1,0 +1,5 @@
+pub mod StoreLaws
+pub mod CopyLaws
+pub mod Blocks
+pub mod CarryLaws
+pub mod DecideLaws
