@@ -3,3 +3,4 @@ pub mod CopyLaws
 pub mod Blocks
 pub mod CarryLaws
 pub mod DecideLaws
+pub mod StepLaws
