@@ -29,6 +29,7 @@ use Rattle.tables.proofs.Allowed.{FrameOk, Allowed}
 use Rattle.steps.specs.declared.Kind.{Kind}
 use Rattle.steps.specs.declared.Kind.the-variants.{Create, DeletePage, Grant, Read, Write, MakeCopy, DeleteCopy, SetCurrent, RemoveCurrent, LookPage, LookFrame}
 use Rattle.steps.specs.declared.Call.{Call}
+use Rattle.steps.specs.declared.View.{View}
 use Rattle.steps.specs.declared.Work.{Work}
 use Rattle.steps.specs.declared.Work.the-variants.{Nothing, Clear, Duplicate, Spread, Show, ShowPage, ShowHolder}
 use Rattle.steps.specs.Kinds.{offset, bytes, frame, names, code, among, has}
@@ -224,3 +225,11 @@ decide-ok t c size e =
     past (nameOutside c) _ refl (λ name. past (frameOutside (frames t) c) _ refl (λ far. past (spanOutside size c) _ refl (λ span.
     let near = page-near c name in
     perform-ok t c size near (λ some. standing-at t (c .page) (sound-of t e) near some) (c .kind) name far span)))
+
+-- an accepted read shows bytes of the lowest-numbered CURRENT copy
+pub read-shows : (v : View) (c : Call) (size : ℕ) → c .kind ≡ Read
+    → IfAccepted (λ (plan : Plan). plan .work ≡ Show (firstCurrent (inUse (v .page))) (c .offset)) (decideOn v c size)
+unfolding decideOn perform
+read-shows v c size is =
+    past (nameOutside c) _ refl (λ _. past (frameOutside (v .frames) c) _ refl (λ _. past (spanOutside size c) _ refl (λ _.
+    rw is (past-standing (v .page) (mayRead (v .page) (c .station)) (λ _. past (eqb (currents (v .page)) 0) _ refl (λ _. if-accepted refl))))))
