@@ -1,4 +1,5 @@
--- The bytes of a frame in the joined stores, and what laying bytes does to them.
+-- The bytes of a frame in the joined stores. In order: a list in three pieces; bytes laid into one frame; a write, which lays into the
+-- frame of every CURRENT copy.
 use Prim.Native.Nat.{ℕ, _+_, _-_, _*_, _≤_, _<_}
 use mathlib.Core.Path.{_≡_, refl, sym, ap, ap₂, _∙_}
 use mathlib.Core.Logic.{_≢_}

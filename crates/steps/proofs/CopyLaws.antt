@@ -1,4 +1,5 @@
--- Loops over the copies of a page: what is still to be done is told by `drop j (inUse g)`.
+-- Loops over the copies of a page: what is still to be done is told by `drop j (inUse g)`. In order: one copy more; bytes laid into each
+-- CURRENT copy; the entries that show the copies.
 use Prim.Native.Nat.{ℕ, _+_, _*_, _≤_, _<_}
 use mathlib.Core.Path.{_≡_, refl, sym, ap, _∙_}
 use mathlib.Core.List.{List, [], _∷_}

@@ -1,7 +1,7 @@
 -- What is to be known of a call's plan, from one walk over the kinds. In order: what holds of an outcome if it is accepted; the
 -- CURRENT copies of a page; one plan of each form; the walk; the call on tables that keep the rules.
 use Prim.Native.Nat.{ℕ, _+_, _*_, _≤_, _<_, zero-le}
-use mathlib.Core.Path.{_≡_, refl, sym, ap, _∙_}
+use mathlib.Core.Path.{_≡_, refl, ap, _∙_}
 use mathlib.Core.Logic.{_≢_}
 use mathlib.Core.Bool.{Bool, true, false, not, _&&_, _||_, cond, false≢true}
 use mathlib.Core.List.{List, [], _∷_}
@@ -16,14 +16,14 @@ use Rattle.tables.specs.declared.Tables.{Tables}
 use Rattle.tables.specs.declared.Holder.{Holder}
 use Rattle.tables.specs.declared.Holder.the-variants.{At, Free}
 use Rattle.tables.specs.declared.Edit.{Edit}
-use Rattle.tables.specs.declared.Edit.the-variants.{Kept, Created, Deleted, Granted, Staled, Placed, Added, Removed, Marked}
+use Rattle.tables.specs.declared.Edit.the-variants.{Created, Deleted, Granted, Staled, Placed, Added, Removed, Marked}
 use Rattle.tables.specs.Lists.{all, count}
 use Rattle.tables.specs.Numbers.{noPage, noRight, noCopy}
 use Rattle.tables.specs.Model.{frames, isNull, inUse, absent, pageAt}
 use Rattle.tables.specs.Rules.{free, isCurrent, copyRule, sound}
 use Rattle.tables.specs.Search.{holderOf, isFree, shown}
 use Rattle.tables.proofs.ListLaws.{and-intro, and-left, and-right, or-left, or-right, all-imp, count-le}
-use Rattle.tables.proofs.RuleLaws.{GoodCopy, good-copy, current-frame, StandingPage, copy-at, length-in-use, sound-of, standing-at}
+use Rattle.tables.proofs.RuleLaws.{good-copy, current-frame, StandingPage, copy-at, length-in-use, sound-of, standing-at}
 use Rattle.tables.proofs.HolderLaws.{free-holder}
 use Rattle.tables.proofs.Allowed.{FrameOk, Allowed}
 use Rattle.steps.specs.declared.Kind.{Kind}
@@ -31,10 +31,10 @@ use Rattle.steps.specs.declared.Kind.the-variants.{Create, DeletePage, G
 use Rattle.steps.specs.declared.Call.{Call}
 use Rattle.steps.specs.declared.View.{View}
 use Rattle.steps.specs.declared.Work.{Work}
-use Rattle.steps.specs.declared.Work.the-variants.{Nothing, Clear, Duplicate, Spread, Show, ShowPage, ShowHolder}
+use Rattle.steps.specs.declared.Work.the-variants.{Clear, Duplicate, Spread, Show, ShowPage, ShowHolder}
 use Rattle.steps.specs.Kinds.{offset, bytes, frame, names, code, among, has}
 use Rattle.steps.specs.Calls.{nameOutside, frameOutside, badSpan, spanOutside}
-use Rattle.steps.specs.Steps.{Outcome, refuse, accept, test, mapped, Plan, editing, showing, laying, mayRead, mayWrite, owns, copyAt, currents, recents, firstCurrent, standing, numbered, copying, perform, decideOn, decide}
+use Rattle.steps.specs.Steps.{Outcome, refuse, accept, test, Plan, editing, showing, laying, mayRead, mayWrite, owns, copyAt, currents, recents, firstCurrent, standing, numbered, copying, perform, decideOn, decide}
 use Rattle.steps.specs.Effects.{shownOf}
 use Rattle.steps.specs.Promises.{currentWithin, workWithin}
 use Rattle.steps.proofs.StoreLaws.{length-frame-part}

@@ -2,7 +2,7 @@
 -- out; what a step leaves and replies; a decision carried out is the step; a read.
 use Prim.Native.Nat.{ℕ, _+_, _/_, _%_, _*_, _≤_, _<_, zero-le}
 use mathlib.Core.Path.{_≡_, refl, sym, ap, _∙_, subst}
-use mathlib.Core.Bool.{Bool, true, false, not, _&&_, cond}
+use mathlib.Core.Bool.{Bool, true, false, not, cond}
 use mathlib.Core.List.{List, [], _++_}
 use native.Mathlib.Omega.{arith}
 use lib.ListN.{length, take, drop, length-append, length-drop}
@@ -11,7 +11,6 @@ use lib.Dec.{leb, ltb, eqb}
 use borrow.Author.Tests.{ltb-true, leb-true, eqb-true, le-leb, eq-eqb, not-false}
 use Rattle.tables.specs.declared.Page.{Page}
 use Rattle.tables.specs.declared.Tables.{Tables}
-use Rattle.tables.specs.Lists.{all}
 use Rattle.tables.specs.Numbers.{accepted, brokenTables, misfitStore}
 use Rattle.tables.specs.Model.{frames, isNull, inUse, absent, pageAt}
 use Rattle.tables.specs.Rules.{sound}
@@ -27,7 +26,7 @@ use Rattle.steps.specs.declared.Decision.{Decision}
 use Rattle.steps.specs.Stores.{fits, part, block, held, zeros, over}
 use Rattle.steps.specs.Steps.{Outcome, refuse, accept, test, mapped, Plan, copyAt, firstCurrent, viewOf, decide, decideAny, numberOf}
 use Rattle.steps.specs.Effects.{laidIn, shownOf, State, joined, Result, carriedOut, step, left, laidBy, dataOf}
-use Rattle.steps.specs.Promises.{stateOf, rulesNumber, tablesAfter, Decides, Lent, lent, currentWithin, workWithin, within, carried, Stepped}
+use Rattle.steps.specs.Promises.{stateOf, rulesNumber, tablesAfter, Decides, Lent, lent, workWithin, within, carried, Stepped}
 use Rattle.steps.specs.Private.{Room}
 use Rattle.steps.proofs.StoreLaws.{length-part}
 use Rattle.steps.proofs.Blocks.{length-lay, length-write}
@@ -124,12 +123,12 @@ length-laid g ShowPage len limit bs st l e = refl
 length-laid g (ShowHolder h) len limit bs st l e = refl
 
 -- of an accepted call: the rules hold before it, and its plan is in order
-record Sure (s : State) (c : Call) (bs : List ℕ) (plan : Plan) : Type 0 where
-  good : Good s
-  plan-ok : PlanOk (s .tables) c (length bs) plan
+pub record Sure (s : State) (c : Call) (bs : List ℕ) (plan : Plan) : Type 0 where
+  pub good : Good s
+  pub plan-ok : PlanOk (s .tables) c (length bs) plan
 
 module _ (s : State) (c : Call) (bs : List ℕ) where
-  sure : IfAccepted (Sure s c bs) (decideAny (s .tables) (length (s .fast)) (length (s .slow)) c (length bs))
+  pub sure : IfAccepted (Sure s c bs) (decideAny (s .tables) (length (s .fast)) (length (s .slow)) c (length bs))
   sure =
       past (not (sound (s .tables))) _ refl (λ e₅. past (not (fits (s .tables) (length (s .fast)) (length (s .slow)))) _ refl (λ e₆.
       then-keeps (λ plan k. record { good = record { tables-sound = not-false _ e₅; stores-fit = not-false _ e₆ }; plan-ok = k })

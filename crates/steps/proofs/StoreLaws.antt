@@ -1,4 +1,4 @@
--- The laws of `part` and `splice`, and of the frames of two stores that stand as one list.
+-- Lists of bytes. In order: a part of a list; bytes laid into a list; the frames of two stores that stand as one list.
 use Prim.Native.Nat.{ℕ, suc, _+_, _-_, _*_, _≤_, _<_}
 use mathlib.Core.Path.{_≡_, sym, ap, _∙_}
 use mathlib.Core.List.{List, [], _∷_, _++_, append-assoc, append-nil}

@@ -1,4 +1,4 @@
--- The answer is that of the copies from j on.
+-- `current_within`. The answer is that of the copies from j on.
 use Prim.Native.Nat.{_-_, _≤_}
 use mathlib.Core.Path.{_≡_, refl, sym, _∙_}
 use native.Mathlib.Omega.{arith}

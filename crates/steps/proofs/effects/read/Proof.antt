@@ -1,4 +1,4 @@
--- The work of a read is to show a part of a frame, or it is refused and there is none (`shown-part`, `none-read`).
+-- `read`: an accepted read shows a part of a frame (`shown-part`), and a refused one has no data (`none-read`).
 use mathlib.Core.Path.{refl, sym, _∙_}
 use mathlib.Core.List.{[], _∷_}
 use types.Run.{miss}

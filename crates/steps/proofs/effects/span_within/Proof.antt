@@ -1,4 +1,4 @@
--- The sum is not needed where the offset is in range.
+-- `span_within`: the sum is not needed where the offset is in range.
 use Prim.Native.Nat.{_+_, _-_}
 use mathlib.Core.Path.{sym}
 use native.Mathlib.Omega.{arith}

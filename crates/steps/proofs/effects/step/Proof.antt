@@ -1,4 +1,4 @@
--- A decision on any tables and stores, carried out, is the step (`carries`).
+-- `step`: a decision on any tables and stores, carried out, is the step (`carries`).
 use Rattle.steps.specs.Promises.{stateOf}
 use Rattle.steps.proofs.StepLaws.{carries, stepped}
 use borrow.Author.Needs.{needs}

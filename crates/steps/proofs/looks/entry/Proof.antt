@@ -1,4 +1,4 @@
--- `steps::looks::entry` meets its contract.
+-- `entry`: the frame, and the two marks as `bit_of` tells them.
 use Rattle.steps.specs.Effects.{entries}
 use borrow.Author.Needs.{needs}
 use Rattle.steps.proofs.looks.entry.Statement.{statement}

@@ -1,4 +1,4 @@
--- The bytes of the holder, laid at the front.
+-- `show_holder`: the bytes of the holder, laid at the front.
 use Prim.Native.Nat.{ℕ}
 use mathlib.Core.Path.{ap, _∙_}
 use mathlib.Core.List.{List}

@@ -1,4 +1,4 @@
--- The invariant: the entries that are still to be laid give the whole.
+-- `show_page`. The invariant: the entries that are still to be laid give the whole.
 use Prim.Native.Nat.{_+_, _-_, _*_, _≤_}
 use mathlib.Core.Path.{_≡_, refl, ap, _∙_}
 use native.Mathlib.Omega.{arith}

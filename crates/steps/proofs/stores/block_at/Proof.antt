@@ -1,4 +1,4 @@
--- `steps::stores::block_at` meets its contract.
+-- `block_at`: all of a local array is laid over.
 use mathlib.Core.Path.{_≡_, _∙_}
 use Prim.Native.Nat.{_+_, _-_}
 use native.Mathlib.Omega.{arith}

@@ -1,4 +1,4 @@
--- `steps::stores::copy_frame` meets its contract.
+-- `copy_frame`: what `load` reads, `lay_frame` lays.
 use borrow.Author.Needs.{needs}
 use Rattle.steps.proofs.stores.copy_frame.Statement.{statement}
 use Rattle.steps.proofs.stores.copy_frame.Tie as tie

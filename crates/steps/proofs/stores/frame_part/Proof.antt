@@ -1,4 +1,4 @@
--- `steps::stores::frame_part` meets its contract.
+-- `frame_part`: a part of the fast store or of the slow one is a part of the frame in the joined stores.
 use mathlib.Core.Path.{sym, _∙_}
 use Prim.Native.Nat.{_+_, _-_, _*_}
 use native.Mathlib.Omega.{arith}

@@ -1,4 +1,4 @@
--- Where the copy is CURRENT, what `lay_frame` ensures; else nothing is laid.
+-- `lay_copy`: where the copy is CURRENT, what `lay_frame` ensures; else nothing is laid.
 use mathlib.Core.Path.{_∙_}
 use Rattle.steps.specs.Stores.{layCurrent}
 use borrow.Author.Needs.{needs}

@@ -1,4 +1,4 @@
--- The invariant: what is still to be laid gives the whole.
+-- `lay_current`. The invariant: what is still to be laid gives the whole.
 use Prim.Native.Nat.{_-_, _≤_}
 use mathlib.Core.Path.{_≡_, refl, _∙_}
 use mathlib.Core.List.{_++_}

@@ -1,4 +1,4 @@
--- `steps::stores::lay_frame` meets its contract.
+-- `lay_frame`: bytes laid into the fast store or into the slow one are laid into the joined stores.
 use native.Mathlib.Omega.{arith}
 use Rattle.steps.proofs.StoreLaws.{lay-fast, lay-slow}
 use borrow.Author.Needs.{needs}

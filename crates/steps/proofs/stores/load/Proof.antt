@@ -1,4 +1,4 @@
--- `steps::stores::load` meets its contract.
+-- `load`: the frame's part of the fast store or of the slow one is its part of the joined stores.
 use mathlib.Core.Path.{_≡_, _∙_, sym}
 use Prim.Native.Nat.{_+_, _-_, _*_}
 use native.Mathlib.Omega.{arith}

@@ -1,4 +1,4 @@
--- `steps::stores::put` meets its contract. The invariant: the first j bytes of src are laid.
+-- `put`. The invariant: the first j bytes of src are laid.
 use Rattle.steps.proofs.StoreLaws.{pasted}
 use mathlib.Core.Path.{_≡_, refl, _∙_}
 use Prim.Native.Nat.{_+_, _-_, _≤_, _<_}
