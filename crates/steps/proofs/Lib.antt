@@ -3,3 +3,10 @@ pub mod RangeLaws
 pub mod CountLaws
 pub mod VerdictLaws
 pub mod JudgeLaws
+pub mod StoreLaws
+pub mod CopyLaws
+pub mod Blocks
+pub mod CarryLaws
+pub mod DecideLaws
+pub mod StepLaws
+pub mod ToldLaws
