@@ -7,3 +7,10 @@ pub mod ByRef
 pub mod Rows
 pub mod SearchLaws
 pub mod Sizes
+pub mod StoreLaws
+pub mod CopyLaws
+pub mod Blocks
+pub mod CarryLaws
+pub mod DecideLaws
+pub mod StepLaws
+pub mod ToldLaws

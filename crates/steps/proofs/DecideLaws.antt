@@ -1,0 +1,235 @@
+-- What is to be known of a call's plan, from one walk over the kinds. In order: what holds of an outcome if it is accepted; the
+-- CURRENT copies of a page; one plan of each form; the walk; the call on tables that keep the rules.
+use Prim.Native.Nat.{ℕ, _+_, _*_, _≤_, _<_, zero-le}
+use mathlib.Core.Path.{_≡_, refl, ap, _∙_}
+use mathlib.Core.Logic.{_≢_}
+use mathlib.Core.Bool.{Bool, true, false, not, _&&_, _||_, cond, false≢true}
+use mathlib.Core.List.{List, [], _∷_}
+use native.Mathlib.Nat.{mul-le-mul}
+use native.Mathlib.Omega.{arith}
+use lib.ListN.{length}
+use lib.Dec.{leb, ltb, eqb}
+use borrow.Author.Tests.{ltb-false, leb-false, eqb-false, lt-ltb, le-leb, lt-leb, not-true, not-false}
+use Rattle.tables.specs.declared.Copy.{Copy}
+use Rattle.tables.specs.declared.Page.{Page}
+use Rattle.tables.specs.declared.Tables.{Tables}
+use Rattle.tables.specs.declared.Holder.{Holder}
+use Rattle.tables.specs.declared.Holder.the-variants.{At, Free}
+use Rattle.tables.specs.declared.Edit.{Edit}
+use Rattle.tables.specs.declared.Edit.the-variants.{Created, Deleted, Granted, Staled, Placed, Added, Removed, Marked}
+use Rattle.tables.specs.Lists.{all, count}
+use Rattle.tables.specs.Numbers.{noPage, noRight, noCopy}
+use Rattle.tables.specs.Model.{frames, isNull, inUse, absent, pageAt}
+use Rattle.tables.specs.Rules.{free, isCurrent, copyRule, sound}
+use Rattle.tables.specs.Search.{holderOf, isFree, shown}
+use Rattle.tables.proofs.ListLaws.{and-intro, and-left, and-right, or-left, or-right, all-imp, count-le}
+use Rattle.tables.proofs.RuleLaws.{good-copy, current-frame, StandingPage, copy-at, length-in-use, sound-of, standing-at}
+use Rattle.tables.proofs.HolderLaws.{free-holder}
+use Rattle.tables.proofs.Allowed.{FrameOk, Allowed}
+use Rattle.steps.specs.declared.Kind.{Kind}
+use Rattle.steps.specs.declared.Kind.the-variants.{Create, DeletePage, Grant, Read, Write, MakeCopy, DeleteCopy, SetCurrent, RemoveCurrent, LookPage, LookFrame}
+use Rattle.steps.specs.declared.Call.{Call}
+use Rattle.steps.specs.declared.View.{View}
+use Rattle.steps.specs.declared.Work.{Work}
+use Rattle.steps.specs.declared.Work.the-variants.{Clear, Duplicate, Spread, Show, ShowPage, ShowHolder}
+use Rattle.steps.specs.Kinds.{offset, bytes, frame, names, code, among, has}
+use Rattle.steps.specs.Calls.{nameOutside, frameOutside, badSpan, spanOutside}
+use Rattle.steps.specs.Steps.{Outcome, refuse, accept, test, Plan, editing, showing, laying, mayRead, mayWrite, owns, copyAt, currents, recents, firstCurrent, standing, numbered, copying, perform, decideOn, decide}
+use Rattle.steps.specs.Effects.{shownOf}
+use Rattle.steps.specs.Promises.{currentWithin, workWithin}
+use Rattle.steps.proofs.StoreLaws.{length-frame-part}
+use Rattle.steps.proofs.CopyLaws.{length-entries}
+
+-- ---- what holds of an outcome if it is accepted; the numbers that calls are turned back with go up to 17
+
+pub data IfAccepted {A : Type 0} (P : A → Type 0) : Outcome A → Type 0 where
+  if-refused : {n : ℕ} → leb n 17 ≡ true → IfAccepted P (refuse n)
+  if-accepted : {a : A} → P a → IfAccepted P (accept a)
+
+-- behind a test
+pub past : {A : Type 0} {P : A → Type 0} {o : Outcome A} (b : Bool) (n : ℕ) → leb n 17 ≡ true → (b ≡ false → IfAccepted P o)
+    → IfAccepted P (test b n o)
+past true n low h = if-refused low
+past false n low h = h refl
+
+-- behind 9 and 10
+past-standing : {P : Plan → Type 0} {o : Outcome Plan} (g : Page) (may : Bool) → (absent g ≡ false → IfAccepted P o)
+    → IfAccepted P (standing g may o)
+past-standing g may h = past (absent g) noPage refl (λ some. past (not may) noRight refl (λ _. h some))
+
+-- behind 9 and 12
+past-numbered : {P : Plan → Type 0} {o : Outcome Plan} (g : Page) (k : ℕ) → (absent g ≡ false → k < g .n → IfAccepted P o)
+    → IfAccepted P (numbered g k o)
+past-numbered g k h = past (absent g) noPage refl (λ some. past (leb (g .n) k) noCopy refl (λ less. h some (leb-false (g .n) k less)))
+
+-- what follows from it
+pub then-keeps : {A : Type 0} {P Q : A → Type 0} {o : Outcome A} → ((a : A) → P a → Q a) → IfAccepted P o → IfAccepted Q o
+then-keeps h (if-refused low) = if-refused low
+then-keeps h (if-accepted k) = if-accepted (h _ k)
+
+-- ---- the names of a call that passes number 7
+
+pub page-near : (c : Call) → nameOutside c ≡ false → c .page < 64
+page-near c e =
+    let k = ltb-false 63 (c .page) (or-right (ltb 15 (c .station)) _ (or-left (ltb 15 (c .station) || ltb 63 (c .page)) _ e)) in
+    omega arith
+
+pub span-within : (o n : ℕ) → badSpan o n ≡ false → o + n ≤ 64
+span-within o n e = ltb-false 64 (o + n) (or-right (eqb n 0) _ (or-right (ltb 63 o) _ e))
+
+-- ---- the CURRENT copies of a page that stands
+
+module _ {limit : ℕ} where
+  -- are on frames below the limit
+  pub currents-within : {g : Page} → StandingPage limit g → all (currentWithin limit) (inUse g) ≡ true
+  currents-within {g} s = all-imp (copyRule limit (g .n)) (currentWithin limit) (inUse g) one (s .copies-ok)
+    where
+      one : (c : Copy) → copyRule limit (g .n) c ≡ true → currentWithin limit c ≡ true
+      one c e = go (c .current) refl
+        where
+          go : (u : Bool) → c .current ≡ u → not (u && leb limit (c .frame)) ≡ true
+          go true q = ap not (lt-leb limit (c .frame) (current-frame (good-copy limit (g .n) c e) q))
+          go false q = refl
+
+  -- the frame of the first, where there is one
+  first-low : (cs : List Copy) → all (currentWithin limit) cs ≡ true → 1 ≤ count isCurrent cs → firstCurrent cs < limit
+  unfolding all count firstCurrent
+  first-low [] e h = absurd (omega arith)
+  first-low (c ∷ cs) e h = go (c .current) (and-left (currentWithin limit c) _ e) (first-low cs (and-right (currentWithin limit c) _ e)) h
+    where
+      go : (u : Bool) → not (u && leb limit (c .frame)) ≡ true → (1 ≤ count isCurrent cs → firstCurrent cs < limit)
+          → 1 ≤ cond u 1 0 + count isCurrent cs → cond u (c .frame) (firstCurrent cs) < limit
+      go true q k h = leb-false limit (c .frame) (not-true (leb limit (c .frame)) q)
+      go false q k h = k (omega arith)
+
+-- ---- one plan
+
+-- what is known of the plan of a call on page g of tables t: its edit is allowed, what it lays and shows fits, and lies within the frames
+pub record PlanOk (t : Tables) (c : Call) (size : ℕ) (plan : Plan) : Type 0 where
+  pub near : c .page < 64
+  pub allowed : Allowed t (c .page) (plan .edit)
+  pub short : plan .len ≤ 64
+  pub laid-fits : plan .laid ≤ 512
+  pub inside : workWithin (pageAt t (c .page)) (plan .len) (frames t) size (plan .work) ≡ true
+  pub shows : (st : List ℕ) → length st ≡ 64 * frames t → length (shownOf (pageAt t (c .page)) (plan .work) (plan .len) st) ≡ plan .len
+
+module _ (t : Tables) (c : Call) (size : ℕ) (near : c .page < 64)
+    (stands : absent (pageAt t (c .page)) ≡ false → StandingPage (frames t) (pageAt t (c .page))) where
+  abbrev g : Page
+  g = pageAt t (c .page)
+
+  -- one that only edits, shows or lays
+  edit-ok : (e : Edit) → Allowed t (c .page) e → IfAccepted (PlanOk t c size) (editing e)
+  unfolding shownOf
+  edit-ok e a =
+      if-accepted (record { near = near; allowed = a; short = zero-le; laid-fits = zero-le; inside = refl; shows = λ st l. refl })
+
+  show-ok : (len : ℕ) (w : Work) → len ≤ 64 → workWithin g len (frames t) size w ≡ true
+      → ((st : List ℕ) → length st ≡ 64 * frames t → length (shownOf g w len st) ≡ len)
+      → IfAccepted (PlanOk t c size) (showing len w)
+  show-ok len w short inside shows =
+      if-accepted (record { near = near; allowed = tt; short = short; laid-fits = zero-le; inside = inside; shows = shows })
+
+  lay-ok : (e : Edit) (laid : ℕ) (w : Work) → Allowed t (c .page) e → laid ≤ 512
+      → workWithin g 0 (frames t) size w ≡ true → ((st : List ℕ) → length (shownOf g w 0 st) ≡ 0)
+      → IfAccepted (PlanOk t c size) (laying e laid w)
+  lay-ok e laid w a few inside none =
+      if-accepted (record { near = near; allowed = a; short = zero-le; laid-fits = few; inside = inside; shows = λ st l. none st })
+
+  -- ---- the walk
+
+  copy-ok : (k f : ℕ) → k < g .n → f < frames t → free t f ≡ true → absent g ≡ false
+      → g .n ≢ 8 → IfAccepted (PlanOk t c size) (copying (copyAt g k) f)
+  unfolding shownOf
+  copy-ok k f less low spare some room =
+      go (isNull (copyAt g k)) refl (copy-at (stands some) k less .placed)
+    where
+      onto : FrameOk t f
+      onto = record { in-range = low; unused = spare }
+
+      go : (z : Bool) → isNull (copyAt g k) ≡ z → (z ≡ false → copyAt g k .frame < frames t)
+          → IfAccepted (PlanOk t c size) (cond z (laying (Placed f) 64 (Clear f))
+          (laying (Added f (copyAt g k .recent)) 64 (Duplicate (copyAt g k .frame) f)))
+      go true e at = lay-ok (Placed f) 64 (Clear f) (record { onto = onto; stands = some }) (omega arith) (lt-ltb f (frames t) low) (λ st. refl)
+      go false e at =
+          lay-ok (Added f _) 64 (Duplicate _ f)
+          (record { onto = onto; room = omega (arith, stands some .most); from = k; from-in = less; from-placed = e }) (omega arith)
+          (and-intro (lt-ltb _ (frames t) (at refl)) (lt-ltb f (frames t) low)) (λ st. refl)
+
+  perform-ok : (k : Kind) → nameOutside c ≡ false → (has frame k && leb (frames t) (c .frame)) ≡ false
+      → (has offset k && badSpan (c .offset) (cond (has bytes k) size (c .count))) ≡ false
+      → IfAccepted (PlanOk t c size)
+      (perform (record { frames = frames t; page = g; holder = cond (has frame k) (holderOf t (c .frame)) Free }) c size k)
+  unfolding perform shownOf names code among
+  perform-ok Create name far span =
+      let low = ltb-false 15 (c .station) (or-left (ltb 15 (c .station)) _ (or-left (ltb 15 (c .station) || ltb 63 (c .page)) _ name)) in
+      past (not (absent g)) _ refl (λ _. edit-ok (Created (c .station)) (omega arith))
+  perform-ok DeletePage name far span =
+      past-standing g (owns g (c .station)) (λ _. edit-ok Deleted tt)
+  perform-ok Grant name far span =
+      let low = ltb-false 2 (c .right) (or-right (ltb 15 (c .other)) _ (or-right (ltb 15 (c .station) || ltb 63 (c .page)) _ name)) in
+      past-standing g (owns g (c .station)) (λ some.
+      edit-ok (Granted (c .other) (c .right)) (record { stands = some; low = low }))
+  perform-ok Read name far span =
+      past-standing g (mayRead g (c .station)) (λ some.
+      past (eqb (currents g) 0) _ refl (λ e.
+      let ne = eqb-false (currents g) 0 e in
+      let low = first-low (inUse g) (currents-within (stands some)) (omega arith) in
+      let span = span-within (c .offset) (c .count) span in
+      show-ok (c .count) (Show _ (c .offset)) (omega arith) (and-intro (lt-ltb _ (frames t) low) (le-leb (c .offset + c .count) 64 span))
+      (λ st l. length-frame-part st _ (c .offset) (c .count) (omega arith) span)))
+  perform-ok Write name far span =
+      past-standing g (mayWrite g (c .station)) (λ some.
+      past (eqb (currents g) 0) _ refl (λ e.
+      let ne = eqb-false (currents g) 0 e in
+      let span = span-within (c .offset) size span in
+      let few = count-le isCurrent (inUse g) in
+      let most = stands some .most in
+      let long = length-in-use (stands some) in
+      lay-ok Staled (size * currents g) (Spread (c .offset)) (record { stands = some; written = omega arith })
+      (mul-le-mul {n₂ = 64} {m₂ = 8} (omega arith) (omega arith))
+      (and-intro (le-leb (c .offset + size) 64 span) (currents-within (stands some))) (λ st. refl)))
+  perform-ok MakeCopy name far span =
+      past-numbered g (c .copy) (λ some less. past (not (isFree (holderOf t (c .frame)))) _ refl (λ is.
+      past (eqb (g .n) 8) _ refl (λ room.
+      copy-ok (c .copy) (c .frame) less (leb-false (frames t) (c .frame) far) (free-holder t (c .frame) ∙ not-false _ is) some
+      (eqb-false (g .n) 8 room))))
+  perform-ok DeleteCopy name far span =
+      past-numbered g (c .copy) (λ _ less.
+      past (copyAt g (c .copy) .recent && eqb (recents g) 1) _ refl (λ last.
+      edit-ok (Removed (c .copy)) (record { in-use = less; not-last = last })))
+  perform-ok SetCurrent name far span =
+      past-numbered g (c .copy) (λ _ less. past (isNull (copyAt g (c .copy))) _ refl (λ full.
+      past (not (copyAt g (c .copy) .recent)) _ refl (λ new.
+      edit-ok (Marked (c .copy) true) (record { in-use = less; fresh = λ _. not-false _ new; placed = λ _. full }))))
+  perform-ok RemoveCurrent name far span =
+      past-numbered g (c .copy) (λ _ less.
+      edit-ok (Marked (c .copy) false) (record { in-use = less; fresh = λ e. absurd (false≢true e); placed = λ e. absurd (false≢true e) }))
+  perform-ok LookPage name far span =
+      past (absent g) _ refl (λ some.
+      let most = stands some .most in
+      let long = length-in-use (stands some) in
+      let data-long = length-entries (inUse g) in
+      show-ok (1 + 3 * length (inUse g)) ShowPage (omega arith) refl (λ st l. omega arith))
+  perform-ok LookFrame name far span = show-ok 3 (ShowHolder _) (omega arith) refl (λ st l. three (holderOf t (c .frame)))
+    where
+      three : (h : Holder) → length (shown h) ≡ 3
+      three (At p k) = refl
+      three Free = refl
+
+-- ---- a call on tables that keep the rules
+
+pub decide-ok : (t : Tables) (c : Call) (size : ℕ) → sound t ≡ true → IfAccepted (PlanOk t c size) (decide t c size)
+unfolding decideOn
+decide-ok t c size e =
+    past (nameOutside c) _ refl (λ name. past (frameOutside (frames t) c) _ refl (λ far. past (spanOutside size c) _ refl (λ span.
+    let near = page-near c name in
+    perform-ok t c size near (λ some. standing-at t (c .page) (sound-of t e) near some) (c .kind) name far span)))
+
+-- an accepted read shows bytes of the lowest-numbered CURRENT copy
+pub read-shows : (v : View) (c : Call) (size : ℕ) → c .kind ≡ Read
+    → IfAccepted (λ (plan : Plan). plan .work ≡ Show (firstCurrent (inUse (v .page))) (c .offset)) (decideOn v c size)
+unfolding decideOn perform
+read-shows v c size is =
+    past (nameOutside c) _ refl (λ _. past (frameOutside (v .frames) c) _ refl (λ _. past (spanOutside size c) _ refl (λ _.
+    rw is (past-standing (v .page) (mayRead (v .page) (c .station)) (λ _. past (eqb (currents (v .page)) 0) _ refl (λ _. if-accepted refl))))))

@@ -1,0 +1,316 @@
+-- What the step layer gives to the layers above. In order: tables and stores that keep the rules; what 5 and 6 come to; a plan carried
+-- out; what a step leaves and replies; a decision carried out is the step; a read.
+use Prim.Native.Nat.{ℕ, _+_, _/_, _%_, _*_, _≤_, _<_, zero-le}
+use mathlib.Core.Path.{_≡_, refl, sym, ap, _∙_, subst}
+use mathlib.Core.Bool.{Bool, true, false, not, cond}
+use mathlib.Core.List.{List, [], _++_}
+use native.Mathlib.Omega.{arith}
+use lib.ListN.{length, take, drop, length-append, length-drop}
+use lib.Seq.{length-take-le, take-append-seam, drop-append-seam}
+use lib.Dec.{leb, ltb, eqb}
+use borrow.Author.Tests.{ltb-true, leb-true, eqb-true, le-leb, eq-eqb, not-false}
+use Rattle.tables.specs.declared.Page.{Page}
+use Rattle.tables.specs.declared.Tables.{Tables}
+use Rattle.tables.specs.Numbers.{accepted, brokenTables, misfitStore}
+use Rattle.tables.specs.Model.{frames, isNull, inUse, absent, pageAt}
+use Rattle.tables.specs.Rules.{sound}
+use Rattle.tables.specs.Changes.{after}
+use Rattle.tables.proofs.ListLaws.{and-intro, and-left, and-right}
+use Rattle.tables.proofs.RuleLaws.{StandingPage, copy-at, sound-of, standing-at}
+use Rattle.tables.proofs.ChangeSound.{sound-after}
+use Rattle.steps.specs.declared.Kind.the-variants.{Read}
+use Rattle.steps.specs.declared.Call.{Call}
+use Rattle.steps.specs.declared.Work.{Work}
+use Rattle.steps.specs.declared.Work.the-variants.{Nothing, Clear, Duplicate, Spread, Show, ShowPage, ShowHolder}
+use Rattle.steps.specs.declared.Decision.{Decision}
+use Rattle.steps.specs.Stores.{fits, part, block, held, zeros, over}
+use Rattle.steps.specs.Steps.{Outcome, refuse, accept, test, mapped, Plan, copyAt, firstCurrent, viewOf, decide, decideAny, numberOf}
+use Rattle.steps.specs.Effects.{laidIn, shownOf, State, joined, Result, carriedOut, step, left, laidBy, dataOf}
+use Rattle.steps.specs.Promises.{stateOf, rulesNumber, tablesAfter, Decides, Lent, lent, workWithin, within, carried, Stepped}
+use Rattle.steps.specs.Private.{Room}
+use Rattle.steps.proofs.StoreLaws.{length-part}
+use Rattle.steps.proofs.Blocks.{length-lay, length-write}
+use Rattle.steps.proofs.CarryLaws.{framesIn, lent-same}
+use Rattle.steps.proofs.DecideLaws.{IfAccepted, if-refused, if-accepted, past, then-keeps, PlanOk, decide-ok, read-shows}
+
+-- ---- tables and stores that keep the rules
+
+pub record Good (s : State) : Type 0 where
+  pub tables-sound : sound (s .tables) ≡ true
+  pub stores-fit : fits (s .tables) (length (s .fast)) (length (s .slow)) ≡ true
+
+-- both stores are as long as the tables say
+pub fit-lengths : (t : Tables) (x y : ℕ) → fits t x y ≡ true → (x ≡ 64 * t .shared .p) × (y ≡ 64 * t .shared .s)
+unfolding fits
+fit-lengths t x y f =
+    let one = eqb x (64 * t .shared .p) in
+    (eqb-true _ _ (and-left one _ f), eqb-true _ _ (and-right one _ f))
+
+pub joined-long : {s : State} → Good s → length (joined s) ≡ 64 * frames (s .tables)
+joined-long {s} i =
+    let l = fit-lengths (s .tables) (length (s .fast)) (length (s .slow)) (i .stores-fit) in
+    simp length-append (omega arith)
+
+pub page-stands : {s : State} → Good s → (p : ℕ) → p < 64 → absent (pageAt (s .tables) p) ≡ false
+    → StandingPage (frames (s .tables)) (pageAt (s .tables) p)
+page-stands {s} i p h some = standing-at (s .tables) p (sound-of (s .tables) (i .tables-sound)) h some
+
+-- what copy k of a page that stands holds is 64 bytes
+pub length-held : {limit : ℕ} {g : Page} → StandingPage limit g → (st : List ℕ) → length st ≡ 64 * limit → (k : ℕ) → k < g .n
+    → length (held st (copyAt g k)) ≡ 64
+length-held {limit} {g} d st long k h = go (isNull (copyAt g k)) (copy-at d k h .placed)
+  where
+    go : (z : Bool) → (z ≡ false → copyAt g k .frame < limit) → length (cond z zeros (block st (copyAt g k .frame))) ≡ 64
+    go true f = refl
+    go false f = let l = f refl in length-part st (64 * copyAt g k .frame) 64 (omega arith)
+
+-- ---- 5 and 6
+
+ruled : (t : Tables) (x y : ℕ) → rulesNumber t x y ≡ accepted → (sound t ≡ true) × (fits t x y ≡ true)
+ruled t x y e = go (sound t) (fits t x y) e
+  where
+    go : (a b : Bool) → cond a (cond b accepted misfitStore) brokenTables ≡ accepted → (a ≡ true) × (b ≡ true)
+    go true true e = (refl, refl)
+    go true false e = absurd (omega arith)
+    go false b e = absurd (omega arith)
+
+-- neither applies to what keeps the rules
+pub rules-good : {s : State} → rulesNumber (s .tables) (length (s .fast)) (length (s .slow)) ≡ accepted → Good s
+rules-good {s} e =
+    let k = ruled (s .tables) (length (s .fast)) (length (s .slow)) e in
+    record { tables-sound = k .0; stores-fit = k .1 }
+
+pub good-rules : {s : State} → Good s → rulesNumber (s .tables) (length (s .fast)) (length (s .slow)) ≡ accepted
+good-rules i = rw (i .tables-sound, i .stores-fit)
+
+-- a decision then needs no test of them
+pub decide-ruled : (t : Tables) (fl sl : ℕ) (c : Call) (size : ℕ) → rulesNumber t fl sl ≡ accepted → decideAny t fl sl c size ≡ decide t c size
+decide-ruled t fl sl c size e = let k = ruled t fl sl e in rw (k .0, k .1)
+
+-- where one applies, it is the number of every call
+pub step-unruled : (s : State) (c : Call) (bs : List ℕ) (n : ℕ) → rulesNumber (s .tables) (length (s .fast)) (length (s .slow)) ≡ n
+    → (n ≡ accepted → ⊥) → step s c bs ≡ refuse n
+unfolding step
+step-unruled s c bs n = go (sound (s .tables)) (fits (s .tables) (length (s .fast)) (length (s .slow))) (decide (s .tables) c (length bs))
+  where
+    go : (a b : Bool) (o : Outcome Plan) → cond a (cond b accepted misfitStore) brokenTables ≡ n → (n ≡ accepted → ⊥)
+        → mapped (carriedOut s c bs) (test (not a) brokenTables (test (not b) misfitStore o)) ≡ refuse n
+    go true true o e ne = absurd (ne (sym e))
+    go true false o e ne = ap refuse e
+    go false b o e ne = ap refuse e
+
+-- ---- a plan carried out
+
+-- a work within the frames keeps the length of the stores
+length-laid : (g : Page) (w : Work) (len limit : ℕ) (bs st : List ℕ) → length st ≡ 64 * limit → workWithin g len limit (length bs) w ≡ true
+    → length (laidIn g w bs st) ≡ length st
+unfolding laidIn
+length-laid g Nothing len limit bs st l e = refl
+length-laid g (Clear f) len limit bs st l e =
+    let h = ltb-true f limit e in
+    length-lay st f (omega arith) 0 zeros (omega arith)
+length-laid g (Duplicate from to) len limit bs st l e =
+    let h = ltb-true from limit (and-left (ltb from limit) _ e) in
+    let k = ltb-true to limit (and-right (ltb from limit) _ e) in
+    let b = length-part st (64 * from) 64 (omega arith) in
+    length-lay st to (omega arith) 0 (block st from) (omega arith)
+length-laid g (Spread o) len limit bs st l e =
+    length-write limit o bs (leb-true (o + length bs) 64 (and-left (leb (o + length bs) 64) _ e)) (inUse g) st l
+    (and-right (leb (o + length bs) 64) _ e)
+    ∙ sym l
+length-laid g (Show f o) len limit bs st l e = refl
+length-laid g ShowPage len limit bs st l e = refl
+length-laid g (ShowHolder h) len limit bs st l e = refl
+
+-- of an accepted call: the rules hold before it, and its plan is in order
+pub record Sure (s : State) (c : Call) (bs : List ℕ) (plan : Plan) : Type 0 where
+  pub good : Good s
+  pub plan-ok : PlanOk (s .tables) c (length bs) plan
+
+module _ (s : State) (c : Call) (bs : List ℕ) where
+  pub sure : IfAccepted (Sure s c bs) (decideAny (s .tables) (length (s .fast)) (length (s .slow)) c (length bs))
+  sure =
+      past (not (sound (s .tables))) _ refl (λ e₅. past (not (fits (s .tables) (length (s .fast)) (length (s .slow)))) _ refl (λ e₆.
+      then-keeps (λ plan k. record { good = record { tables-sound = not-false _ e₅; stores-fit = not-false _ e₆ }; plan-ok = k })
+      (decide-ok (s .tables) c (length bs) (not-false _ e₅))))
+
+  abbrev laidOut : Plan → List ℕ
+  laidOut plan = laidIn (pageAt (s .tables) (c .page)) (plan .work) bs (joined s)
+
+  both-long : (plan : Plan) → Sure s c bs plan
+      → (length (take (length (s .fast)) (laidOut plan)) ≡ length (s .fast)) × (length (drop (length (s .fast)) (laidOut plan)) ≡ length (s .slow))
+  both-long plan u =
+      let l = length-laid (pageAt (s .tables) (c .page)) (plan .work) (plan .len) (frames (s .tables)) bs (joined s) (joined-long (u .good)) (u .plan-ok .inside) in
+      let j = length-append (s .fast) (s .slow) in
+      (length-take-le (length (s .fast)) (laidOut plan) (omega arith), length-drop (length (s .fast)) (laidOut plan) ∙ omega arith)
+
+  -- ---- what a step leaves and replies
+
+  -- the lengths of the stores, whatever the tables are
+  pub step-long : (length (left s (step s c bs) .fast) ≡ length (s .fast)) × (length (left s (step s c bs) .slow) ≡ length (s .slow))
+  unfolding step
+  step-long = go _ sure
+    where
+      go : (o : Outcome Plan) → IfAccepted (Sure s c bs) o
+          → (length (left s (mapped (carriedOut s c bs) o) .fast) ≡ length (s .fast))
+          × (length (left s (mapped (carriedOut s c bs) o) .slow) ≡ length (s .slow))
+      go (refuse n) k = (refl, refl)
+      go (accept plan) (if-accepted u) = both-long plan u
+
+  -- what keeps the rules is left so
+  pub step-good : Good s → Good (left s (step s c bs))
+  unfolding step fits after
+  step-good i = go _ sure
+    where
+      go : (o : Outcome Plan) → IfAccepted (Sure s c bs) o → Good (left s (mapped (carriedOut s c bs) o))
+      go (refuse n) k = i
+      go (accept plan) (if-accepted u) =
+          let l = fit-lengths (s .tables) (length (s .fast)) (length (s .slow)) (i .stores-fit) in
+          let b = both-long plan u in
+          record {
+            tables-sound = sound-after (s .tables) (c .page) (plan .edit) (u .plan-ok .near) (i .tables-sound) (u .plan-ok .allowed);
+            stores-fit = and-intro (eq-eqb _ _ (b .0 ∙ l .0)) (eq-eqb _ _ (b .1 ∙ l .1));
+          }
+
+  -- so every call keeps the rules
+  pub step-ruled : rulesNumber (s .tables) (length (s .fast)) (length (s .slow)) ≡ accepted
+      → rulesNumber (left s (step s c bs) .tables) (length (left s (step s c bs) .fast)) (length (left s (step s c bs) .slow)) ≡ accepted
+  step-ruled e = good-rules (step-good (rules-good e))
+
+  -- the data of a reply has 64 bytes at the most
+  pub data-short : length (dataOf (step s c bs)) ≤ 64
+  unfolding step
+  data-short = go _ sure
+    where
+      go : (o : Outcome Plan) → IfAccepted (Sure s c bs) o → length (dataOf (mapped (carriedOut s c bs) o)) ≤ 64
+      go (refuse n) k = zero-le
+      go (accept plan) (if-accepted u) = rw (u .plan-ok .shows (joined s) (joined-long (u .good))) (u .plan-ok .short)
+
+  -- every number is 0 or one of the table's that a call can be turned back with
+  pub step-number : numberOf (step s c bs) ≤ 17
+  unfolding step
+  step-number = go _ sure
+    where
+      go : (o : Outcome Plan) → IfAccepted (Sure s c bs) o → numberOf (mapped (carriedOut s c bs) o) ≤ 17
+      go (refuse n) (if-refused low) = leb-true n 17 low
+      go (accept plan) k = zero-le
+
+-- ---- a decision carried out
+
+pub record Carries (s : State) (c : Call) (bs out : List ℕ) (d : Decision) : Type 0 where
+  pub number-is : d .number ≡ numberOf (step s c bs)
+  pub laid-is : d .laid ≡ laidBy (step s c bs)
+  pub len-is : d .len ≡ length (dataOf (step s c bs))
+  pub tables-is : tablesAfter (s .tables) d ≡ left s (step s c bs) .tables
+  pub left-is : carried d bs (lent (s .fast) (s .slow) out)
+      ≡ lent (left s (step s c bs) .fast) (left s (step s c bs) .slow) (over (dataOf (step s c bs)) out)
+
+-- one with nothing to do leaves all as lent
+carried-nothing : (d : Decision) (bs x y out : List ℕ) → d .work ≡ Nothing → carried d bs (lent x y out) ≡ lent x y out
+unfolding carried laidIn shownOf
+carried-nothing d bs x y out e = go (within d (length bs) (lent x y out))
+  where
+    go : (b : Bool)
+        → cond b (lent (take (length x) (laidIn (d .before) (d .work) bs (x ++ y))) (drop (length x) (laidIn (d .before) (d .work) bs (x ++ y)))
+        (over (shownOf (d .before) (d .work) (d .len) (x ++ y)) out)) (lent x y out)
+        ≡ lent x y out
+    go true = rw e (lent-same (take-append-seam x y) (drop-append-seam x y) refl)
+    go false = refl
+
+-- one made on what keeps the rules lies within it
+pub decided-within : (s : State) (c : Call) (size : ℕ) (out : List ℕ) (d : Decision) → Good s → 64 ≤ length out
+    → Decides (s .tables) c (decide (s .tables) c size) d → within d size (lent (s .fast) (s .slow) out) ≡ true
+decided-within s c size out d i room q =
+    let l = fit-lengths (s .tables) (length (s .fast)) (length (s .slow)) (i .stores-fit) in
+    let same : framesIn (s .fast) (s .slow) ≡ frames (s .tables) = omega arith in
+    and-intro (le-leb 64 (length out) room) (and-intro (eq-eqb (length (s .fast) % 64) 0 (omega arith))
+    (rw same (go _ (decide-ok (s .tables) c size (i .tables-sound)) q)))
+  where
+    go : (o : Outcome Plan) → IfAccepted (PlanOk (s .tables) c size) o → Decides (s .tables) c o d
+        → workWithin (d .before) (d .len) (frames (s .tables)) size (d .work) ≡ true
+    go (refuse n) k q = rw (q .work-told) refl
+    go (accept plan) (if-accepted u) q = rw (q .before-told refl, q .len-told, q .work-told) (u .inside)
+
+-- and a decision on any tables and stores, carried out, is the step
+pub carries : (s : State) (c : Call) (bs out : List ℕ) (d : Decision) → 64 ≤ length out
+    → Decides (s .tables) c (decideAny (s .tables) (length (s .fast)) (length (s .slow)) c (length bs)) d → Carries s c bs out d
+unfolding step carried
+carries s c bs out d room q = go _ refl (sure s c bs) q
+  where
+    told : (r : Outcome Result) → step s c bs ≡ r → d .number ≡ numberOf r → d .laid ≡ laidBy r → d .len ≡ length (dataOf r)
+        → tablesAfter (s .tables) d ≡ left s r .tables
+        → carried d bs (lent (s .fast) (s .slow) out) ≡ lent (left s r .fast) (left s r .slow) (over (dataOf r) out) → Carries s c bs out d
+    told r e n l k t w =
+        record {
+          number-is = n ∙ sym (ap numberOf e);
+          laid-is = l ∙ sym (ap laidBy e);
+          len-is = k ∙ sym (ap (λ (o : Outcome Result). length (dataOf o)) e);
+          tables-is = t ∙ sym (ap (λ (o : Outcome Result). left s o .tables) e);
+          left-is = w ∙ sym (ap (λ (o : Outcome Result). lent (left s o .fast) (left s o .slow) (over (dataOf o) out)) e);
+        }
+
+    go : (o : Outcome Plan) → step s c bs ≡ mapped (carriedOut s c bs) o → IfAccepted (Sure s c bs) o → Decides (s .tables) c o d
+        → Carries s c bs out d
+    go (refuse n) e k p =
+        told (refuse n) e (p .number-told) (p .laid-told) (p .len-told) (p .tables-told) (carried-nothing d bs (s .fast) (s .slow) out (p .work-told))
+    go (accept plan) e (if-accepted u) p =
+        let inside = decided-within s c (length bs) out d (u .good) room
+        (subst (λ (o : Outcome Plan). Decides (s .tables) c o d) (decide-ruled (s .tables) _ _ c (length bs) (good-rules (u .good))) q) in
+        told (accept (carriedOut s c bs plan)) e (p .number-told) (p .laid-told)
+        (p .len-told ∙ sym (u .plan-ok .shows (joined s) (joined-long (u .good)))) (p .tables-told)
+        (rw (inside, p .before-told refl, p .work-told, p .len-told))
+
+-- so it has what `step` promises, with the tables that it leaves
+pub stepped : (s : State) (c : Call) (bs out : List ℕ) (d : Decision) → Carries s c bs out d → (t′ : Tables) (x′ y′ out′ : List ℕ)
+    → t′ ≡ tablesAfter (s .tables) d → lent x′ y′ out′ ≡ carried d bs (lent (s .fast) (s .slow) out)
+    → Stepped s (step s c bs) out (stateOf t′ x′ y′) out′ (record { number = d .number; laid = d .laid; len = d .len; tables = t′ })
+stepped s c bs out d k t′ x′ y′ out′ e w =
+    let v = w ∙ k .left-is in
+    record {
+      number-told = k .number-is;
+      laid-told = k .laid-is;
+      len-told = k .len-is;
+      state-out = same (e ∙ k .tables-is) (ap (λ (l : Lent). l .fast) v) (ap (λ (l : Lent). l .slow) v);
+      data-out = ap (λ (l : Lent). l .out) v;
+    }
+  where
+    same : {t t″ : Tables} {x x″ y y″ : List ℕ} → t ≡ t″ → x ≡ x″ → y ≡ y″ → stateOf t x y ≡ stateOf t″ x″ y″
+    same p q r = cc
+
+-- ---- a read
+
+module _ (s : State) (c : Call) (bs : List ℕ) (d : Decision)
+    (q : Decides (s .tables) c (decideAny (s .tables) (length (s .fast)) (length (s .slow)) c (length bs)) d) where
+  -- what is shown of a frame lies within it, and is the data of the step
+  pub shown-part : (f o : ℕ) → d .work ≡ Show f o
+      → Room (s .fast) (s .slow) (length (s .fast) / 64) f × (o + d .len ≤ 64) × (dataOf (step s c bs) ≡ part (block (joined s) f) o (d .len))
+  unfolding step shownOf
+  shown-part f o e = go _ (sure s c bs) q
+    where
+      go : (p : Outcome Plan) → IfAccepted (Sure s c bs) p → Decides (s .tables) c p d
+          → Room (s .fast) (s .slow) (length (s .fast) / 64) f × (o + d .len ≤ 64)
+          × (dataOf (mapped (carriedOut s c bs) p) ≡ part (block (joined s) f) o (d .len))
+      go (refuse n) k p =
+          let w : Show f o ≡ Nothing = sym e ∙ p .work-told in
+          absurd (let z : _≡_ {A = ℕ} 0 1 = cc in omega arith)
+      go (accept plan) (if-accepted u) p =
+          let w : plan .work ≡ Show f o = sym (p .work-told) ∙ e in
+          let i = rw w at (u .plan-ok .inside) in
+          let l = fit-lengths (s .tables) (length (s .fast)) (length (s .slow)) (u .good .stores-fit) in
+          let h = ltb-true f (frames (s .tables)) (and-left (ltb f (frames (s .tables))) _ i) in
+          (record { split = omega arith; there = omega arith },
+          rw (p .len-told) (leb-true (o + plan .len) 64 (and-right (ltb f (frames (s .tables))) _ i)),
+          rw (w, p .len-told))
+
+  -- a read that shows nothing has no data
+  pub none-read : c .kind ≡ Read → ((f o : ℕ) → d .work ≡ Show f o → ⊥) → dataOf (step s c bs) ≡ []
+  unfolding step
+  none-read is none =
+      go _ (past (not (sound (s .tables))) _ refl (λ _. past (not (fits (s .tables) (length (s .fast)) (length (s .slow)))) _ refl (λ _.
+      read-shows (viewOf (s .tables) c) c (length bs) is))) q
+    where
+      go : (p : Outcome Plan)
+          → IfAccepted (λ (plan : Plan). plan .work ≡ Show (firstCurrent (inUse (pageAt (s .tables) (c .page)))) (c .offset)) p
+          → Decides (s .tables) c p d → dataOf (mapped (carriedOut s c bs) p) ≡ []
+      go (refuse n) k p = refl
+      go (accept plan) (if-accepted w) p = absurd (none _ _ (p .work-told ∙ w))
