@@ -297,10 +297,11 @@ module _ (s : State) (c : Call) (bs : List ℕ) (d : Decision)
           let w : plan .work ≡ Show f o = sym (p .work-told) ∙ e in
           let i = rw w at (u .plan-ok .inside) in
           let l = fit-lengths (s .tables) (length (s .fast)) (length (s .slow)) (u .good .stores-fit) in
-          let h = ltb-true f (frames (s .tables)) (and-left (ltb f (frames (s .tables))) _ i) in
-          (record { split = omega arith; there = omega arith },
-          rw (p .len-told) (leb-true (o + plan .len) 64 (and-right (ltb f (frames (s .tables))) _ i)),
-          rw (w, p .len-told))
+          let h = ltb-true f (frames (s .tables)) (and-left (ltb f (frames (s .tables))) _ i) in (
+            record { split = omega arith; there = omega arith },
+            rw (p .len-told) (leb-true (o + plan .len) 64 (and-right (ltb f (frames (s .tables))) _ i)),
+            rw (w, p .len-told),
+          )
 
   -- a read that shows nothing has no data
   pub none-read : c .kind ≡ Read → ((f o : ℕ) → d .work ≡ Show f o → ⊥) → dataOf (step s c bs) ≡ []

@@ -25,7 +25,9 @@ use Rattle.steps.specs.Stores.{part, splice, layCurrent}
 use Rattle.steps.specs.Steps.{currents, perform, decideOn}
 use Rattle.steps.specs.Effects.{laidIn, shownOf, State, joined}
 use Rattle.steps.proofs.Blocks.{write-other, write-own}
-use Rattle.steps.proofs.GoodLaws.{page-near, span-within, joined-long, page-stands}
+use Rattle.steps.specs.Promises.{currentWithin}
+use Rattle.steps.proofs.DecideLaws.{page-near, span-within, currents-within}
+use Rattle.steps.proofs.StepLaws.{joined-long, page-stands}
 use Rattle.theorems.specs.Flat.{Flat, FlatPage, here, slotAt, reactAs}
 use Rattle.theorems.proofs.Holding.{holds-written, first-current}
 use Rattle.theorems.proofs.Agreement.{Alike, Same, Inv, both-accept, both, lacking, on-page, applied, page-changed, page-kept, ofKind, CallAgrees}
@@ -54,11 +56,11 @@ module _ (s : State) (f : Flat) (i : Inv s f) where
           owners = own .owners;
           rights = own .rights;
           holds = rw (in-use-staled g) (holds-written limit (g .n) (joined s) _ (b .bytes) o bs (inUse g) rules (λ x l current.
-              write-own limit (g .n) o bs span (inUse g) (joined s) long rules x (omega (arith, once x l, uses-at x (s .tables .pages) p)) current)
+              write-own limit o bs span (inUse g) (joined s) long within x (omega (arith, once x l, uses-at x (s .tables .pages) p)) current)
               (own .holds));
         },
       )
-      (λ q d y l used. write-other limit (g .n) o bs span (inUse g) (joined s) long rules y
+      (λ q d y l used. write-other limit o bs span (inUse g) (joined s) long within y
       (omega (arith, once y l, uses-two y (s .tables .pages) p q (λ e. d (sym e)))))
     where
       g : Page
@@ -72,6 +74,9 @@ module _ (s : State) (f : Flat) (i : Inv s f) where
 
       rules : all (copyRule limit (g .n)) (inUse g) ≡ true
       rules = page-stands (i .good) p near some .copies-ok
+
+      within : all (currentWithin limit) (inUse g) ≡ true
+      within = currents-within (page-stands (i .good) p near some)
 
       once : (x : ℕ) → x < limit → uses x (s .tables .pages) ≤ 1
       once = sound-of (s .tables) (i .good .tables-sound) .once

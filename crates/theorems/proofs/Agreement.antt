@@ -26,7 +26,7 @@ use Rattle.steps.specs.Effects.{State, joined, Result, carriedOut, left}
 use Rattle.messages.specs.Replies.{reply}
 use Rattle.theorems.specs.Flat.{Flat, FlatPage, Slot, gone, here, slotAt, Reaction, silent, no, yes, unless, onPage, flatKind, react, flatLeft, answersOf, accepts}
 use Rattle.theorems.specs.Demand3.{Holds, numberIn, taken, lacks}
-use Rattle.steps.proofs.GoodLaws.{Good, page-stands}
+use Rattle.steps.proofs.StepLaws.{Good, page-stands}
 use Rattle.theorems.proofs.Holding.{holds-kept}
 
 -- ---- the two states

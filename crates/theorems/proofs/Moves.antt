@@ -34,7 +34,8 @@ use Rattle.steps.specs.Stores.{lay, held, zeros}
 use Rattle.steps.specs.Steps.{Outcome, Plan, laying, numbered, copyAt, recents, copying, perform, decideOn}
 use Rattle.steps.specs.Effects.{laidIn, shownOf, State, joined, carriedOut}
 use Rattle.steps.proofs.Blocks.{block-lay-whole, block-lay-other}
-use Rattle.steps.proofs.GoodLaws.{page-near, joined-long, page-stands, length-held}
+use Rattle.steps.proofs.DecideLaws.{page-near}
+use Rattle.steps.proofs.StepLaws.{joined-long, page-stands, length-held}
 use Rattle.theorems.specs.Flat.{Flat, Slot, gone, here, slotAt, silent, reactAs}
 use Rattle.theorems.specs.Demand3.{Holds}
 use Rattle.theorems.proofs.Holding.{HoldsOne, held-framed, holds-at, holds-set, holds-last, holds-without, holds-kept}

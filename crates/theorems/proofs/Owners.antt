@@ -15,7 +15,7 @@ use Rattle.steps.specs.Kinds.{names, code, among}
 use Rattle.steps.specs.Calls.{nameOutside}
 use Rattle.steps.specs.Steps.{test, Plan, editing, perform, decideOn}
 use Rattle.steps.specs.Effects.{laidIn, shownOf, State, joined, carriedOut}
-use Rattle.steps.proofs.GoodLaws.{page-near}
+use Rattle.steps.proofs.DecideLaws.{page-near}
 use Rattle.theorems.specs.Flat.{Flat, Slot, gone, here, slotAt, creating, reactAs}
 use Rattle.theorems.proofs.Agreement.{AlikeSlot, Same, Inv, Agree, both-accept, both-refuse, both, on-page, page-changed, ofKind, CallAgrees, stores-kept}
 

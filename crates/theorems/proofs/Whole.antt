@@ -18,7 +18,7 @@ use Rattle.steps.specs.declared.Kind.the-variants.{Create, DeletePage, Grant, R
 use Rattle.steps.specs.declared.Call.{Call}
 use Rattle.steps.specs.Stores.{fits}
 use Rattle.steps.specs.Effects.{State, joined, step, left}
-use Rattle.steps.proofs.GoodLaws.{Good, fit-lengths, page-stands, step-good}
+use Rattle.steps.proofs.StepLaws.{Good, fit-lengths, page-stands, step-good}
 use Rattle.messages.specs.declared.Parsed.{Parsed}
 use Rattle.messages.specs.declared.Parsed.the-variants.{Refused, Asked}
 use Rattle.messages.specs.Run.{Sent, asked, bytesOf, respond, answer, messagesOf}

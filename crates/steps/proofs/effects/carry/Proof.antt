@@ -67,9 +67,10 @@ cast-lay-current c = search needs
 lay-current-requires : tie.Need-lay-current-requires
 lay-current-requires c κs =
     let a = c .before .before .before .before .before .before .before .before .before .before .before .before .before .before .args in
-    let h = c .before .before .if4 .taken in
-    (room-spread (a .fast .now) (a .out .now) (c .before .before .before .before .before .before .before .before .if1 .left) (a .slow .now) (a .d .before) (sym (c .before .before .before .current-within .ensures) ∙ and-right (c .before .before .before .before .span-within .result) _ h),
-    leb-true _ 64 (sym (c .before .before .before .before .span-within .ensures) ∙ and-left _ _ h))
+    let h = c .before .before .if4 .taken in (
+      room-spread (a .fast .now) (a .out .now) (c .before .before .before .before .before .before .before .before .if1 .left) (a .slow .now) (a .d .before) (sym (c .before .before .before .current-within .ensures) ∙ and-right (c .before .before .before .before .span-within .result) _ h),
+      leb-true _ 64 (sym (c .before .before .before .before .span-within .ensures) ∙ and-left _ _ h),
+    )
 
 enum-known-work-4 : tie.Need-enum-known-work-4
 enum-known-work-4 c = search needs

@@ -52,7 +52,7 @@ use Rattle.steps.proofs.judgement.judge_any.Code as code
 
 module _ {M : Type 1} (𝓤 : URA M) (H : Heap 𝓤) (A : Atoms 𝓤) (W : Given 𝓤 H A) (mem : Memory → SProp 𝓤) (run : Routine → Fun 𝓤) (𝓣 : Tables 𝓤 H)
     (known-rules : Triple 𝓤 (𝓣 .C #steps·judgement·rules) (asked 𝓤 H A rules.ended (rules.clauses 𝓤 H A mem run))) (known-judge : Triple 𝓤
-        (𝓣 .C #steps·judgement·judge-at) (asked 𝓤 H A judge-at.ended (judge-at.clauses 𝓤 H A mem run)))
+    (𝓣 .C #steps·judgement·judge-at) (asked 𝓤 H A judge-at.ended (judge-at.clauses 𝓤 H A mem run)))
     (known-ruled : Triple 𝓤 (𝓣 .C #steps·judgement·ruled) (asked 𝓤 H A ruled.ended (ruled.clauses 𝓤 H A mem run))) where
   abbrev c : Clauses 𝓤 judge-any.ended
   c = judge-any.clauses 𝓤 H A mem run
@@ -79,7 +79,7 @@ module _ {M : Type 1} (𝓤 : URA M) (H : Heap 𝓤) (A : Atoms 𝓤) (W : Given
         pass1 ! (init ! 18 refl (tabled .lawful 𝓤 H A W .typed h _ is-tables .0)) $
         pass1 ! (init ! 16 refl (call .lawful 𝓤 H A W .typed m _ is-call .0)) $
         pass1 ! (init ! 14 refl (tt, record { fits = size-fits })) $ pass1 ! (init ! 12 refl (tt, record { fits = fl-fits })) $
-            pass1 ! (init ! 10 refl (tt, record { fits = sl-fits })) $ pass0 ! $
+        pass1 ! (init ! 10 refl (tt, record { fits = sl-fits })) $ pass0 ! $
         assigns ! (of-opd ! (local ! 18 refl)) (from ! (stop !)) (init ! 8 refl (tabled .lawful 𝓤 H A W .typed h _ is-tables .0)) $
         assigns ! (of-opd ! (local ! 8 refl)) (from ! (stop !)) (init ! 2 refl (tabled .lawful 𝓤 H A W .typed h _ is-tables .0)) $
         tells ! 𝓣 (tabled ∷ word ∷ word ∷ []) byte (rules.clauses 𝓤 H A mem run) known-rules (h, (fl, (sl, tt)))

@@ -64,9 +64,9 @@ use Rattle.steps.proofs.judgement.judge_at.Code as code
 
 module _ {M : Type 1} (𝓤 : URA M) (H : Heap 𝓤) (A : Atoms 𝓤) (W : Given 𝓤 H A) (mem : Memory → SProp 𝓤) (run : Routine → Fun 𝓤) (𝓣 : Tables 𝓤 H)
     (known-page : Triple 𝓤 (𝓣 .C #steps·judgement·page-at) (asked 𝓤 H A page-at.ended (page-at.clauses 𝓤 H A mem run))) (known-start : Triple 𝓤
-        (𝓣 .C #steps·judgement·search-start) (asked 𝓤 H A search-start.ended (search-start.clauses 𝓤 H A mem run)))
+    (𝓣 .C #steps·judgement·search-start) (asked 𝓤 H A search-start.ended (search-start.clauses 𝓤 H A mem run)))
     (known-search : Triple 𝓤 (𝓣 .C #steps·judgement·search) (asked 𝓤 H A search.ended (search.clauses 𝓤 H A mem run))) (known-decided : Triple 𝓤
-        (𝓣 .C #steps·judgement·decided) (asked 𝓤 H A decided.ended (decided.clauses 𝓤 H A mem run))) where
+    (𝓣 .C #steps·judgement·decided) (asked 𝓤 H A decided.ended (decided.clauses 𝓤 H A mem run))) where
   abbrev c : Clauses 𝓤 judge-at.ended
   c = judge-at.clauses 𝓤 H A mem run
 
@@ -101,20 +101,20 @@ module _ {M : Type 1} (𝓤 : URA M) (H : Heap 𝓤) (A : Atoms 𝓤) (W : Given
         alloc1 ! (λ l₀. alloc1 ! (λ l₁. alloc1 ! (λ l₂. alloc1 ! (λ l₃. alloc1 ! (λ l₄. alloc1 ! (λ l₅. alloc1 ! (λ l₆. alloc1 ! (λ l₇. alloc1 !
         (λ l₈. alloc1 ! (λ l₉. alloc0 ! $ params1 ! $
         pass1 ! (init ! 16 refl (tt, tt)) $ pass1 ! (init ! 14 refl (call .lawful 𝓤 H A W .typed m _ is-call .0)) $
-            pass1 ! (init ! 12 refl (tt, record { fits = size-fits })) $ pass0 ! $
+        pass1 ! (init ! 12 refl (tt, record { fits = size-fits })) $ pass0 ! $
         -- what all pages share
         move ! (20 ∷ 21 ∷ []) $ looks-in ! tt tabled (SL.copy T.the-type T′.the-copy 𝓤 H A W) κ q t (λ q′ is. let is-shared : Is (shared .row)
-            (t .now .shared) (shared .val (t .now .shared) ∷ []) = SL.owed T.the-type T′.the-laws (t .now) _ is .0 in
+        (t .now .shared) (shared .val (t .now .shared) ∷ []) = SL.owed T.the-type T′.the-laws (t .now) _ is .0 in
         use1 W (‵ (fat q′ T′.mir (t .ptr .0) (t .ptr .1) (tabled .val (t .now)))) (W .laws .raw-at q′ T′.mir (t .ptr .0) (t .ptr .1)
         (tabled .val (t .now))) $
         assigns ! (of-opd ! (load ! (from ! (hop ! (look ! 22 refl) (fld ! {τ = S′.mir} {d = 0} refl (stop !))))
-            (look-in ! 0 (sub ! 0 {τ = S′.mir} {d = 0} refl (whole !))))) (from ! (stop !))
-            (init ! 16 refl (shared .lawful 𝓤 H A W .typed (t .now .shared) _ is-shared .0)) $
+        (look-in ! 0 (sub ! 0 {τ = S′.mir} {d = 0} refl (whole !))))) (from ! (stop !))
+        (init ! 16 refl (shared .lawful 𝓤 H A W .typed (t .now .shared) _ is-shared .0)) $
         use1 W (‵ (cellAt q′ (T.the-row .mir) (tabled .val (t .now) ∷ []) (t .ptr .0) (t .ptr .1))) (W .laws .at-raw q′ T′.mir (t .ptr .0) (t .ptr .1)
         (tabled .val (t .now))) $ looks-away ! tt tabled q′ κ q t $
         -- the page's record. [the reference; its token; _9; …; _8; …; _7; …; _6; …; _5; …; _4; …; _3; …; _2; …; _1; …; room for _0; …]
         assigns ! (bin ! (load ! (from ! (fld ! {τ = tyInt w8} {d = 2} refl (stop !))) (look-in ! 16 (sub ! 2 {τ = tyInt w8} {d = 2} refl (whole !))))
-            (lit ! tt) (lit< tt)) (from ! (stop !)) (init ! 4 refl (tt, record { fits = lt-of-lt-of-le within (lit≤ tt) })) $
+        (lit ! tt) (lit< tt)) (from ! (stop !)) (init ! 4 refl (tt, record { fits = lt-of-lt-of-le within (lit≤ tt) })) $
         assigns ! (un ! (local ! 4 refl) (record { fits = fits })) (from ! (stop !)) (init ! 2 refl (tt, record { fits = fits })) $
         asks ! 𝓣 T.the-row (word ∷ []) page (page-at.clauses 𝓤 H A mem run) known-page κ q t (m .page % 64, tt) ((refl, fits), tt) tt
         (factI 𝓤 (m .page % 64 < 64) (emp 𝓤) within) named (λ r e. refl)

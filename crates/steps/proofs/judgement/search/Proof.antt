@@ -67,7 +67,7 @@ is-free = EL.owes H₁.the-type H′.the-laws Free tt
 
 module _ {M : Type 1} (𝓤 : URA M) (H : Heap 𝓤) (A : Atoms 𝓤) (W : Given 𝓤 H A) (mem : Memory → SProp 𝓤) (run : Routine → Fun 𝓤) (𝓣 : Tables 𝓤 H)
     (known-copy : Triple 𝓤 (𝓣 .C #steps·judgement·copy-on) (asked 𝓤 H A copy-on.ended (copy-on.clauses 𝓤 H A mem run)))
-        (known-held : Triple 𝓤 (𝓣 .C #steps·judgement·held) (asked 𝓤 H A held.ended (held.clauses 𝓤 H A mem run))) where
+    (known-held : Triple 𝓤 (𝓣 .C #steps·judgement·held) (asked 𝓤 H A held.ended (held.clauses 𝓤 H A mem run))) where
   abbrev c : Clauses 𝓤 search.ended
   c = search.clauses 𝓤 H A mem run
 
@@ -159,12 +159,12 @@ module _ {M : Type 1} (𝓤 : URA M) (H : Heap 𝓤) (A : Atoms 𝓤) (W : Given
         qed W (entry 𝓤 H A W T.the-row (byte ∷ word ∷ []) holder c κ q t) ∵ enter ! (𝓣 .C) (𝓣 .Λ) code.function
         (vptr (t .ptr .0) (t .ptr .1) ∷ vint w8 f ∷ vint w64 start ∷ []) _ $
         alloc1 ! (λ l₀. alloc1 ! (λ l₁. alloc1 ! (λ l₂. alloc1 ! (λ l₃. alloc1 ! (λ l₄. alloc1 ! (λ l₅. alloc1 ! (λ l₆. alloc0 ! $ params1 ! $
-            pass1 ! (init ! 10 refl (tt, tt)) $ pass1 ! (init ! 8 refl (tt, record { fits = f-fits })) $
-            pass1 ! (init ! 6 refl (tt, record { fits = start-fits })) $ pass0 ! $
+        pass1 ! (init ! 10 refl (tt, tt)) $ pass1 ! (init ! 8 refl (tt, record { fits = f-fits })) $
+        pass1 ! (init ! 6 refl (tt, record { fits = start-fits })) $ pass0 ! $
         move ! (14 ∷ 15 ∷ []) $ looks-in ! tt tabled (SL.copy T.the-type T′.the-copy 𝓤 H A W) κ q t (λ q′ is. looks-away ! tt tabled q′ κ q t $
         assigns ! (of-opd ! (local ! 8 refl)) (from ! (stop !)) (init ! 6 refl (tt, record { fits = start-fits })) $
         first ! $ blocks ! $ loops ! 𝓣 Nearer Nearer-wf (At-turn (at-most-eight (t .now) _ is) l₀ l₁ l₂ l₃ l₄ l₅ l₆)
-            (turns (at-most-eight (t .now) _ is) l₀ l₁ l₂ l₃ l₄ l₅ l₆) (record { i = start; fits = start-fits; same = refl })))))))))
+        (turns (at-most-eight (t .now) _ is) l₀ l₁ l₂ l₃ l₄ l₅ l₆) (record { i = start; fits = start-fits; same = refl })))))))))
 
   search-meets : Meets 𝓤 H A search.signature runs-as (search.spec 𝓤 H A mem run)
   search-meets = ref-meets 𝓤 H A W T.the-row (byte ∷ word ∷ []) holder c runs-as (WpFn-mono 𝓤 H (W .laws) 𝓣 code.function)
