@@ -44,7 +44,7 @@ use Rattle.steps.proofs.judgement.copy_on.Code as code
 
 module _ {M : Type 1} (𝓤 : URA M) (H : Heap 𝓤) (A : Atoms 𝓤) (W : Given 𝓤 H A) (mem : Memory → SProp 𝓤) (run : Routine → Fun 𝓤) (𝓣 : Tables 𝓤 H)
     (known-page : Triple 𝓤 (𝓣 .C #steps·judgement·page-at) (asked 𝓤 H A page-at.ended (page-at.clauses 𝓤 H A mem run)))
-        (known-copy : Triple 𝓤 (𝓣 .C #tables·Page·copy-on) (asked 𝓤 H A of-page.ended (of-page.clauses 𝓤 H A mem run))) where
+    (known-copy : Triple 𝓤 (𝓣 .C #tables·Page·copy-on) (asked 𝓤 H A of-page.ended (of-page.clauses 𝓤 H A mem run))) where
   abbrev c : Clauses 𝓤 copy-on.ended
   c = copy-on.clauses 𝓤 H A mem run
 
@@ -64,7 +64,7 @@ module _ {M : Type 1} (𝓤 : URA M) (H : Heap 𝓤) (A : Atoms 𝓤) (W : Given
         qed W (entry 𝓤 H A W T.the-row (byte ∷ word ∷ []) byte c κ q t) ∵ enter ! (𝓣 .C) (𝓣 .Λ) code.function
         (vptr (t .ptr .0) (t .ptr .1) ∷ vint w8 f ∷ vint w64 i ∷ []) _ $
         alloc1 ! (λ l₀. alloc1 ! (λ l₁. alloc1 ! (λ l₂. alloc1 ! (λ l₃. alloc1 ! (λ l₄. alloc0 ! $ params1 ! $ pass1 ! (init ! 6 refl (tt, tt)) $
-            pass1 ! (init ! 4 refl (tt, record { fits = f-fits })) $ pass1 ! (init ! 2 refl (tt, record { fits = i-fits })) $ pass0 ! $
+        pass1 ! (init ! 4 refl (tt, record { fits = f-fits })) $ pass1 ! (init ! 2 refl (tt, record { fits = i-fits })) $ pass0 ! $
         -- [the reference; its token; _4; …; _3; …; _2; …; _1; …; room for _0; …]
         move ! (10 ∷ 11 ∷ []) $
         asks ! 𝓣 T.the-row (word ∷ []) page (page-at.clauses 𝓤 H A mem run) known-page κ q t (i, tt) ((refl, i-fits), tt) tt
@@ -79,7 +79,8 @@ module _ {M : Type 1} (𝓤 : URA M) (H : Heap 𝓤) (A : Atoms 𝓤) (W : Given
         (λ e. factI 𝓤 (k ≡ k) (emp 𝓤) refl)))))))))
 
   copy-on-meets : Meets 𝓤 H A copy-on.signature runs-as (copy-on.spec 𝓤 H A mem run)
-  copy-on-meets = ref-meets 𝓤 H A W T.the-row (byte ∷ word ∷ []) byte c runs-as (WpFn-mono 𝓤 H (W .laws) 𝓣 code.function)
+  copy-on-meets =
+      ref-meets 𝓤 H A W T.the-row (byte ∷ word ∷ []) byte c runs-as (WpFn-mono 𝓤 H (W .laws) 𝓣 code.function)
       (λ κ q t a g are. needs 𝓤 _ _ (walk κ q t (a .0) (are .0 .1) (a .1 .0) (are .1 .0 .1)))
 
 pub copy-on-spec : {M : Type 1} → stated.statement M
@@ -88,7 +89,7 @@ copy-on-spec 𝓤 H 𝓜 𝓖 𝓡 =
     entered 𝓤 H (tripleOf 𝓤 H (𝓖 .A) copy-on.signature (copy-on.spec 𝓤 H (𝓖 .A) (𝓜 .mem) (𝓡 .run)))
     (tables 𝓤 H 𝓜 𝓡 code.env .C) (tables 𝓤 H 𝓜 𝓡 code.env .Λ) #steps·judgement·copy-on code.function (code.unfolded 𝓤 H 𝓜 𝓡)
     (copy-on-meets 𝓤 H (𝓖 .A) (givenOf 𝓤 H 𝓜 𝓖) (𝓜 .mem) (𝓡 .run) (tablesOf 𝓤 H 𝓜 (tables 𝓤 H 𝓜 𝓡 code.env))
-    (cited 𝓤 H (asked 𝓤 H (𝓖 .A) page-at.ended (page-at.clauses 𝓤 H (𝓖 .A) (𝓜 .mem)
-    (𝓡 .run))) 𝓜 𝓡 code.env #steps·judgement·page-at page-at-def.routine code.calls-steps·judgement·page-at (page-at-thm.met 𝓤 H 𝓜 𝓖 𝓡))
-    (cited 𝓤 H (asked 𝓤 H (𝓖 .A) of-page.ended (of-page.clauses 𝓤 H (𝓖 .A) (𝓜 .mem)
-    (𝓡 .run))) 𝓜 𝓡 code.env #tables·Page·copy-on of-page-def.routine code.calls-tables·Page·copy-on (of-page-thm.met 𝓤 H 𝓜 𝓖 𝓡)))
+    (cited 𝓤 H (asked 𝓤 H (𝓖 .A) page-at.ended (page-at.clauses 𝓤 H (𝓖 .A) (𝓜 .mem) (𝓡 .run))) 𝓜 𝓡 code.env
+    #steps·judgement·page-at page-at-def.routine code.calls-steps·judgement·page-at (page-at-thm.met 𝓤 H 𝓜 𝓖 𝓡))
+    (cited 𝓤 H (asked 𝓤 H (𝓖 .A) of-page.ended (of-page.clauses 𝓤 H (𝓖 .A) (𝓜 .mem) (𝓡 .run))) 𝓜 𝓡 code.env
+    #tables·Page·copy-on of-page-def.routine code.calls-tables·Page·copy-on (of-page-thm.met 𝓤 H 𝓜 𝓖 𝓡)))
