@@ -1,3 +1,4 @@
+pub mod ParseLaws
 pub mod ReaderLaws
 pub mod ReplyLaws
 pub mod TurnLaws

@@ -16,9 +16,9 @@ use Rattle.steps.specs.Kinds.{kinds, kindOf, leastLength, mostLength, callOf}
 use Rattle.steps.specs.Stores.{part, over}
 use Rattle.steps.specs.Steps.{Outcome, refuse, accept, test, numberOf, decideAny}
 use Rattle.steps.specs.Effects.{State, Result, step, left, laidBy, dataOf}
-use Rattle.steps.specs.Promises.{stateOf, rulesNumber, tablesAfter, Decides, Lent, lent}
-use Rattle.steps.proofs.StepLaws.{carries, step-unruled, step-ruled, data-short}
-use Rattle.steps.proofs.ToldLaws.{step-told}
+use Rattle.steps.specs.Promises.{stateOf, rulesNumber, decisionOf, Lent, lent}
+use Rattle.steps.specs.Private.{tablesAfter}
+use Rattle.steps.proofs.StepLaws.{carries, step-unruled, step-ruled, data-short, step-told}
 use Rattle.messages.specs.declared.Parsed.{Parsed}
 use Rattle.messages.specs.declared.Parsed.the-variants.{Refused, Asked}
 use Rattle.messages.specs.declared.Next.{Next}
@@ -29,6 +29,7 @@ use Rattle.messages.specs.Replies.{reply, replyIn, isRefusal}
 use Rattle.messages.specs.Run.{Sent, cut, whole, asked, bytesOf, respond, answer, leftBy}
 use Rattle.messages.specs.Promises.{sentBy, sentAlone, Replied}
 use Rattle.messages.specs.Private.{bytesAt, askedAt, askedNumber, earlyNumber, callIn, repliedWith}
+use Rattle.messages.proofs.ParseLaws.{Known, bad, asked-known}
 use Rattle.messages.proofs.ReplyLaws.{part-long, carried-reply, reply-length}
 
 -- the number of the rules on a state
@@ -39,18 +40,11 @@ rulesOf s = rulesNumber (s .tables) (length (s .fast)) (length (s .slow))
 
 -- its own bytes give no number 0
 asked-some : (x : Sent) (n : ℕ) → asked x ≡ Refused n → n ≡ accepted → ⊥
-unfolding parse
-asked-some cut n e z = let k : cutShort ≡ n = cc in omega arith
-asked-some (whole m) n e z =
-    by (eqb (length m) 0 || not (eqb (getD m 0 0) 1)) (eqb (length m) 1 || (eqb (getD m 1 0) 0 || ltb (length kinds) (getD m 1 0)))
-    (ltb (length m) (leastLength (kindOf (getD m 1 0))) || ltb (mostLength (kindOf (getD m 1 0))) (length m)) e
+asked-some x n e z = go (asked x) (asked-known x) e
   where
-    by : (a b c : Bool) → cond a (Refused foreignVersion) (cond b (Refused unknownKind) (cond c (Refused wrongLength)
-        (Asked (callOf (kindOf (getD m 1 0)) (drop 2 m))))) ≡ Refused n → ⊥
-    by true b c e = let k : foreignVersion ≡ n = cc in omega arith
-    by false true c e = let k : unknownKind ≡ n = cc in omega arith
-    by false false true e = let k : wrongLength ≡ n = cc in omega arith
-    by false false false e = let k : _≡_ {A = ℕ} 0 1 = cc in omega arith
+    go : (m : Parsed) → Known m → m ≡ Refused n → ⊥
+    go (Refused k) (bad some few) e = let w : k ≡ n = cc in omega arith
+    go (Asked c) k e = let w : _≡_ {A = ℕ} 0 1 = cc in omega arith
 
 module _ (room : ℕ) (s : State) (x : Sent) (known : ℕ) where
   -- where there is an early number, the message is turned back with it
@@ -125,7 +119,7 @@ module _ (s : State) (x : Sent) (m : Parsed) (known n : ℕ) (out : List ℕ) (e
 
   -- decided on
   pub decided : (bs : List ℕ) (d : Decision) → n ≡ accepted → bs ≡ bytesOf x
-      → (known ≡ accepted → Decides (s .tables) (callIn m) (decideAny (s .tables) (length (s .fast)) (length (s .slow)) (callIn m) (length bs)) d)
+      → (known ≡ accepted → d ≡ decisionOf (s .tables) (callIn m) (decideAny (s .tables) (length (s .fast)) (length (s .slow)) (callIn m) (length bs)))
       → Decided s x out bs d
   decided bs d none eb q =
       let c = callIn m in

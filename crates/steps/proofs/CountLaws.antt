@@ -14,11 +14,7 @@ use Rattle.tables.specs.Lists.{count}
 use Rattle.tables.specs.Model.{inUse, noCopyEntry}
 use Rattle.tables.proofs.Loops.{drop-more, drop-end}
 use Rattle.steps.specs.Steps.{copyAt, firstCurrent}
-
-pub left-more : (g : Page) (j : ℕ) → j < length (inUse g) → drop j (inUse g) ≡ copyAt g j ∷ drop (j + 1) (inUse g)
-left-more g j h =
-    let b : length (inUse g) ≤ g .n = simp length-take (omega arith) in
-    drop-more (inUse g) j noCopyEntry h ∙ rw (getD-take (g .n) (g .copies) j noCopyEntry (omega arith))
+use Rattle.steps.proofs.CopyLaws.{use-more}
 
 -- ---- of how many copies f holds
 
@@ -38,13 +34,13 @@ module _ {g : Page} {f : Copy → Bool} {n : ℕ} where
     pub count-taken : j < n → f (copyAt g j) ≡ true → Counted g f n (j + 1) (k + 1)
     unfolding count
     count-taken h t =
-        let e = rw (left-more g j (omega arith), t) at (v .whole) in
+        let e = rw (use-more g j (omega arith), t) at (v .whole) in
         record { all-of = v .all-of; most = v .most; near = omega arith; few = omega arith; whole = omega arith }
 
     pub count-passed : j < n → f (copyAt g j) ≡ false → Counted g f n (j + 1) k
     unfolding count
     count-passed h t =
-        let e = rw (left-more g j (omega arith), t) at (v .whole) in
+        let e = rw (use-more g j (omega arith), t) at (v .whole) in
         record { all-of = v .all-of; most = v .most; near = omega arith; few = omega arith; whole = omega arith }
 
     pub count-ended : n ≤ j → k ≡ count f (inUse g)
@@ -56,8 +52,8 @@ module _ {g : Page} {f : Copy → Bool} {n : ℕ} where
 module _ (g : Page) (j : ℕ) (h : j < length (inUse g)) where
   pub first-found : copyAt g j .current ≡ true → firstCurrent (drop j (inUse g)) ≡ copyAt g j .frame
   unfolding firstCurrent
-  first-found t = rw (left-more g j h, t)
+  first-found t = rw (use-more g j h, t)
 
   pub first-passed : copyAt g j .current ≡ false → firstCurrent (drop j (inUse g)) ≡ firstCurrent (drop (j + 1) (inUse g))
   unfolding firstCurrent
-  first-passed t = rw (left-more g j h, t)
+  first-passed t = rw (use-more g j h, t)

@@ -40,14 +40,18 @@ use Rattle.steps.specs.Promises.{currentWithin, workWithin}
 use Rattle.steps.proofs.StoreLaws.{length-frame-part}
 use Rattle.steps.proofs.CopyLaws.{length-entries}
 
--- ---- what holds of an outcome if it is accepted; the numbers that calls are turned back with go up to 17
+-- ---- what holds of an outcome if it is accepted
+
+-- the numbers that calls are turned back with
+abbrev pub callNumber : ℕ → Bool
+callNumber n = leb 1 n && leb n 17
 
 pub data IfAccepted {A : Type 0} (P : A → Type 0) : Outcome A → Type 0 where
-  if-refused : {n : ℕ} → leb n 17 ≡ true → IfAccepted P (refuse n)
+  if-refused : {n : ℕ} → callNumber n ≡ true → IfAccepted P (refuse n)
   if-accepted : {a : A} → P a → IfAccepted P (accept a)
 
 -- behind a test
-pub past : {A : Type 0} {P : A → Type 0} {o : Outcome A} (b : Bool) (n : ℕ) → leb n 17 ≡ true → (b ≡ false → IfAccepted P o)
+pub past : {A : Type 0} {P : A → Type 0} {o : Outcome A} (b : Bool) (n : ℕ) → callNumber n ≡ true → (b ≡ false → IfAccepted P o)
     → IfAccepted P (test b n o)
 past true n low h = if-refused low
 past false n low h = h refl

@@ -13,4 +13,3 @@ pub mod Blocks
 pub mod CarryLaws
 pub mod DecideLaws
 pub mod StepLaws
-pub mod ToldLaws

@@ -26,8 +26,9 @@ use Rattle.steps.specs.declared.Decision.{Decision}
 use Rattle.steps.specs.Stores.{fits, part, block, held, zeros, over}
 use Rattle.steps.specs.Steps.{Outcome, refuse, accept, test, mapped, Plan, copyAt, firstCurrent, viewOf, decide, decideAny, numberOf}
 use Rattle.steps.specs.Effects.{laidIn, shownOf, State, joined, Result, carriedOut, step, left, laidBy, dataOf}
-use Rattle.steps.specs.Promises.{stateOf, rulesNumber, tablesAfter, Decides, Lent, lent, workWithin, within, carried, Stepped}
-use Rattle.steps.specs.Private.{Room}
+use Rattle.steps.specs.Promises.{stateOf, rulesNumber, decisionOf, Lent, lent, workWithin, within, carried, Stepped}
+use Rattle.steps.specs.Private.{Room, tablesAfter, Decides}
+use Rattle.steps.proofs.JudgeLaws.{decides-any}
 use Rattle.steps.proofs.StoreLaws.{length-part}
 use Rattle.steps.proofs.Blocks.{length-lay, length-write}
 use Rattle.steps.proofs.CarryLaws.{framesIn, lent-same}
@@ -192,8 +193,20 @@ module _ (s : State) (c : Call) (bs : List ℕ) where
   step-number = go _ sure
     where
       go : (o : Outcome Plan) → IfAccepted (Sure s c bs) o → numberOf (mapped (carriedOut s c bs) o) ≤ 17
-      go (refuse n) (if-refused low) = leb-true n 17 low
+      go (refuse n) (if-refused known) = leb-true n 17 (and-right (leb 1 n) _ known)
       go (accept plan) k = zero-le
+
+  -- and it is not 0 where the call is turned back
+  pub step-told : (n : ℕ) → step s c bs ≡ refuse n → n ≡ accepted → ⊥
+  unfolding step
+  step-told n e z = go _ sure e
+    where
+      go : (o : Outcome Plan) → IfAccepted (Sure s c bs) o → mapped (carriedOut s c bs) o ≡ refuse n → ⊥
+      go (refuse m) (if-refused known) e =
+          let k = leb-true 1 m (and-left (leb 1 m) _ known) in
+          let w : m ≡ n = cc in
+          omega arith
+      go (accept plan) k e = let w : _≡_ {A = ℕ} 0 1 = cc in omega arith
 
 -- ---- a decision carried out
 
@@ -233,10 +246,13 @@ decided-within s c size out d i room q =
 
 -- and a decision on any tables and stores, carried out, is the step
 pub carries : (s : State) (c : Call) (bs out : List ℕ) (d : Decision) → 64 ≤ length out
-    → Decides (s .tables) c (decideAny (s .tables) (length (s .fast)) (length (s .slow)) c (length bs)) d → Carries s c bs out d
+    → d ≡ decisionOf (s .tables) c (decideAny (s .tables) (length (s .fast)) (length (s .slow)) c (length bs)) → Carries s c bs out d
 unfolding step carried
-carries s c bs out d room q = go _ refl (sure s c bs) q
+carries s c bs out d room is = go _ refl (sure s c bs) q
   where
+    q : Decides (s .tables) c (decideAny (s .tables) (length (s .fast)) (length (s .slow)) c (length bs)) d
+    q = decides-any (s .tables) c (length (s .fast)) (length (s .slow)) (length bs) d is
+
     told : (r : Outcome Result) → step s c bs ≡ r → d .number ≡ numberOf r → d .laid ≡ laidBy r → d .len ≡ length (dataOf r)
         → tablesAfter (s .tables) d ≡ left s r .tables
         → carried d bs (lent (s .fast) (s .slow) out) ≡ lent (left s r .fast) (left s r .slow) (over (dataOf r) out) → Carries s c bs out d
@@ -280,7 +296,10 @@ stepped s c bs out d k t′ x′ y′ out′ e w =
 -- ---- a read
 
 module _ (s : State) (c : Call) (bs : List ℕ) (d : Decision)
-    (q : Decides (s .tables) c (decideAny (s .tables) (length (s .fast)) (length (s .slow)) c (length bs)) d) where
+    (is : d ≡ decisionOf (s .tables) c (decideAny (s .tables) (length (s .fast)) (length (s .slow)) c (length bs))) where
+  q : Decides (s .tables) c (decideAny (s .tables) (length (s .fast)) (length (s .slow)) c (length bs)) d
+  q = decides-any (s .tables) c (length (s .fast)) (length (s .slow)) (length bs) d is
+
   -- what is shown of a frame lies within it, and is the data of the step
   pub shown-part : (f o : ℕ) → d .work ≡ Show f o
       → Room (s .fast) (s .slow) (length (s .fast) / 64) f × (o + d .len ≤ 64) × (dataOf (step s c bs) ≡ part (block (joined s) f) o (d .len))
@@ -306,9 +325,9 @@ module _ (s : State) (c : Call) (bs : List ℕ) (d : Decision)
   -- a read that shows nothing has no data
   pub none-read : c .kind ≡ Read → ((f o : ℕ) → d .work ≡ Show f o → ⊥) → dataOf (step s c bs) ≡ []
   unfolding step
-  none-read is none =
+  none-read kind none =
       go _ (past (not (sound (s .tables))) _ refl (λ _. past (not (fits (s .tables) (length (s .fast)) (length (s .slow)))) _ refl (λ _.
-      read-shows (viewOf (s .tables) c) c (length bs) is))) q
+      read-shows (viewOf (s .tables) c) c (length bs) kind))) q
     where
       go : (p : Outcome Plan)
           → IfAccepted (λ (plan : Plan). plan .work ≡ Show (firstCurrent (inUse (pageAt (s .tables) (c .page)))) (c .offset)) p

@@ -13,7 +13,7 @@ use Rattle.steps.specs.declared.Call.{Call}
 use Rattle.steps.specs.declared.Work.{Work}
 use Rattle.steps.specs.declared.Work.the-variants.{Nothing, Clear, Duplicate, Spread, Show, ShowPage, ShowHolder}
 use Rattle.steps.specs.Stores.{part, block, lay, zeros, layCurrent}
-use Rattle.steps.specs.Steps.{Outcome, refuse, accept, mapped, Plan, decideAny}
+use Rattle.steps.specs.Steps.{Outcome, refuse, accept, mapped, Plan, pageFor, decideAny}
 
 abbrev pub bit : Bool → ℕ
 bit true = 1
@@ -63,12 +63,12 @@ abbrev pub carriedOut : State → Call → List ℕ → Plan → Result
 carriedOut s c bs plan =
     record {
       state = record {
-        tables = after (s .tables) (edited (s .tables) (c .page) (plan .edit));
-        fast = take (length (s .fast)) (laidIn (pageAt (s .tables) (c .page)) (plan .work) bs (joined s));
-        slow = drop (length (s .fast)) (laidIn (pageAt (s .tables) (c .page)) (plan .work) bs (joined s));
+        tables = after (s .tables) (edited (s .tables) (pageFor (s .tables) c) (plan .edit));
+        fast = take (length (s .fast)) (laidIn (pageAt (s .tables) (pageFor (s .tables) c)) (plan .work) bs (joined s));
+        slow = drop (length (s .fast)) (laidIn (pageAt (s .tables) (pageFor (s .tables) c)) (plan .work) bs (joined s));
       };
       laid = plan .laid;
-      data-out = shownOf (pageAt (s .tables) (c .page)) (plan .work) (plan .len) (joined s);
+      data-out = shownOf (pageAt (s .tables) (pageFor (s .tables) c)) (plan .work) (plan .len) (joined s);
     }
 
 -- A call, on any tables and stores; a write has the bytes bs.

@@ -10,9 +10,10 @@ use Rattle.tables.specs.declared.Shared.{Shared}
 use Rattle.tables.specs.declared.Tables.{Tables}
 use Rattle.tables.specs.declared.Holder.{Holder}
 use Rattle.tables.specs.declared.Edit.the-variants.{Kept}
+use Rattle.tables.specs.Numbers.{accepted}
 use Rattle.tables.specs.Model.{inUse, absent, pageAt}
 use Rattle.tables.specs.Search.{inPages}
-use Rattle.tables.specs.Changes.{changed}
+use Rattle.tables.specs.Changes.{changed, edited, after}
 use Rattle.tables.specs.Keep.{unchanged}
 use Rattle.steps.specs.declared.Call.{Call}
 use Rattle.steps.specs.declared.View.{View}
@@ -20,7 +21,8 @@ use Rattle.steps.specs.declared.Work.the-variants.{Nothing}
 use Rattle.steps.specs.declared.Verdict.{Verdict}
 use Rattle.steps.specs.declared.Decision.{Decision}
 use Rattle.steps.specs.Kinds.{frame, has}
-use Rattle.steps.specs.Steps.{Outcome, refuse, accept, Plan, test, copyAt, currents, firstCurrent, numbered, decideOn}
+use Rattle.steps.specs.Steps.{Outcome, refuse, accept, Plan, test, copyAt, currents, firstCurrent, numbered, decideOn, pageFor, numberOf}
+use Rattle.steps.specs.Promises.{laidOf, lenOf, workOf, settled}
 
 -- ---- what is lent
 
@@ -84,4 +86,32 @@ decidedAt t c size = decidedOn (t .shared) (pageAt t (c .page % 64)) (holderFrom
 abbrev pub ruled : ℕ → Decision → Decision
 ruled number d =
     cond (eqb number 0) d
-    (record { number = number; moved = false; laid = 0; len = 0; change = d .change; before = d .before; work = Nothing })
+    (record {
+      number = number;
+      moved = false;
+      laid = 0;
+      len = 0;
+      change = record { page = d .change .page; becomes = d .before };
+      before = d .before;
+      work = Nothing;
+    })
+
+-- ---- what a caller has of a decision
+
+-- the tables after a call that comes to o
+abbrev pub tablesLeft : Tables → Call → Outcome Plan → Tables
+tablesLeft t c (refuse n) = t
+tablesLeft t c (accept plan) = after t (edited t (pageFor t c) (plan .edit))
+
+-- the tables after a decision: they stay where they are, or its change is put into them
+abbrev pub tablesAfter : Tables → Decision → Tables
+tablesAfter t d = cond (d .moved) (settled t d) t
+
+-- of a decision d of a call c on tables t that comes to o
+pub record Decides (t : Tables) (c : Call) (o : Outcome Plan) (d : Decision) : Type 0 where
+  pub number-told : d .number ≡ numberOf o
+  pub laid-told : d .laid ≡ laidOf o
+  pub len-told : d .len ≡ lenOf o
+  pub work-told : d .work ≡ workOf o
+  pub tables-told : tablesAfter t d ≡ tablesLeft t c o
+  pub before-told : numberOf o ≡ accepted → d .before ≡ pageAt t (pageFor t c)

@@ -8,11 +8,14 @@ use lib.Dec.{leb, ltb, eqb}
 use Rattle.tables.specs.declared.Copy.{Copy}
 use Rattle.tables.specs.declared.Page.{Page}
 use Rattle.tables.specs.declared.Tables.{Tables}
+use Rattle.tables.specs.declared.Edit.{Edit}
+use Rattle.tables.specs.declared.Edit.the-variants.{Kept}
 use Rattle.tables.specs.Lists.{all}
 use Rattle.tables.specs.Numbers.{accepted, brokenTables, misfitStore}
 use Rattle.tables.specs.Model.{inUse, pageAt}
 use Rattle.tables.specs.Rules.{sound}
-use Rattle.tables.specs.Changes.{edited, after}
+use Rattle.tables.specs.Changes.{changed, after}
+use Rattle.tables.specs.Keep.{unchanged}
 use Rattle.steps.specs.declared.Call.{Call}
 use Rattle.steps.specs.declared.Form.{Form}
 use Rattle.steps.specs.declared.Work.{Work}
@@ -57,27 +60,27 @@ abbrev pub workOf : Outcome Plan → Work
 workOf (refuse n) = Nothing
 workOf (accept plan) = plan .work
 
--- the tables after a call that comes to o
-abbrev pub tablesLeft : Tables → Call → Outcome Plan → Tables
-tablesLeft t c (refuse n) = t
-tablesLeft t c (accept plan) = after t (edited t (c .page) (plan .edit))
+abbrev pub editOf : Outcome Plan → Edit
+editOf (refuse n) = Kept
+editOf (accept plan) = plan .edit
 
--- the tables after a decision: they stay where they are, or its change is put into them
+-- The decision of a call c on tables t that comes to o, with the record of the page that it names: a number above 63 is refused whatever
+-- the record is. The tables need not be moved where the edit is seen at a glance to leave the record as it is.
+abbrev pub decisionOf : Tables → Call → Outcome Plan → Decision
+decisionOf t c o =
+    record {
+      number = numberOf o;
+      moved = not (unchanged (pageAt t (c .page % 64)) (editOf o));
+      laid = laidOf o;
+      len = lenOf o;
+      change = record { page = c .page; becomes = changed (pageAt t (c .page % 64)) (editOf o) };
+      before = pageAt t (c .page % 64);
+      work = workOf o;
+    }
+
+-- the tables with a decision's change put into them
 abbrev pub settled : Tables → Decision → Tables
 settled t d = after t (d .change)
-
-abbrev pub tablesAfter : Tables → Decision → Tables
-tablesAfter t d = cond (d .moved) (settled t d) t
-
--- d is the decision of a call c on tables t that comes to o
-pub record Decides (t : Tables) (c : Call) (o : Outcome Plan) (d : Decision) : Type 0 where
-  pub number-told : d .number ≡ numberOf o
-  pub laid-told : d .laid ≡ laidOf o
-  pub len-told : d .len ≡ lenOf o
-  pub work-told : d .work ≡ workOf o
-  pub tables-told : tablesAfter t d ≡ tablesLeft t c o
-  -- what is to be laid or shown is about the page's record before the call
-  pub before-told : numberOf o ≡ accepted → d .before ≡ pageAt t (c .page)
 
 -- ---- what was decided, carried out
 

@@ -12,7 +12,7 @@ use Rattle.tables.specs.declared.Holder.the-variants.{Free}
 use Rattle.tables.specs.declared.Edit.{Edit}
 use Rattle.tables.specs.declared.Edit.the-variants.{Kept, Created, Deleted, Granted, Staled, Placed, Added, Removed, Marked}
 use Rattle.tables.specs.Lists.{count}
-use Rattle.tables.specs.Numbers.{brokenTables, misfitStore, outOfRange, pageStands, noPage, noRight, nothingCurrent, noCopy, frameHeld, eightCopies, lastRecent, stale, noFrame}
+use Rattle.tables.specs.Numbers.{accepted, brokenTables, misfitStore, outOfRange, pageStands, noPage, noRight, nothingCurrent, noCopy, frameHeld, eightCopies, lastRecent, stale, noFrame}
 use Rattle.tables.specs.Model.{frames, isNull, inUse, absent, noCopyEntry, pageAt}
 use Rattle.tables.specs.Rules.{isCurrent, isRecent, sound}
 use Rattle.tables.specs.Search.{holderOf, isFree}
@@ -138,12 +138,16 @@ decideOn v c size =
 
 -- ---- a call on the tables
 
+-- the page that it acts on
+abbrev pub pageFor : Tables → Call → ℕ
+pageFor t c = c .page
+
 -- what it looks at: the record of its page, and the holder of its frame; where it names none, none is sought
 abbrev pub viewOf : Tables → Call → View
 viewOf t c =
     record {
       frames = frames t;
-      page = pageAt t (c .page);
+      page = pageAt t (pageFor t c);
       holder = cond (has frame (c .kind)) (holderOf t (c .frame)) Free;
     }
 
@@ -158,4 +162,4 @@ decideAny t fast slow c size = test (not (sound t)) brokenTables (test (not (fit
 -- what a call came to, as numbers
 abbrev pub numberOf : {A : Type 0} → Outcome A → ℕ
 numberOf (refuse n) = n
-numberOf (accept a) = 0
+numberOf (accept a) = accepted

@@ -35,7 +35,7 @@ ghost use Rattle.tables.specs.Model.{inUse, pageAt};
 ghost use Rattle.tables.specs.Search.{copyOn};
 ghost use Rattle.steps.specs.Stores.{fits};
 ghost use Rattle.steps.specs.Steps.{refuse, accept, decideOn, decide, decideAny};
-ghost use Rattle.steps.specs.Promises.{rulesNumber, settled, Decides};
+ghost use Rattle.steps.specs.Promises.{rulesNumber, decisionOf, settled};
 ghost use Rattle.steps.specs.Private.{verdictOf, ruled, frameCount, decidedOn, holderFrom, searchStart, decidedAt};
 
 // Turned back with a number of document 01's table.
@@ -195,7 +195,7 @@ fn judge_at(tables: &Tables, call: Call, size: usize) -> Decision
 
 // What a call comes to on tables that keep the rules, with stores that fit. `size` is the number of a write's bytes.
 pub fn judge(tables: Tables, call: Call, size: usize) -> Decision
-    ensures { λ r. ⌜ Decides tables call (decide tables call size) r ⌝ }
+    ensures { λ r. ⌜ r ≡ decisionOf tables call (decide tables call size) ⌝ }
 {
     judge_at(&tables, call, size)
 }
@@ -229,14 +229,17 @@ fn ruled(number: u8, d: Decision) -> Decision
     if number == ACCEPTED {
         return d;
     }
-    let change = d.change;
+    let page = d.change.page;
     let before = d.before;
     Decision {
         number,
         moved: false,
         laid: 0,
         len: 0,
-        change,
+        change: Change {
+            page,
+            becomes: before,
+        },
         before,
         work: Work::Nothing,
     }
@@ -250,14 +253,14 @@ pub fn judge_any(
     fast_len: usize,
     slow_len: usize,
 ) -> Decision
-    ensures { λ r. ⌜ Decides tables call (decideAny tables «fast_len» «slow_len» call size) r ⌝ }
+    ensures { λ r. ⌜ r ≡ decisionOf tables call (decideAny tables «fast_len» «slow_len» call size) ⌝ }
 {
     let number = rules(tables, fast_len, slow_len);
     let d = judge_at(&tables, call, size);
     ruled(number, d)
 }
 
-// The tables after what was decided. Small, so that it is part of its caller.
+// The tables with what was decided put into them; a caller that sees `moved` false keeps its own. Small, so that it is part of its caller.
 pub fn settle(tables: Tables, d: Decision) -> Tables
     ensures { λ r. ⌜ r ≡ settled tables d ⌝ }
 {

@@ -4,7 +4,6 @@ pub mod Owners
 pub mod Access
 pub mod Moves
 pub mod Frames
-pub mod Parsing
 pub mod Induction
 pub mod Whole
 pub mod Refusals

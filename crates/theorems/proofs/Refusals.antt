@@ -13,10 +13,10 @@ use Rattle.messages.specs.declared.Parsed.{Parsed}
 use Rattle.messages.specs.Replies.{reply, replyIn}
 use Rattle.messages.specs.Run.{Sent, asked, bytesOf, respond, answer}
 use Rattle.theorems.specs.Demand1.{Demand1}
-use Rattle.theorems.proofs.Parsing.{Known, bad, good, asked-known}
+use Rattle.messages.proofs.ParseLaws.{Known, bad, good, asked-known}
 
 responded : (s : State) {a : Parsed} (bs : List ℕ) → Known a → numberOf (respond s a bs) ≤ 18
-responded s bs (bad h) = omega arith
+responded s bs (bad some h) = omega arith
 responded s bs (good {c}) = omega (arith, step-number s c bs)
 
 answered : (room : ℕ) (s : State) (x : Sent) → numberOf (answer room s x) ≤ 18

@@ -24,7 +24,7 @@ use Rattle.messages.specs.declared.Parsed.the-variants.{Refused, Asked}
 use Rattle.messages.specs.Run.{Sent, asked, bytesOf, respond, answer, messagesOf}
 use Rattle.theorems.specs.Flat.{Flat, Slot, gone, here, slotAt, none, flatKind, react, reactTo, accepts}
 use Rattle.theorems.specs.Demand3.{flatAfter, answered, lacks, due, SameSlot, Demand3}
-use Rattle.theorems.proofs.Parsing.{Known, bad, good, asked-known}
+use Rattle.messages.proofs.ParseLaws.{Known, bad, good, asked-known}
 use Rattle.theorems.proofs.Agreement.{AlikeSlot, turned-back, ResultAgrees, says, eleven, leaves, ofKind, CallAgrees, carried-agrees, Inv}
 use Rattle.theorems.proofs.Owners.{create-agrees, delete-agrees, grant-agrees}
 use Rattle.theorems.proofs.Access.{read-agrees, write-agrees}
@@ -60,7 +60,7 @@ module _ (s : State) (f : Flat) (i : Inv s f) where
 
   parsed-agrees : (a : Parsed) (bs : List ℕ) → Known a → ResultAgrees f (answered a) (lacksIn a) (respond s a bs) (reactTo f a bs)
   unfolding reactTo
-  parsed-agrees (Refused n) bs (bad h) = turned-back (ne-eqb n nothingCurrent (λ e. omega arith))
+  parsed-agrees (Refused n) bs (bad some h) = turned-back (ne-eqb n nothingCurrent (λ e. omega arith))
   parsed-agrees (Asked c) bs k = step-agrees c bs
 
   parsed-keeps : (a : Parsed) (bs : List ℕ) → Good (left s (respond s a bs))
@@ -124,7 +124,8 @@ demand3 p s fast slow out file hp hs lp ls h =
       messages = k .messages;
       answers = k .answers;
       elevens-due = k .elevens-due;
-      sizes-kept = same;
+      fast-kept = ap (λ (a : Shared). a .p) same;
+      slow-kept = ap (λ (a : Shared). a .s) same;
       fast-long = long .0 ∙ ap (λ (a : Shared). 64 * a .p) same;
       slow-long = long .1 ∙ ap (λ (a : Shared). 64 * a .s) same;
       pages = end-same _ _ (k .inv);

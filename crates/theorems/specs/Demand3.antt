@@ -10,7 +10,7 @@ use Rattle.tables.specs.declared.Page.{Page}
 use Rattle.tables.specs.declared.Tables.{Tables}
 use Rattle.tables.specs.Lists.{count}
 use Rattle.tables.specs.Numbers.{nothingCurrent}
-use Rattle.tables.specs.Model.{inUse, absent, pageAt, sized, freshTables}
+use Rattle.tables.specs.Model.{inUse, absent, pageAt, freshTables}
 use Rattle.tables.specs.Rules.{isRecent}
 use Rattle.steps.specs.declared.Call.{Call}
 use Rattle.steps.specs.Kinds.{offset, has}
@@ -117,7 +117,8 @@ pub record Agrees (p s room : ℕ) (file : List ℕ) (r : Run) : Type 0 where
   -- 11 exactly where it is due
   pub elevens-due : elevens room (r .turns) ≡ dues room none (r .turns)
   -- P, S and the lengths of the stores stay, so that frame f is the f-th block of both together
-  pub sizes-kept : r .final .tables .shared ≡ sized p s
+  pub fast-kept : r .final .tables .shared .p ≡ p
+  pub slow-kept : r .final .tables .shared .s ≡ s
   pub fast-long : length (r .final .fast) ≡ 64 * p
   pub slow-long : length (r .final .slow) ≡ 64 * s
   pub pages : (q : ℕ) → q < 64

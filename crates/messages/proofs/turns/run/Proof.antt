@@ -7,7 +7,8 @@ use native.Mathlib.Omega.{arith}
 use lib.ListN.{length}
 use borrow.Author.Tests.{ne-eqb}
 use Rattle.steps.specs.Stores.{part}
-use Rattle.steps.specs.Promises.{stateOf, tablesAfter}
+use Rattle.steps.specs.Promises.{stateOf}
+use Rattle.steps.specs.Private.{tablesAfter}
 use Rattle.steps.proofs.StepLaws.{decide-ruled}
 use Rattle.messages.specs.declared.Next.the-variants.{Message}
 use Rattle.messages.specs.Messages.{parse, writeBytes, nextAt}

@@ -9,18 +9,18 @@ use lib.Dec.{ltb, eqb}
 use Rattle.tables.specs.Numbers.{foreignVersion, unknownKind, wrongLength}
 use Rattle.steps.specs.declared.Call.{Call}
 use Rattle.steps.specs.Kinds.{kinds, kindOf, leastLength, mostLength, callOf}
 use Rattle.messages.specs.declared.Parsed.{Parsed}
 use Rattle.messages.specs.declared.Parsed.the-variants.{Refused, Asked}
 use Rattle.messages.specs.Messages.{parse}
 use Rattle.messages.specs.Run.{Sent, cut, whole, asked}
 
 pub data Known : Parsed → Type 0 where
-  bad : {n : ℕ} → n ≤ 4 → Known (Refused n)
+  bad : {n : ℕ} → 1 ≤ n → n ≤ 4 → Known (Refused n)
   good : {c : Call} → Known (Asked c)
 
 pub asked-known : (x : Sent) → Known (asked x)
 unfolding parse
-asked-known cut = bad {n = 1} (omega arith)
+asked-known cut = bad {n = 1} (omega arith) (omega arith)
 asked-known (whole m) =
     ladder (eqb (length m) 0 || not (eqb (getD m 0 0) 1)) (eqb (length m) 1 || (eqb (getD m 1 0) 0 || ltb (length kinds) (getD m 1 0)))
     (ltb (length m) (leastLength (kindOf (getD m 1 0))) || ltb (mostLength (kindOf (getD m 1 0))) (length m))
@@ -28,7 +28,7 @@ asked-known (whole m) =
   where
     ladder : (a b c : Bool) (call : Call)
         → Known (cond a (Refused foreignVersion) (cond b (Refused unknownKind) (cond c (Refused wrongLength) (Asked call))))
-    ladder true b c call = bad {n = 2} (omega arith)
-    ladder false true c call = bad {n = 3} (omega arith)
-    ladder false false true call = bad {n = 4} (omega arith)
+    ladder true b c call = bad {n = 2} (omega arith) (omega arith)
+    ladder false true c call = bad {n = 3} (omega arith) (omega arith)
+    ladder false false true call = bad {n = 4} (omega arith) (omega arith)
     ladder false false false call = good
