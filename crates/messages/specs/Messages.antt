@@ -13,13 +13,13 @@ use Rattle.messages.specs.declared.Next.the-variants.{Message, Cut, End}
 
 -- ---- a message m: the L bytes after its length
 
--- "a version byte 1, a kind byte 1 to 11 .., then the arguments": 3 is "L is 1, or kind not 1 to 11"; 4: "L not as listed for the kind"
+-- 4: "L not as listed for the kind"; else the call: "then the arguments in the order above"
 abbrev pub parseKind : ℕ → List ℕ → Parsed
 parseKind kind m =
     cond (ltb (length m) (leastLength (kindOf kind)) || ltb (mostLength (kindOf kind)) (length m)) (Refused wrongLength)
     (Asked (callOf (kindOf kind) (drop 2 m)))
 
--- 2: "L is 0, or version not 1"
+-- "a version byte 1, a kind byte 1 to 11": 2: "L is 0, or version not 1"; 3: "L is 1, or kind not 1 to 11"
 unfoldable pub parse : List ℕ → Parsed
 parse m =
     cond (eqb (length m) 0 || not (eqb (getD m 0 0) 1)) (Refused foreignVersion)

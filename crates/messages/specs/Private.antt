@@ -16,6 +16,15 @@ use Rattle.messages.specs.declared.Next.{Next}
 use Rattle.messages.specs.declared.Next.the-variants.{Message, Cut, End}
 use Rattle.messages.specs.Replies.{be16}
 use Rattle.messages.specs.Messages.{parse}
+use Rattle.messages.specs.Run.{Sent, cut, whole, messagesOf}
+
+-- ---- the reader
+
+-- What the reader's answer at a place says of the messages from there on: the end, a cut end, or a message and those after it.
+abbrev pub yielded : List ℕ → Next → List Sent
+yielded file End = []
+yielded file Cut = cut ∷ []
+yielded file (Message start len next) = whole (part file start len) ∷ messagesOf (drop next file)
 
 -- ---- one message
 

@@ -12,7 +12,8 @@ use Rattle.steps.specs.Effects.{State}
 use Rattle.messages.specs.declared.Next.{Next}
 use Rattle.messages.specs.declared.Next.the-variants.{Message, Cut, End}
 use Rattle.messages.specs.Messages.{lengthAt, nextAt}
-use Rattle.messages.specs.Run.{Sent, split, messagesOf, yielded, leftBy, endOf}
+use Rattle.messages.specs.Run.{Sent, split, messagesOf, leftBy, endOf}
+use Rattle.messages.specs.Private.{yielded}
 use Rattle.messages.specs.Promises.{sentBy, sentAlone}
 use Rattle.messages.proofs.ReaderLaws.{reader-yields, message-at}
 use Rattle.program.specs.Served.{takenBy, firstTakes}

@@ -25,11 +25,11 @@ use Rattle.steps.specs.declared.Call.{Call}
 use Rattle.steps.specs.declared.View.{View}
 use Rattle.steps.specs.declared.Decision.{Decision}
 use Rattle.steps.specs.Kinds.{frame, has}
-use Rattle.steps.specs.Calls.{nameOutside, frameOutside, outside}
+use Rattle.steps.specs.Calls.{nameOutside, frameOutside}
 use Rattle.steps.specs.Stores.{fits}
 use Rattle.steps.specs.Steps.{Outcome, refuse, accept, Plan, test, decideOn, viewOf, decide, decideAny, numberOf}
 use Rattle.steps.specs.Promises.{rulesNumber, decisionOf}
-use Rattle.steps.specs.Private.{verdictOf, decision, decidedOn, holderFrom, searchStart, decidedAt, ruled, Decides}
+use Rattle.steps.specs.Private.{outside, verdictOf, decision, decidedOn, holderFrom, searchStart, decidedAt, ruled, Decides}
 use Rattle.steps.proofs.RangeLaws.{one-test}
 use Rattle.steps.proofs.DecideLaws.{page-near}
 

@@ -14,9 +14,9 @@ use Rattle.steps.specs.declared.Call.{Call}
 use Rattle.steps.specs.declared.View.{View}
 use Rattle.steps.specs.declared.Verdict.{Verdict}
 use Rattle.steps.specs.Kinds.{names, among, code}
-use Rattle.steps.specs.Calls.{nameOutside, frameOutside, badSpan, spanOutside, outside}
+use Rattle.steps.specs.Calls.{nameOutside, frameOutside, badSpan, spanOutside}
 use Rattle.steps.specs.Steps.{Outcome, refuse, Plan, test, perform, decideOn}
-use Rattle.steps.specs.Private.{verdictOf}
+use Rattle.steps.specs.Private.{outside, verdictOf}
 
 -- the sum is not needed where the offset is in range
 pub span-short : (o n : ℕ) → o ≤ 63 → (eqb n 0 || ltb (64 - o) n) ≡ badSpan o n

@@ -5,7 +5,7 @@ use lib.Dec.{leb, ltb, eqb}
 use Rattle.steps.specs.declared.Call.{Call}
 use Rattle.steps.specs.Kinds.{offset, bytes, frame, has}
 
--- "station, page, right .. too large"; what the call does not name is 0
+-- "station, page, right .. too large"; what a message's call does not name is 0 (`callOf`)
 abbrev pub nameOutside : Call → Bool
 nameOutside c = (ltb 15 (c .station) || ltb 63 (c .page)) || (ltb 15 (c .other) || ltb 2 (c .right))
 
@@ -20,7 +20,3 @@ badSpan start n = ltb 63 start || (eqb n 0 || ltb 64 (start + n))
 -- the count of a write is `size`, the number of its bytes
 abbrev pub spanOutside : ℕ → Call → Bool
 spanOutside size c = has offset (c .kind) && badSpan (c .offset) (cond (has bytes (c .kind)) size (c .count))
-
--- number 7, by any of the three
-abbrev pub outside : ℕ → ℕ → Call → Bool
-outside frames size c = nameOutside c || (frameOutside frames c || spanOutside size c)

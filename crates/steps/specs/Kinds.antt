@@ -40,6 +40,7 @@ unfoldable pub kinds : List Kind
 kinds =
     Create ∷ DeletePage ∷ Grant ∷ Read ∷ Write ∷ MakeCopy ∷ DeleteCopy ∷ SetCurrent ∷ RemoveCurrent ∷ LookPage ∷ LookFrame ∷ []
 
+-- a number that is no kind counts as 1 here, and is turned back before (`parse`)
 abbrev pub kindOf : ℕ → Kind
 kindOf number = getD kinds (number - 1) Create
 

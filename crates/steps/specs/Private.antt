@@ -1,6 +1,6 @@
 -- What the private functions of this layer ask of each other and promise. For the proofs alone: no exported contract names it.
 use Prim.Native.Nat.{ℕ, _+_, _-_, _*_, _%_, _≤_, _<_}
-use mathlib.Core.Bool.{Bool, true, false, not, _&&_, cond}
+use mathlib.Core.Bool.{Bool, true, false, not, _&&_, _||_, cond}
 use mathlib.Core.List.{List}
 use mathlib.Core.Path.{_≡_}
 use lib.ListN.{length, take, drop, getD}
@@ -21,6 +21,7 @@ use Rattle.steps.specs.declared.Work.the-variants.{Nothing}
 use Rattle.steps.specs.declared.Verdict.{Verdict}
 use Rattle.steps.specs.declared.Decision.{Decision}
 use Rattle.steps.specs.Kinds.{frame, has}
+use Rattle.steps.specs.Calls.{nameOutside, frameOutside, spanOutside}
 use Rattle.steps.specs.Steps.{Outcome, refuse, accept, Plan, test, copyAt, currents, firstCurrent, numbered, decideOn, pageFor, numberOf}
 use Rattle.steps.specs.Promises.{laidOf, lenOf, workOf, settled}
 
@@ -30,6 +31,12 @@ use Rattle.steps.specs.Promises.{laidOf, lenOf, workOf, settled}
 pub record Room (fast slow : List ℕ) (p f : ℕ) : Type 0 where
   pub split : length fast ≡ 64 * p
   pub there : 64 * f + 64 ≤ length fast + length slow
+
+-- ---- number 7
+
+-- by any of its three tests
+abbrev pub outside : ℕ → ℕ → Call → Bool
+outside frames size c = nameOutside c || (frameOutside frames c || spanOutside size c)
 
 -- ---- what a call comes to
 

@@ -3,7 +3,8 @@ use crate::Call;
 use crate::Kind;
 ghost use mathlib.Core.Path.{_≡_};
 ghost use Rattle.steps.specs.Kinds.{frame, has};
-ghost use Rattle.steps.specs.Calls.{badSpan, spanOutside, outside};
+ghost use Rattle.steps.specs.Calls.{badSpan, spanOutside};
+ghost use Rattle.steps.specs.Private.{outside};
 
 // Whether the offset is too large, the count is 0, or both together go past the page.
 fn bad_span(offset: u8, count: usize) -> bool

@@ -1,5 +1,5 @@
--- Where the code need not put a record back, since the edit is seen at a glance to leave it as it is.
--- Nothing here has to be believed: `unchanged-same` proves that such an edit does leave it.
+-- Where the tables need not be moved, since an edit is seen at a glance to leave the record as it is: what the exported `keeps` and the
+-- `moved` of a decision say. No number, reply or table depends on it: `unchanged-same` proves that such an edit does leave the record.
 use Prim.Native.Nat.{ℕ}
 use mathlib.Core.Bool.{Bool, true, false, not, _&&_, _||_}
 use mathlib.Core.List.{List}

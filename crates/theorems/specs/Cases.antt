@@ -9,7 +9,7 @@ use Rattle.tables.specs.Rules.{uses, standingRule, absentRule, pageRule, alone,
 use Rattle.tables.specs.Search.{inCopies, inPages}
 use Rattle.tables.specs.Changes.{created, closeGap, changed, after}
 use Rattle.steps.specs.Stores.{part, splice, fits, layCurrent}
-use Rattle.steps.specs.Kinds.{names, kinds, code, among, argument, callOf}
+use Rattle.steps.specs.Kinds.{names, kinds, code, among, leastLength, mostLength, argument, callOf}
 use Rattle.steps.specs.Steps.{Outcome, firstCurrent, perform, decideOn}
 use Rattle.steps.specs.Effects.{entries, laidIn, shownOf, State, Result, step}
 use Rattle.messages.specs.Messages.{parse}
@@ -17,6 +17,16 @@ use Rattle.messages.specs.Replies.{reply}
 use Rattle.messages.specs.Run.{Sent, split, messagesOf, turnsOf, endOf, answer, Run, run, replies}
 use Rattle.theorems.specs.Flat.{none, reactAs, reactTo, Answer}
 use Rattle.theorems.specs.Demand3.{elevens, flatAfter, flatAnswers, runAnswers}
+
+-- ---- "So L is 4, 4, 6, 6, 6 to 69, 5, 4, 4, 4, 3, 3"
+
+pub least-lengths : map leastLength kinds ≡ (4 ∷ 4 ∷ 6 ∷ 6 ∷ 6 ∷ 5 ∷ 4 ∷ 4 ∷ 4 ∷ 3 ∷ 3 ∷ [])
+unfolding kinds names
+least-lengths = refl
+
+pub most-lengths : map mostLength kinds ≡ (4 ∷ 4 ∷ 6 ∷ 6 ∷ 69 ∷ 5 ∷ 4 ∷ 4 ∷ 4 ∷ 3 ∷ 3 ∷ [])
+unfolding kinds names code among
+most-lengths = refl
 
 -- ---- the worked example
 

@@ -1,4 +1,4 @@
--- Document 01, "The flat memory", from that section alone.
+-- Document 01, "The flat memory". Of the kernel it uses what a message asks for (`Call`) and which kinds name a station.
 use Prim.Native.Nat.{ℕ, _+_}
 use mathlib.Core.Bool.{Bool, true, false, not, _||_, cond}
 use mathlib.Core.List.{List, [], _∷_, _++_}
