@@ -5,6 +5,7 @@
 --     asks, tells      a call of a function by reference, and of one by value, whose contract says r ≡ x: the machine value of x comes back, and the context is as it was
 --     looks-in, looks-away     what lies behind the reference, in memory, and the reference again
 --     lends, regains   a local is lent, for a lifetime that is made for it, and taken back as it was
+--     local, frees-full, frees-room    a local is read, and freed at the function's end, with what is in it or empty
 --     while, if        the test of a `while`, and an `if` with no `else`
 --     val-leaves, ref-leaves   the exit, at which nothing is had of any parameter
 --     val-meets, ref-meets     a walk meets the contract
@@ -63,18 +64,18 @@ pub record Data : Type 2 where
   pub silent : (x : row .Denot) (f : Last (row .exit yes) x) → left (row .exit yes) x f ≡ ftrue
 
 abbrev pub uint : Width → Data
-uint w =
-    record { row = UInt w; val = vint w; spelled = uint-tells w; makes = λ 𝓤 H A W. uint-makes 𝓤 H A W w; lawful = λ 𝓤 H A W. uint-lawful 𝓤 H A W w; last = λ _. tt; silent = λ _ _. refl }
+uint w = record
+    { row = UInt w; val = vint w; spelled = uint-tells w; makes = λ 𝓤 H A W. uint-makes 𝓤 H A W w; lawful = λ 𝓤 H A W. uint-lawful 𝓤 H A W w; last = λ _. tt; silent = λ _ _. refl }
 
 abbrev pub struct : (T : SD.Declared) → SL.Laws T → Plains (SD.fields T) → ((x : T .D) → Last (SD.row T .exit yes) x)
     → ((x : T .D) (f : Last (SD.row T .exit yes) x) → left (SD.row T .exit yes) x f ≡ ftrue) → Data
-struct T L p last silent =
-    record { row = SD.row T; val = SL.val T L; spelled = SL.tells T L; makes = λ 𝓤 H A W. SL.makes T p 𝓤 H A; lawful = λ 𝓤 H A W. SL.lawful T L 𝓤 H A W; last = last; silent = silent }
+struct T L p last silent = record
+    { row = SD.row T; val = SL.val T L; spelled = SL.tells T L; makes = λ 𝓤 H A W. SL.makes T p 𝓤 H A; lawful = λ 𝓤 H A W. SL.lawful T L 𝓤 H A W; last = last; silent = silent }
 
 abbrev pub enum : (T : ED.Declared) → EL.Laws T → Plainss (ED.variants T) → Few (ED.shape T) → ((x : T .D) → Last (ED.row T .exit yes) x)
     → ((x : T .D) (f : Last (ED.row T .exit yes) x) → left (ED.row T .exit yes) x f ≡ ftrue) → Data
-enum T L p few last silent =
-    record { row = ED.row T; val = EL.val T L; spelled = EL.tells T L; makes = λ 𝓤 H A W. EL.makes T p 𝓤 H A; lawful = λ 𝓤 H A W. EL.lawful T L 𝓤 H A W few; last = last; silent = silent }
+enum T L p few last silent = record
+    { row = ED.row T; val = EL.val T L; spelled = EL.tells T L; makes = λ 𝓤 H A W. EL.makes T p 𝓤 H A; lawful = λ 𝓤 H A W. EL.lawful T L 𝓤 H A W few; last = last; silent = silent }
 
 module _ (n : ℕ) where
   abbrev pub slots : List Data → List (Slot n)
@@ -124,8 +125,8 @@ abbrev pub asked : {M : Type 1} (𝓤 : URA M) (H : Heap 𝓤) (A : Atoms 𝓤) 
 asked 𝓤 H A T c = tripleOf 𝓤 H A (T .signature) (closing 𝓤 H A T c)
 
 -- ---- a call
-module _ {M : Type 1} {𝓤 : URA M} {H : Heap 𝓤} {A : Atoms 𝓤} {K : Type 0} {W : Given 𝓤 H A} {Γ : List
-    (Item 𝓤)} {E : Env 𝓤 H} {q : Post 𝓤 H} {d : Place} {f : Name} {xs : List Operand} {rest : Body} where
+module _ {M : Type 1} {𝓤 : URA M} {H : Heap 𝓤} {A : Atoms 𝓤} {K : Type 0} {W : Given 𝓤 H A} {Γ : List (Item 𝓤)} {E : Env 𝓤 H} {q : Post 𝓤 H}
+    {d : Place} {f : Name} {xs : List Operand} {rest : Body} where
   told : K → (𝓣 : Tables 𝓤 H) {n : ℕ} (ss : List (Slot n)) (ks : Kepts ss) (D : Data) (c : Clauses 𝓤 (to ss ks D))
       → Triple 𝓤 (𝓣 .C f) (asked 𝓤 H A (to ss ks D) c) → (y : asked 𝓤 H A (to ss ks D) c .Ghost)
       (x : D .row .Denot) → ((r : D .row .Denot) (e : AtExit (to ss ks D) (y .0 .0)) → c (y .0 .0) (y .0 .3) .ensures (y .1) r e ≡ fact 𝓤 (r ≡ x))
@@ -139,29 +140,30 @@ module _ {M : Type 1} {𝓤 : URA M} {H : Heap 𝓤} {A : Atoms 𝓤} {K : Type 
       calls-at t (fmOf 𝓤 H (W .laws) 𝓣) (asked 𝓤 H A T c) met y os (λ w.
       use1 W (later (some (λ (r : D .row .Denot). (raw Alive ⊛ ‵ (D .row .own r (w ∷ []))) ⊛ raw (ensured 𝓤 H A T c (y .0 .0) (y .0 .3) (y .1) r))))
       (id⊢ 𝓤 _) $ await t tt $ pick t (λ r. split t $ move t (1 ∷ []) $
-      use1 W (some (λ (ws : Lasts T (y .0 .0) (y .0 .3)). ‵ (lasts T (y .0 .0) (y .0 .3) ws) ⊛ raw (c (y .0 .0) (y .0 .3) .ensures (y .1) r
-      (atExit T (y .0 .0) (y .0 .3) ws)))) (id⊢ 𝓤 _) $ pick t (λ ws.
+      use1 W
+      (some (λ (ws : Lasts T (y .0 .0) (y .0 .3)). ‵ (lasts T (y .0 .0) (y .0 .3) ws) ⊛ raw
+      (c (y .0 .0) (y .0 .3) .ensures (y .1) r (atExit T (y .0 .0) (y .0 .3) ws)))) (id⊢ 𝓤 _) $ pick t (λ ws.
       split t $ drop t $ rewrite t 0 (λ (P : SProp 𝓤). raw P) (says r (atExit T (y .0 .0) (y .0 .3) ws)) refl $ heard t (r ≡ x) (λ e.
-      split t $ move t (1 ∷ []) $ rewrite t 0 (λ (r′ : D .row .Denot). ‵ (D .row .own r′ (w ∷ []))) e refl $
-      facts t (D .row) (Is (D .row)) (shows 𝓤 H A (D .row)) x (w ∷ []) (λ is.
+      split t $ move t (1 ∷ []) $ rewrite t 0 (λ (r′ : D .row .Denot). ‵ (D .row .own r′ (w ∷ []))) e refl $ facts t (D .row) (Is (D .row))
+      (shows 𝓤 H A (D .row)) x (w ∷ []) (λ is.
       let is′ : Is (D .row) x (D .val x ∷ []) = subst (λ (vs : List Val). Is (D .row) x vs) (D .spelled x (w ∷ []) is) is in
       subst (λ (v : Val). Seq K W (raw Alive ∷ Γ) (lands (𝓣 .C) (𝓣 .Λ) E d v rest q)) (sym (ap only (D .spelled x (w ∷ []) is)))
       (k is′ (D .lawful 𝓤 H A W .typed x (D .val x ∷ []) is′)))))))
 
-module _ {M : Type 1} {𝓤 : URA M} {H : Heap 𝓤} {A : Atoms 𝓤} {K : Type 0} {W : Given 𝓤 H A} {Γ : List
-    (Item 𝓤)} {E : Env 𝓤 H} {q : Post 𝓤 H} {d : Place} {f : Name} {xs : List Operand} {rest : Body} where
+module _ {M : Type 1} {𝓤 : URA M} {H : Heap 𝓤} {A : Atoms 𝓤} {K : Type 0} {W : Given 𝓤 H A} {Γ : List (Item 𝓤)} {E : Env 𝓤 H} {q : Post 𝓤 H}
+    {d : Place} {f : Name} {xs : List Operand} {rest : Body} where
   -- of a function by value
   pub tells : K → (𝓣 : Tables 𝓤 H) (Ds : List Data) (D : Data) (c : Clauses 𝓤 (by-val Ds D)) → Triple 𝓤 (𝓣 .C f) (asked 𝓤 H A (by-val Ds D) c)
       → (a : Denotes 0 tt Ds) → Ares 0 tt Ds a → (g : c tt a .ghost) → ent 𝓤 (emp 𝓤) (c tt a .requires g)
       → (x : D .row .Denot) → ((r : D .row .Denot) (e : AtExit (by-val Ds D) tt) → c tt a .ensures g r e ≡ fact 𝓤 (r ≡ x))
-      → Opds K W (raw (asked 𝓤 H A (by-val Ds D) c .pre ((tt, tt, tt, a, machine 0 tt Ds a), g)) ∷ Γ) E xs (flat (typesAt (slots 0 Ds) tt)
-      (machine 0 tt Ds a))
+      → Opds K W (raw (asked 𝓤 H A (by-val Ds D) c .pre ((tt, tt, tt, a, machine 0 tt Ds a), g)) ∷ Γ) E xs
+      (flat (typesAt (slots 0 Ds) tt) (machine 0 tt Ds a))
       → (Is (D .row) x (D .val x ∷ []) → Typed (D .row .mir) (D .val x ∷ []) → Seq K W Γ (lands (𝓣 .C) (𝓣 .Λ) E d (D .val x) rest q))
       → Seq K W Γ (runs (𝓣 .C) (𝓣 .Λ) E (seq (call f xs d) rest) q)
   tells t 𝓣 Ds D c met a are g req x says os k =
       use0 W (raw (asked 𝓤 H A (by-val Ds D) c .pre ((tt, tt, tt, a, machine 0 tt Ds a), g)))
-      (qed W [] ∵ use0 W (raw (c tt a .requires g)) req $ use0 W (‵ (owns (typesAt (slots 0 Ds) tt) a (machine 0 tt Ds a)))
-      (made 0 tt 𝓤 H A W Ds a are) $ nothing ! $ join ! $ frame ! $ done !) $
+      (qed W [] ∵ use0 W (raw (c tt a .requires g)) req $
+      use0 W (‵ (owns (typesAt (slots 0 Ds) tt) a (machine 0 tt Ds a))) (made 0 tt 𝓤 H A W Ds a are) $ nothing ! $ join ! $ frame ! $ done !) $
       told t 𝓣 (slots 0 Ds) (kepts 0 Ds) D c met ((tt, tt, tt, a, machine 0 tt Ds a), g) x says os (λ is wt. drop t $ k is wt)
 
   -- of a function by reference
@@ -170,19 +172,18 @@ module _ {M : Type 1} {𝓤 : URA M} {H : Heap 𝓤} {A : Atoms 𝓤} {K : Type 
       → (κ : Lft) (q′ : Share) (t : RefT (R .Denot)) (a : Denotes 1 (κ, tt) Ds) → Ares 1 (κ, tt) Ds a → (g : c (κ, tt) (t, a) .ghost)
       → ent 𝓤 (emp 𝓤) (c (κ, tt) (t, a) .requires g)
       → (x : D .row .Denot) → ((r : D .row .Denot) (e : AtExit (by-ref R Ds D) (κ, tt)) → c (κ, tt) (t, a) .ensures g r e ≡ fact 𝓤 (r ≡ x))
-      → Opds K W (raw (asked 𝓤 H A (by-ref R Ds D) c .pre (((κ, tt), (q′, tt), tt, (t, a), (ptr-vals t, machine 1 (κ, tt) Ds a)), g))
-      ∷ ‵ (ShrRef (named 0) κ R .own t (ptr-vals t)) ∷ Γ) E xs
+      → Opds K W (raw (asked 𝓤 H A (by-ref R Ds D) c .pre (((κ, tt), (q′, tt), tt, (t, a), (ptr-vals t, machine 1 (κ, tt) Ds a)), g)) ∷ ‵
+      (ShrRef (named 0) κ R .own t (ptr-vals t)) ∷ Γ) E xs
       (flat (typesAt (by-ref R Ds D .signature .params) (κ, tt)) (ptr-vals t, machine 1 (κ, tt) Ds a))
-      → (Is (D .row) x (D .val x ∷ []) → Typed (D .row .mir) (D .val x ∷ []) → Seq K W (‵ (ShrRef (named 0) κ R .own t (ptr-vals t))
-      ∷ ‵ (flft κ q′) ∷ Γ) (lands (𝓣 .C) (𝓣 .Λ) E d (D .val x) rest q))
+      → (Is (D .row) x (D .val x ∷ []) → Typed (D .row .mir) (D .val x ∷ [])
+      → Seq K W (‵ (ShrRef (named 0) κ R .own t (ptr-vals t)) ∷ ‵ (flft κ q′) ∷ Γ) (lands (𝓣 .C) (𝓣 .Λ) E d (D .val x) rest q))
       → Seq K W (‵ (ShrRef (named 0) κ R .own t (ptr-vals t)) ∷ ‵ (flft κ q′) ∷ Γ) (runs (𝓣 .C) (𝓣 .Λ) E (seq (call f xs d) rest) q)
   asks k₀ 𝓣 R Ds D c met κ q′ t a are g req x says os k =
-      use1 W (‵ (ShrRef (named 0) κ R .own t (ptr-vals t)) ⊛ ‵ (ShrRef (named 0) κ R .own t (ptr-vals t))) (shr-copy 𝓤 H A W (named 0) κ R .twice t
-      (ptr-vals t)) $ split k₀ $ move k₀ (0 ∷ 2 ∷ []) $
+      use1 W (‵ (ShrRef (named 0) κ R .own t (ptr-vals t)) ⊛ ‵ (ShrRef (named 0) κ R .own t (ptr-vals t)))
+      (shr-copy 𝓤 H A W (named 0) κ R .twice t (ptr-vals t)) $ split k₀ $ move k₀ (0 ∷ 2 ∷ []) $
       use2 W (raw (asked 𝓤 H A (by-ref R Ds D) c .pre (((κ, tt), (q′, tt), tt, (t, a), (ptr-vals t, machine 1 (κ, tt) Ds a)), g)))
-      (qed W (‵ (ShrRef (named 0) κ R .own t (ptr-vals t))
-      ∷ ‵ (flft κ q′) ∷ []) ∵ use0 W (‵ (owns (typesAt (slots 1 Ds) (κ, tt)) a (machine 1 (κ, tt) Ds a))) (made 1 (κ, tt) 𝓤 H A W Ds a are) $
-      move ! (1 ∷ 0 ∷ []) $ fjoin ! $
+      (qed W (‵ (ShrRef (named 0) κ R .own t (ptr-vals t)) ∷ ‵ (flft κ q′) ∷ []) ∵ use0 W
+      (‵ (owns (typesAt (slots 1 Ds) (κ, tt)) a (machine 1 (κ, tt) Ds a))) (made 1 (κ, tt) 𝓤 H A W Ds a are) $ move ! (1 ∷ 0 ∷ []) $ fjoin ! $
       nothing ! $ move ! (2 ∷ 0 ∷ []) $ join ! $ join ! $ frame ! $ use0 W (raw (c (κ, tt) (t, a) .requires g)) req $ done !) $
       told k₀ 𝓣 (by-ref R Ds D .signature .params) (yes, kepts 1 Ds) D c met
       (((κ, tt), (q′, tt), tt, (t, a), (ptr-vals t, machine 1 (κ, tt) Ds a)), g) x says os (λ is wt.
@@ -198,8 +199,8 @@ opened 𝓤 D q′ κ q t Γ =
 
 module _ {M : Type 1} {𝓤 : URA M} {H : Heap 𝓤} {A : Atoms 𝓤} {K : Type 0} {W : Given 𝓤 H A} {Γ : List (Item 𝓤)} {G : Goal 𝓤 H} where
   -- a share of its cell, which is a value of its type
-  pub looks-in : K → Soaks G → (D : Data) → Copy 𝓤 H A (D .row) → (κ : Lft) (q : Share) (t : RefT (D .row .Denot)) → ((q′ : Share)
-      → Is (D .row) (t .now) (D .val (t .now) ∷ []) → Seq K W (opened 𝓤 D q′ κ q t Γ) G)
+  pub looks-in : K → Soaks G → (D : Data) → Copy 𝓤 H A (D .row) → (κ : Lft) (q : Share) (t : RefT (D .row .Denot))
+      → ((q′ : Share) → Is (D .row) (t .now) (D .val (t .now) ∷ []) → Seq K W (opened 𝓤 D q′ κ q t Γ) G)
       → Seq K W (‵ (ShrRef (named 0) κ (D .row) .own t (ptr-vals t)) ∷ ‵ (flft κ q) ∷ Γ) G
   looks-in k₀ z D cp κ q t k =
       fsplit3 k₀ $ move k₀ (2 ∷ 3 ∷ []) $ looks k₀ z (D .row) (Is (D .row)) (shows 𝓤 H A (D .row)) (λ x. D .val x ∷ []) (D .spelled) cp (t .now)
@@ -230,7 +231,8 @@ module _ {M : Type 1} {𝓤 : URA M} {H : Heap 𝓤} {A : Atoms 𝓤} {K : Type 
       use1 W (‵ (cellAt fullShare (D .row .mir) (D .val x ∷ []) l 0)) raw-in $ owned t (D .row) (Is (D .row)) (D .makes 𝓤 H A W) x
       (D .val x ∷ []) is $ move t (1 ∷ 0 ∷ []) $ fjoin t $
       fpack t (List Val) (λ vs. fsep (cellAt fullShare (D .row .mir) vs l 0) (D .row .own x vs)) (D .val x ∷ []) $ lft-new t z (λ α. move t (1 ∷ []) $
-      use1 W (later (some (λ (δ : GName). ‵ (ShrRef (named 0) (α ∷ []) (D .row) .own (lent-at l δ x) (vptr l 0 ∷ [])) ⊛ ‵
+      use1 W
+      (later (some (λ (δ : GName). ‵ (ShrRef (named 0) (α ∷ []) (D .row) .own (lent-at l δ x) (vptr l 0 ∷ [])) ⊛ ‵
       (flent (α ∷ []) (partAt (D .row) fullShare x l 0))))) (lends-shr 𝓤 H A W (D .row) (named 0) (α ∷ []) fullShare x l 0) $
       await t z $ pick t (λ δ. split t $ move t (0 ∷ 2 ∷ []) $ k α δ))
 
@@ -273,15 +275,15 @@ module _ {M : Type 1} {𝓤 : URA M} {H : Heap 𝓤} {A : Atoms 𝓤} {K : Type 
   frees-room t n {τ} {b} e e′ = freed t n (‵ (froom τ b zero)) (id⊢ 𝓤 (H .room τ b zero)) e e′
 
 -- ---- the test of a `while`, and an `if` with no `else`
-module _ {M : Type 1} {𝓤 : URA M} {H : Heap 𝓤} {A : Atoms 𝓤} {K : Type 0} {W : Given 𝓤 H A} {Γ : List
-    (Item 𝓤)} {E : Env 𝓤 H} {C : Calls 𝓤 H} {Λ : Loops 𝓤 H} {q : Post 𝓤 H} {x : Operand} {rest : Body} {y : Bool} where
+module _ {M : Type 1} {𝓤 : URA M} {H : Heap 𝓤} {A : Atoms 𝓤} {K : Type 0} {W : Given 𝓤 H A} {Γ : List (Item 𝓤)} {E : Env 𝓤 H} {C : Calls 𝓤 H}
+    {Λ : Loops 𝓤 H} {q : Post 𝓤 H} {x : Operand} {rest : Body} {y : Bool} where
   pub while : K → {n : ℕ} → Opd K W Γ E x (vbool y) → (T y → Seq K W Γ (runs C Λ E rest q)) → (T (not y) → Seq K W Γ (prop (post 𝓤 H q (exits n))))
       → Seq K W Γ (runs C Λ E (seq (cond x skip (exit n)) rest) q)
   while t o more over = first t $ branches t o (λ h. skips t $ record { prf = more h .prf }) (λ h. jumps t $ over h)
 
-  pub if : K → {b : Body} → Opd K W Γ E x (vbool y) → (T y
-      → Seq K W Γ (runs C Λ E b (anyQ (afterSeq 𝓤 H (Wp 𝓤 H C Λ E rest (post 𝓤 H q)) (post 𝓤 H q))))) → (T (not y) → Seq K W Γ (runs C Λ E rest q))
-      → Seq K W Γ (runs C Λ E (seq (cond x b skip) rest) q)
+  pub if : K → {b : Body} → Opd K W Γ E x (vbool y)
+      → (T y → Seq K W Γ (runs C Λ E b (anyQ (afterSeq 𝓤 H (Wp 𝓤 H C Λ E rest (post 𝓤 H q)) (post 𝓤 H q)))))
+      → (T (not y) → Seq K W Γ (runs C Λ E rest q)) → Seq K W Γ (runs C Λ E (seq (cond x b skip) rest) q)
   if t o then else = first t $ branches t o then (λ h. skips t $ record { prf = else h .prf })
 
 -- ---- the exit: nothing is had of any parameter
@@ -309,8 +311,8 @@ module _ {M : Type 1} (𝓤 : URA M) (H : Heap 𝓤) (A : Atoms 𝓤) (W : Given
   had : (n : ℕ) (κs : Lfts n) (ss : List (Slot n)) (ks : Kepts ss) (a : Denots (typesAt ss κs)) (ws : Fins κs ss ks a) (vss : Valss (typesAt ss κs))
       → ent 𝓤 (emp 𝓤) (sem 𝓤 H A (hasOf κs ss ks (gone ss ks) a ws vss))
   had n κs [] ks a ws vss = id⊢ 𝓤 (emp 𝓤)
-  had n κs (s ∷ ss) ks a ws vss = qed W [] ∵ use0 W (‵ (hasOf κs ss (ks .1) (gone ss (ks .1)) (a .1) (ws .1) (vss .1))) (had n κs ss (ks .1) (a .1)
-      (ws .1) (vss .1)) $ nothing ! $ fjoin ! $ done !
+  had n κs (s ∷ ss) ks a ws vss = qed W [] ∵ use0 W (‵ (hasOf κs ss (ks .1) (gone ss (ks .1)) (a .1) (ws .1) (vss .1)))
+      (had n κs ss (ks .1) (a .1) (ws .1) (vss .1)) $ nothing ! $ fjoin ! $ done !
 
   left-at : {n : ℕ} (ss : List (Slot n)) (ks : Kepts ss) (D : Data) (c : Clauses 𝓤 (to ss ks D)) (y : walk 𝓤 H A (to ss ks D) c .Ghost)
       (x : D .row .Denot) (ws : Lasts (to ss ks D) (y .0 .0) (y .0 .3))
@@ -333,8 +335,8 @@ module _ {M : Type 1} (𝓤 : URA M) (H : Heap 𝓤) (A : Atoms 𝓤) (W : Given
 
     -- the walk: from P, the function's run at the values passed ends in what `walk` asks
     abbrev pub Val-walk : Fun 𝓤 → (a : Denotes 0 tt Ds) → c tt a .ghost → SProp 𝓤 → Type 1
-    Val-walk run a g P = ent 𝓤 P (run (flat (typesAt (slots 0 Ds) tt) (machine 0 tt Ds a)) (walk 𝓤 H A (by-val Ds D) c .post
-        ((tt, tt, tt, a, machine 0 tt Ds a), g)))
+    Val-walk run a g P = ent 𝓤 P (run (flat (typesAt (slots 0 Ds) tt) (machine 0 tt Ds a))
+        (walk 𝓤 H A (by-val Ds D) c .post ((tt, tt, tt, a, machine 0 tt Ds a), g)))
 
     pub val-meets : (run : Fun 𝓤) → ((vs : List Val) → Mono 𝓤 (run vs)) → ((a : Denotes 0 tt Ds) (g : c tt a .ghost) → Ares 0 tt Ds a
         → Val-walk run a g (c tt a .requires g))
@@ -370,6 +372,7 @@ module _ {M : Type 1} (𝓤 : URA M) (H : Heap 𝓤) (A : Atoms 𝓤) (W : Given
         → Ref-walk run κ q t a g (sep 𝓤 (⋆ 𝓤 H A (entry κ q t)) (c (κ, tt) (t, a) .requires g)))
         → Meets 𝓤 H A (by-ref R Ds D .signature) run (closing 𝓤 H A (by-ref R Ds D) c)
     ref-meets run mono k =
+<<<<<<< HEAD
         walk-meets 𝓤 H A (by-ref R Ds D) (gone (by-ref R Ds D .signature .params) (by-ref R Ds D .kept)) W (
           goes-dropped 𝓤 H A W 1
               (shrRefTo (0 ∷ []) tt (plain (λ _. R))) yes (λ κs x f. refl),
@@ -383,5 +386,15 @@ module _ {M : Type 1} (𝓤 : URA M) (H : Heap 𝓤) (A : Atoms 𝓤) (W : Given
           machine 1 κs Ds
               (a .1),
         ))) ∷ raw (c κs a .requires g) ∷ []) ∵
+=======
+        walk-meets 𝓤 H A (by-ref R Ds D) (gone (by-ref R Ds D .signature .params) (by-ref R Ds D .kept)) W
+        (goes-dropped 𝓤 H A W 1 (shrRefTo (0 ∷ []) tt (plain (λ _. R))) yes (λ κs x f. refl), goes 1 Ds) c run mono
+        (walked 𝓤 H A (by-ref R Ds D) (gone (by-ref R Ds D .signature .params) (by-ref R Ds D .kept)) c run (λ κs. (ptr-vals, spells 1 κs Ds))
+        (λ κs. (shr-tells (named 0) (κs .0) R, spelleds 1 κs Ds)) (λ κs qs bounds a g are.
+        via 𝓤 (sep 𝓤 (sep 𝓤 (sem 𝓤 H A (ShrRef (named 0) (κs .0) R .own (a .0) (ptr-vals (a .0)))) (A .lft (κs .0) (qs .0))) (c κs a .requires g))
+        (qed W
+        (((‵ (flft (κs .0) (qs .0)) ⊛ ‵ ftrue) ⊛ ‵ (owns (typesAt (by-ref R Ds D .signature .params) κs) a
+        (ptr-vals (a .0), machine 1 κs Ds (a .1)))) ∷ raw (c κs a .requires g) ∷ []) ∵
+>>>>>>> c571f0987c607a26db09dc476de5a91bc5e81398
         split ! $ split ! $ move ! (2 ∷ []) $ fsplit ! $ keep ! (0 ∷ 2 ∷ 4 ∷ []) $ join ! $ done !)
         (k (κs .0) (qs .0) (a .0) (a .1) g (are .1))))

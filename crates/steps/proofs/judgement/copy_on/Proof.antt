@@ -79,7 +79,8 @@ module _ {M : Type 1} (𝓤 : URA M) (H : Heap 𝓤) (A : Atoms 𝓤) (W : Given
         (λ e. factI 𝓤 (k ≡ k) (emp 𝓤) refl)))))))))
 
   copy-on-meets : Meets 𝓤 H A copy-on.signature runs-as (copy-on.spec 𝓤 H A mem run)
-  copy-on-meets = ref-meets 𝓤 H A W T.the-row (byte ∷ word ∷ []) byte c runs-as (WpFn-mono 𝓤 H (W .laws) 𝓣 code.function)
+  copy-on-meets =
+      ref-meets 𝓤 H A W T.the-row (byte ∷ word ∷ []) byte c runs-as (WpFn-mono 𝓤 H (W .laws) 𝓣 code.function)
       (λ κ q t a g are. needs 𝓤 _ _ (walk κ q t (a .0) (are .0 .1) (a .1 .0) (are .1 .0 .1)))
 
 pub copy-on-spec : {M : Type 1} → stated.statement M
@@ -88,7 +89,7 @@ copy-on-spec 𝓤 H 𝓜 𝓖 𝓡 =
     entered 𝓤 H (tripleOf 𝓤 H (𝓖 .A) copy-on.signature (copy-on.spec 𝓤 H (𝓖 .A) (𝓜 .mem) (𝓡 .run)))
     (tables 𝓤 H 𝓜 𝓡 code.env .C) (tables 𝓤 H 𝓜 𝓡 code.env .Λ) #steps·judgement·copy-on code.function (code.unfolded 𝓤 H 𝓜 𝓡)
     (copy-on-meets 𝓤 H (𝓖 .A) (givenOf 𝓤 H 𝓜 𝓖) (𝓜 .mem) (𝓡 .run) (tablesOf 𝓤 H 𝓜 (tables 𝓤 H 𝓜 𝓡 code.env))
-    (cited 𝓤 H (asked 𝓤 H (𝓖 .A) page-at.ended (page-at.clauses 𝓤 H (𝓖 .A) (𝓜 .mem)
-    (𝓡 .run))) 𝓜 𝓡 code.env #steps·judgement·page-at page-at-def.routine code.calls-steps·judgement·page-at (page-at-thm.met 𝓤 H 𝓜 𝓖 𝓡))
-    (cited 𝓤 H (asked 𝓤 H (𝓖 .A) of-page.ended (of-page.clauses 𝓤 H (𝓖 .A) (𝓜 .mem)
-    (𝓡 .run))) 𝓜 𝓡 code.env #tables·Page·copy-on of-page-def.routine code.calls-tables·Page·copy-on (of-page-thm.met 𝓤 H 𝓜 𝓖 𝓡)))
+    (cited 𝓤 H (asked 𝓤 H (𝓖 .A) page-at.ended (page-at.clauses 𝓤 H (𝓖 .A) (𝓜 .mem) (𝓡 .run))) 𝓜 𝓡 code.env
+    #steps·judgement·page-at page-at-def.routine code.calls-steps·judgement·page-at (page-at-thm.met 𝓤 H 𝓜 𝓖 𝓡))
+    (cited 𝓤 H (asked 𝓤 H (𝓖 .A) of-page.ended (of-page.clauses 𝓤 H (𝓖 .A) (𝓜 .mem) (𝓡 .run))) 𝓜 𝓡 code.env
+    #tables·Page·copy-on of-page-def.routine code.calls-tables·Page·copy-on (of-page-thm.met 𝓤 H 𝓜 𝓖 𝓡)))

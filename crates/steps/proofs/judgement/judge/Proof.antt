@@ -60,8 +60,12 @@ module _ {M : Type 1} (𝓤 : URA M) (H : Heap 𝓤) (A : Atoms 𝓤) (W : Given
         qed W [] ∵ enter ! (𝓣 .C) (𝓣 .Λ) code.function (tabled .val h ∷ call .val m ∷ vint w64 size ∷ []) _ $
         alloc1 ! (λ l₀. alloc1 ! (λ l₁. alloc1 ! (λ l₂. alloc1 ! (λ l₃. alloc1 ! (λ l₄. alloc1 ! (λ l₅. alloc0 ! $ params1 ! $
         pass1 ! (init ! 8 refl (tabled .lawful 𝓤 H A W .typed h _ is-tables .0)) $
+<<<<<<< HEAD
         pass1 ! (init ! 6 refl (call .lawful 𝓤 H A W .typed m _ is-call .0)) $ pass1 ! (init ! 4 refl (tt, record { fits = size-fits })) $
         pass0 ! $
+=======
+        pass1 ! (init ! 6 refl (call .lawful 𝓤 H A W .typed m _ is-call .0)) $ pass1 ! (init ! 4 refl (tt, record { fits = size-fits })) $ pass0 ! $
+>>>>>>> c571f0987c607a26db09dc476de5a91bc5e81398
         assigns ! (of-opd ! (local ! 8 refl)) (from ! (stop !)) (init ! 2 refl (tabled .lawful 𝓤 H A W .typed h _ is-tables .0)) $
         assigns ! (addr ! (from ! (stop !))) (from ! (stop !)) (init ! 0 refl (tt, tt)) $
         -- [the reference; its token; the lender's part; _5; …; what frees _4; _3; …; _2; …; _1; …; room for _0; …]
@@ -77,7 +81,8 @@ module _ {M : Type 1} (𝓤 : URA M) (H : Heap 𝓤) (A : Atoms 𝓤) (W : Given
         (λ e. factI 𝓤 (Decides h m (decide h m size) answer) (emp 𝓤) (decided-at h m size (sixty-four h _ is-tables))))))))))))
 
   judge-meets : Meets 𝓤 H A judge.signature runs-as (judge.spec 𝓤 H A mem run)
-  judge-meets = val-meets 𝓤 H A W (tabled ∷ call ∷ word ∷ []) decision c runs-as (WpFn-mono 𝓤 H (W .laws) 𝓣 code.function)
+  judge-meets =
+      val-meets 𝓤 H A W (tabled ∷ call ∷ word ∷ []) decision c runs-as (WpFn-mono 𝓤 H (W .laws) 𝓣 code.function)
       (λ a g are. walk (a .0) (are .0) (a .1 .0) (are .1 .0) (a .1 .1 .0) (are .1 .1 .0 .1))
 
 pub judge-spec : {M : Type 1} → stated.statement M
@@ -86,5 +91,5 @@ judge-spec 𝓤 H 𝓜 𝓖 𝓡 =
     entered 𝓤 H (tripleOf 𝓤 H (𝓖 .A) judge.signature (judge.spec 𝓤 H (𝓖 .A) (𝓜 .mem) (𝓡 .run)))
     (tables 𝓤 H 𝓜 𝓡 code.env .C) (tables 𝓤 H 𝓜 𝓡 code.env .Λ) #steps·judgement·judge code.function (code.unfolded 𝓤 H 𝓜 𝓡)
     (judge-meets 𝓤 H (𝓖 .A) (givenOf 𝓤 H 𝓜 𝓖) (𝓜 .mem) (𝓡 .run) (tablesOf 𝓤 H 𝓜 (tables 𝓤 H 𝓜 𝓡 code.env))
-    (cited 𝓤 H (asked 𝓤 H (𝓖 .A) judge-at.ended (judge-at.clauses 𝓤 H (𝓖 .A) (𝓜 .mem)
-    (𝓡 .run))) 𝓜 𝓡 code.env #steps·judgement·judge-at judge-at-def.routine code.calls-steps·judgement·judge-at (judge-at-thm.met 𝓤 H 𝓜 𝓖 𝓡)))
+    (cited 𝓤 H (asked 𝓤 H (𝓖 .A) judge-at.ended (judge-at.clauses 𝓤 H (𝓖 .A) (𝓜 .mem) (𝓡 .run))) 𝓜 𝓡 code.env
+    #steps·judgement·judge-at judge-at-def.routine code.calls-steps·judgement·judge-at (judge-at-thm.met 𝓤 H 𝓜 𝓖 𝓡)))

@@ -51,8 +51,13 @@ use Rattle.steps.proofs.judgement.judge_any.Statement as stated
 use Rattle.steps.proofs.judgement.judge_any.Code as code
 
 module _ {M : Type 1} (𝓤 : URA M) (H : Heap 𝓤) (A : Atoms 𝓤) (W : Given 𝓤 H A) (mem : Memory → SProp 𝓤) (run : Routine → Fun 𝓤) (𝓣 : Tables 𝓤 H)
+<<<<<<< HEAD
     (known-rules : Triple 𝓤 (𝓣 .C #steps·judgement·rules) (asked 𝓤 H A rules.ended (rules.clauses 𝓤 H A mem run))) (known-judge : Triple 𝓤
     (𝓣 .C #steps·judgement·judge-at) (asked 𝓤 H A judge-at.ended (judge-at.clauses 𝓤 H A mem run)))
+=======
+    (known-rules : Triple 𝓤 (𝓣 .C #steps·judgement·rules) (asked 𝓤 H A rules.ended (rules.clauses 𝓤 H A mem run)))
+    (known-judge : Triple 𝓤 (𝓣 .C #steps·judgement·judge-at) (asked 𝓤 H A judge-at.ended (judge-at.clauses 𝓤 H A mem run)))
+>>>>>>> c571f0987c607a26db09dc476de5a91bc5e81398
     (known-ruled : Triple 𝓤 (𝓣 .C #steps·judgement·ruled) (asked 𝓤 H A ruled.ended (ruled.clauses 𝓤 H A mem run))) where
   abbrev c : Clauses 𝓤 judge-any.ended
   c = judge-any.clauses 𝓤 H A mem run
@@ -74,8 +79,8 @@ module _ {M : Type 1} (𝓤 : URA M) (H : Heap 𝓤) (A : Atoms 𝓤) (W : Given
     walk : Val-walk 𝓤 H A W (tabled ∷ call ∷ word ∷ word ∷ word ∷ []) decision c runs-as (h, (m, (size, (fl, (sl, tt))))) tt (emp 𝓤)
     walk =
         qed W [] ∵ enter ! (𝓣 .C) (𝓣 .Λ) code.function (tabled .val h ∷ call .val m ∷ vint w64 size ∷ vint w64 fl ∷ vint w64 sl ∷ []) _ $
-        alloc1 ! (λ l₀. alloc1 ! (λ l₁. alloc1 ! (λ l₂. alloc1 ! (λ l₃. alloc1 ! (λ l₄. alloc1 ! (λ l₅. alloc1 ! (λ l₆. alloc1 ! (λ l₇. alloc1 !
-        (λ l₈. alloc1 ! (λ l₉. alloc1 ! (λ l₁₀. alloc0 ! $ params1 ! $
+        alloc1 ! (λ l₀. alloc1 ! (λ l₁. alloc1 ! (λ l₂. alloc1 ! (λ l₃. alloc1 ! (λ l₄. alloc1 ! (λ l₅.
+        alloc1 ! (λ l₆. alloc1 ! (λ l₇. alloc1 ! (λ l₈. alloc1 ! (λ l₉. alloc1 ! (λ l₁₀. alloc0 ! $ params1 ! $
         pass1 ! (init ! 18 refl (tabled .lawful 𝓤 H A W .typed h _ is-tables .0)) $
         pass1 ! (init ! 16 refl (call .lawful 𝓤 H A W .typed m _ is-call .0)) $
         pass1 ! (init ! 14 refl (tt, record { fits = size-fits })) $ pass1 ! (init ! 12 refl (tt, record { fits = fl-fits })) $
@@ -102,13 +107,14 @@ module _ {M : Type 1} (𝓤 : URA M) (H : Heap 𝓤) (A : Atoms 𝓤) (W : Given
         frees-full ! 12 refl refl $ frees-full ! 10 refl refl $ forget ! 0 refl $ move ! (0 ∷ 9 ∷ []) $ free1 ! $
         frees-full ! 6 refl refl $ frees-full ! 4 refl refl $ frees-full ! 2 refl refl $ frees-full ! 0 refl refl $ free0 ! $
         by ! (val-leaves 𝓤 H A W (tabled ∷ call ∷ word ∷ word ∷ word ∷ []) decision c (h, (m, (size, (fl, (sl, tt))))) tt answer is
-        (λ e. factI 𝓤 (Decides h m (decideAny h fl sl m size) answer) (emp 𝓤) (ruled-decides h fl sl m size judged
-        (decided-at h m size (sixty-four h _ is-tables))))))))))))))))))))
+        (λ e. factI 𝓤 (Decides h m (decideAny h fl sl m size) answer) (emp 𝓤)
+        (ruled-decides h fl sl m size judged (decided-at h m size (sixty-four h _ is-tables))))))))))))))))))))
 
   judge-any-meets : Meets 𝓤 H A judge-any.signature runs-as (judge-any.spec 𝓤 H A mem run)
-  judge-any-meets = val-meets 𝓤 H A W (tabled ∷ call ∷ word ∷ word ∷ word ∷ []) decision c runs-as (WpFn-mono 𝓤 H (W .laws) 𝓣 code.function)
-      (λ a g are. walk (a .0) (are .0) (a .1 .0) (are .1 .0) (a .1 .1 .0) (are .1 .1 .0 .1) (a .1 .1 .1 .0) (are .1 .1 .1 .0 .1) (a .1 .1 .1 .1 .0)
-      (are .1 .1 .1 .1 .0 .1))
+  judge-any-meets =
+      val-meets 𝓤 H A W (tabled ∷ call ∷ word ∷ word ∷ word ∷ []) decision c runs-as (WpFn-mono 𝓤 H (W .laws) 𝓣 code.function)
+      (λ a g are. walk (a .0) (are .0) (a .1 .0) (are .1 .0) (a .1 .1 .0) (are .1 .1 .0 .1)
+      (a .1 .1 .1 .0) (are .1 .1 .1 .0 .1) (a .1 .1 .1 .1 .0) (are .1 .1 .1 .1 .0 .1))
 
 pub judge-any-spec : {M : Type 1} → stated.statement M
 unfolding code.routine tablesOf
@@ -116,9 +122,9 @@ judge-any-spec 𝓤 H 𝓜 𝓖 𝓡 =
     entered 𝓤 H (tripleOf 𝓤 H (𝓖 .A) judge-any.signature (judge-any.spec 𝓤 H (𝓖 .A) (𝓜 .mem) (𝓡 .run)))
     (tables 𝓤 H 𝓜 𝓡 code.env .C) (tables 𝓤 H 𝓜 𝓡 code.env .Λ) #steps·judgement·judge-any code.function (code.unfolded 𝓤 H 𝓜 𝓡)
     (judge-any-meets 𝓤 H (𝓖 .A) (givenOf 𝓤 H 𝓜 𝓖) (𝓜 .mem) (𝓡 .run) (tablesOf 𝓤 H 𝓜 (tables 𝓤 H 𝓜 𝓡 code.env))
-    (cited 𝓤 H (asked 𝓤 H (𝓖 .A) rules.ended (rules.clauses 𝓤 H (𝓖 .A) (𝓜 .mem)
-    (𝓡 .run))) 𝓜 𝓡 code.env #steps·judgement·rules rules-def.routine code.calls-steps·judgement·rules (rules-thm.met 𝓤 H 𝓜 𝓖 𝓡))
-    (cited 𝓤 H (asked 𝓤 H (𝓖 .A) judge-at.ended (judge-at.clauses 𝓤 H (𝓖 .A) (𝓜 .mem)
-    (𝓡 .run))) 𝓜 𝓡 code.env #steps·judgement·judge-at judge-at-def.routine code.calls-steps·judgement·judge-at (judge-at-thm.met 𝓤 H 𝓜 𝓖 𝓡))
-    (cited 𝓤 H (asked 𝓤 H (𝓖 .A) ruled.ended (ruled.clauses 𝓤 H (𝓖 .A) (𝓜 .mem)
-    (𝓡 .run))) 𝓜 𝓡 code.env #steps·judgement·ruled ruled-def.routine code.calls-steps·judgement·ruled (ruled-thm.met 𝓤 H 𝓜 𝓖 𝓡)))
+    (cited 𝓤 H (asked 𝓤 H (𝓖 .A) rules.ended (rules.clauses 𝓤 H (𝓖 .A) (𝓜 .mem) (𝓡 .run))) 𝓜 𝓡 code.env
+    #steps·judgement·rules rules-def.routine code.calls-steps·judgement·rules (rules-thm.met 𝓤 H 𝓜 𝓖 𝓡))
+    (cited 𝓤 H (asked 𝓤 H (𝓖 .A) judge-at.ended (judge-at.clauses 𝓤 H (𝓖 .A) (𝓜 .mem) (𝓡 .run))) 𝓜 𝓡 code.env
+    #steps·judgement·judge-at judge-at-def.routine code.calls-steps·judgement·judge-at (judge-at-thm.met 𝓤 H 𝓜 𝓖 𝓡))
+    (cited 𝓤 H (asked 𝓤 H (𝓖 .A) ruled.ended (ruled.clauses 𝓤 H (𝓖 .A) (𝓜 .mem) (𝓡 .run))) 𝓜 𝓡 code.env
+    #steps·judgement·ruled ruled-def.routine code.calls-steps·judgement·ruled (ruled-thm.met 𝓤 H 𝓜 𝓖 𝓡)))

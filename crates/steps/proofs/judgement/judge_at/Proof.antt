@@ -63,10 +63,17 @@ use Rattle.steps.proofs.judgement.judge_at.Statement as stated
 use Rattle.steps.proofs.judgement.judge_at.Code as code
 
 module _ {M : Type 1} (𝓤 : URA M) (H : Heap 𝓤) (A : Atoms 𝓤) (W : Given 𝓤 H A) (mem : Memory → SProp 𝓤) (run : Routine → Fun 𝓤) (𝓣 : Tables 𝓤 H)
+<<<<<<< HEAD
     (known-page : Triple 𝓤 (𝓣 .C #steps·judgement·page-at) (asked 𝓤 H A page-at.ended (page-at.clauses 𝓤 H A mem run))) (known-start : Triple 𝓤
     (𝓣 .C #steps·judgement·search-start) (asked 𝓤 H A search-start.ended (search-start.clauses 𝓤 H A mem run)))
     (known-search : Triple 𝓤 (𝓣 .C #steps·judgement·search) (asked 𝓤 H A search.ended (search.clauses 𝓤 H A mem run))) (known-decided : Triple 𝓤
     (𝓣 .C #steps·judgement·decided) (asked 𝓤 H A decided.ended (decided.clauses 𝓤 H A mem run))) where
+=======
+    (known-page : Triple 𝓤 (𝓣 .C #steps·judgement·page-at) (asked 𝓤 H A page-at.ended (page-at.clauses 𝓤 H A mem run)))
+    (known-start : Triple 𝓤 (𝓣 .C #steps·judgement·search-start) (asked 𝓤 H A search-start.ended (search-start.clauses 𝓤 H A mem run)))
+    (known-search : Triple 𝓤 (𝓣 .C #steps·judgement·search) (asked 𝓤 H A search.ended (search.clauses 𝓤 H A mem run)))
+    (known-decided : Triple 𝓤 (𝓣 .C #steps·judgement·decided) (asked 𝓤 H A decided.ended (decided.clauses 𝓤 H A mem run))) where
+>>>>>>> c571f0987c607a26db09dc476de5a91bc5e81398
   abbrev c : Clauses 𝓤 judge-at.ended
   c = judge-at.clauses 𝓤 H A mem run
 
@@ -98,11 +105,12 @@ module _ {M : Type 1} (𝓤 : URA M) (H : Heap 𝓤) (A : Atoms 𝓤) (W : Given
     walk =
         qed W (entry 𝓤 H A W T.the-row (call ∷ word ∷ []) decision c κ q t) ∵ enter ! (𝓣 .C) (𝓣 .Λ) code.function
         (vptr (t .ptr .0) (t .ptr .1) ∷ call .val m ∷ vint w64 size ∷ []) _ $
-        alloc1 ! (λ l₀. alloc1 ! (λ l₁. alloc1 ! (λ l₂. alloc1 ! (λ l₃. alloc1 ! (λ l₄. alloc1 ! (λ l₅. alloc1 ! (λ l₆. alloc1 ! (λ l₇. alloc1 !
-        (λ l₈. alloc1 ! (λ l₉. alloc0 ! $ params1 ! $
+        alloc1 ! (λ l₀. alloc1 ! (λ l₁. alloc1 ! (λ l₂. alloc1 ! (λ l₃. alloc1 ! (λ l₄. alloc1 ! (λ l₅.
+        alloc1 ! (λ l₆. alloc1 ! (λ l₇. alloc1 ! (λ l₈. alloc1 ! (λ l₉. alloc0 ! $ params1 ! $
         pass1 ! (init ! 16 refl (tt, tt)) $ pass1 ! (init ! 14 refl (call .lawful 𝓤 H A W .typed m _ is-call .0)) $
         pass1 ! (init ! 12 refl (tt, record { fits = size-fits })) $ pass0 ! $
         -- what all pages share
+<<<<<<< HEAD
         move ! (20 ∷ 21 ∷ []) $ looks-in ! tt tabled (SL.copy T.the-type T′.the-copy 𝓤 H A W) κ q t (λ q′ is. let is-shared : Is (shared .row)
         (t .now .shared) (shared .val (t .now .shared) ∷ []) = SL.owed T.the-type T′.the-laws (t .now) _ is .0 in
         use1 W (‵ (fat q′ T′.mir (t .ptr .0) (t .ptr .1) (tabled .val (t .now)))) (W .laws .raw-at q′ T′.mir (t .ptr .0) (t .ptr .1)
@@ -110,6 +118,17 @@ module _ {M : Type 1} (𝓤 : URA M) (H : Heap 𝓤) (A : Atoms 𝓤) (W : Given
         assigns ! (of-opd ! (load ! (from ! (hop ! (look ! 22 refl) (fld ! {τ = S′.mir} {d = 0} refl (stop !))))
         (look-in ! 0 (sub ! 0 {τ = S′.mir} {d = 0} refl (whole !))))) (from ! (stop !))
         (init ! 16 refl (shared .lawful 𝓤 H A W .typed (t .now .shared) _ is-shared .0)) $
+=======
+        move ! (20 ∷ 21 ∷ []) $ looks-in ! tt tabled (SL.copy T.the-type T′.the-copy 𝓤 H A W) κ q t
+        (λ q′ is. let is-shared : Is (shared .row) (t .now .shared) (shared .val (t .now .shared) ∷ []) = SL.owed T.the-type T′.the-laws
+        (t .now) _ is .0 in
+        use1 W (‵ (fat q′ T′.mir (t .ptr .0) (t .ptr .1) (tabled .val (t .now)))) (W .laws .raw-at q′ T′.mir (t .ptr .0) (t .ptr .1)
+        (tabled .val (t .now))) $
+        assigns !
+        (of-opd ! (load ! (from ! (hop ! (look ! 22 refl) (fld ! {τ = S′.mir} {d = 0} refl (stop !))))
+        (look-in ! 0 (sub ! 0 {τ = S′.mir} {d = 0} refl (whole !))))) (from ! (stop !)) (init ! 16 refl (shared .lawful 𝓤 H A W .typed
+        (t .now .shared) _ is-shared .0)) $
+>>>>>>> c571f0987c607a26db09dc476de5a91bc5e81398
         use1 W (‵ (cellAt q′ (T.the-row .mir) (tabled .val (t .now) ∷ []) (t .ptr .0) (t .ptr .1))) (W .laws .at-raw q′ T′.mir (t .ptr .0) (t .ptr .1)
         (tabled .val (t .now))) $ looks-away ! tt tabled q′ κ q t $
         -- the page's record. [the reference; its token; _9; …; _8; …; _7; …; _6; …; _5; …; _4; …; _3; …; _2; …; _1; …; room for _0; …]
@@ -118,24 +137,25 @@ module _ {M : Type 1} (𝓤 : URA M) (H : Heap 𝓤) (A : Atoms 𝓤) (W : Given
         assigns ! (un ! (local ! 4 refl) (record { fits = fits })) (from ! (stop !)) (init ! 2 refl (tt, record { fits = fits })) $
         asks ! 𝓣 T.the-row (word ∷ []) page (page-at.clauses 𝓤 H A mem run) known-page κ q t (m .page % 64, tt) ((refl, fits), tt) tt
         (factI 𝓤 (m .page % 64 < 64) (emp 𝓤) within) named (λ r e. refl)
-        (and-then ! (local ! 18 refl) (and-then ! (local ! 2 refl) (no-more !))) (λ is-page wt-page. land ! (from ! (stop !))
-        (init ! 10 refl (wt-page .0)) $
+        (and-then ! (local ! 18 refl) (and-then ! (local ! 2 refl) (no-more !)))
+        (λ is-page wt-page. land ! (from ! (stop !)) (init ! 10 refl (wt-page .0)) $
         -- the holder of the frame
         tells ! 𝓣 (shared ∷ call ∷ []) word (search-start.clauses 𝓤 H A mem run) known-start (t .now .shared, (m, tt)) (is-shared, (is-call, tt)) tt
         (id⊢ 𝓤 (emp 𝓤)) start (λ r e. refl)
-        (and-then ! (local ! 13 refl) (and-then ! (local ! 17 refl) (no-more !))) (λ is-start wt-start. land ! (from ! (stop !))
-        (init ! 8 refl (wt-start .0)) $
+        (and-then ! (local ! 13 refl) (and-then ! (local ! 17 refl) (no-more !)))
+        (λ is-start wt-start. land ! (from ! (stop !)) (init ! 8 refl (wt-start .0)) $
         asks ! 𝓣 T.the-row (byte ∷ word ∷ []) holder (search.clauses 𝓤 H A mem run) known-search κ q t (m .frame, (start, tt))
         (SL.owed C.the-type C′.the-laws m _ is-call .1 .1 .1 .1 .1 .1 .1 .1 .0, (is-start, tt)) tt (id⊢ 𝓤 (emp 𝓤)) found (λ r e. refl)
-        (and-then ! (local ! 18 refl) (and-then ! (load ! (from ! (fld ! {τ = tyInt w8} {d = 8} refl (stop !)))
-        (look-in ! 16 (sub ! 8 {τ = tyInt w8} {d = 8} refl (whole !)))) (and-then ! (local ! 8 refl) (no-more !)))) (λ is-found wt-found. land !
-        (from ! (stop !)) (init ! 6 refl (wt-found .0)) $
+        (and-then ! (local ! 18 refl)
+        (and-then ! (load ! (from ! (fld ! {τ = tyInt w8} {d = 8} refl (stop !))) (look-in ! 16 (sub ! 8 {τ = tyInt w8} {d = 8} refl (whole !))))
+        (and-then ! (local ! 8 refl) (no-more !)))) (λ is-found wt-found. land ! (from ! (stop !)) (init ! 6 refl (wt-found .0)) $
         -- the decision
         tells ! 𝓣 (shared ∷ page ∷ holder ∷ call ∷ word ∷ []) decision (decided.clauses 𝓤 H A mem run) known-decided
         (t .now .shared, (named, (found, (m, (size, tt))))) (is-shared, (is-page, (is-found, (is-call, ((refl, size-fits), tt))))) tt
         (id⊢ 𝓤 (emp 𝓤)) answer (λ r e. refl)
-        (and-then ! (local ! 13 refl) (and-then ! (local ! 11 refl) (and-then ! (local ! 7 refl) (and-then ! (local ! 17 refl)
-        (and-then ! (local ! 15 refl) (no-more !)))))) (λ is-answer wt-answer. land ! (from ! (stop !)) (init ! 20 refl (wt-answer .0)) $
+        (and-then ! (local ! 13 refl)
+        (and-then ! (local ! 11 refl) (and-then ! (local ! 7 refl) (and-then ! (local ! 17 refl) (and-then ! (local ! 15 refl) (no-more !))))))
+        (λ is-answer wt-answer. land ! (from ! (stop !)) (init ! 20 refl (wt-answer .0)) $
         returns ! (look ! 20 refl) $ frees-full ! 20 refl refl $ frees-full ! 18 refl refl $ frees-full ! 16 refl refl $ frees-full ! 14 refl refl $
         frees-full ! 12 refl refl $
         frees-full ! 10 refl refl $ frees-full ! 8 refl refl $ frees-full ! 6 refl refl $ frees-full ! 4 refl refl $ frees-full ! 2 refl refl $
@@ -144,7 +164,8 @@ module _ {M : Type 1} (𝓤 : URA M) (H : Heap 𝓤) (A : Atoms 𝓤) (W : Given
         (λ e. factI 𝓤 (answer ≡ answer) (emp 𝓤) refl)))))))))))))))))
 
   judge-at-meets : Meets 𝓤 H A judge-at.signature runs-as (judge-at.spec 𝓤 H A mem run)
-  judge-at-meets = ref-meets 𝓤 H A W T.the-row (call ∷ word ∷ []) decision c runs-as (WpFn-mono 𝓤 H (W .laws) 𝓣 code.function)
+  judge-at-meets =
+      ref-meets 𝓤 H A W T.the-row (call ∷ word ∷ []) decision c runs-as (WpFn-mono 𝓤 H (W .laws) 𝓣 code.function)
       (λ κ q t a g are. via 𝓤 _ (fst∗ 𝓤 _ (emp 𝓤)) (walk κ q t (a .0) (are .0) (a .1 .0) (are .1 .0 .1)))
 
 pub judge-at-spec : {M : Type 1} → stated.statement M
@@ -153,12 +174,11 @@ judge-at-spec 𝓤 H 𝓜 𝓖 𝓡 =
     entered 𝓤 H (tripleOf 𝓤 H (𝓖 .A) judge-at.signature (judge-at.spec 𝓤 H (𝓖 .A) (𝓜 .mem) (𝓡 .run)))
     (tables 𝓤 H 𝓜 𝓡 code.env .C) (tables 𝓤 H 𝓜 𝓡 code.env .Λ) #steps·judgement·judge-at code.function (code.unfolded 𝓤 H 𝓜 𝓡)
     (judge-at-meets 𝓤 H (𝓖 .A) (givenOf 𝓤 H 𝓜 𝓖) (𝓜 .mem) (𝓡 .run) (tablesOf 𝓤 H 𝓜 (tables 𝓤 H 𝓜 𝓡 code.env))
-    (cited 𝓤 H (asked 𝓤 H (𝓖 .A) page-at.ended (page-at.clauses 𝓤 H (𝓖 .A) (𝓜 .mem)
-    (𝓡 .run))) 𝓜 𝓡 code.env #steps·judgement·page-at page-at-def.routine code.calls-steps·judgement·page-at (page-at-thm.met 𝓤 H 𝓜 𝓖 𝓡))
-    (cited 𝓤 H (asked 𝓤 H (𝓖 .A) search-start.ended (search-start.clauses 𝓤 H (𝓖 .A) (𝓜 .mem)
-    (𝓡 .run))) 𝓜 𝓡 code.env #steps·judgement·search-start search-start-def.routine code.calls-steps·judgement·search-start
-    (search-start-thm.met 𝓤 H 𝓜 𝓖 𝓡))
-    (cited 𝓤 H (asked 𝓤 H (𝓖 .A) search.ended (search.clauses 𝓤 H (𝓖 .A) (𝓜 .mem)
-    (𝓡 .run))) 𝓜 𝓡 code.env #steps·judgement·search search-def.routine code.calls-steps·judgement·search (search-thm.met 𝓤 H 𝓜 𝓖 𝓡))
-    (cited 𝓤 H (asked 𝓤 H (𝓖 .A) decided.ended (decided.clauses 𝓤 H (𝓖 .A) (𝓜 .mem)
-    (𝓡 .run))) 𝓜 𝓡 code.env #steps·judgement·decided decided-def.routine code.calls-steps·judgement·decided (decided-thm.met 𝓤 H 𝓜 𝓖 𝓡)))
+    (cited 𝓤 H (asked 𝓤 H (𝓖 .A) page-at.ended (page-at.clauses 𝓤 H (𝓖 .A) (𝓜 .mem) (𝓡 .run))) 𝓜 𝓡 code.env
+    #steps·judgement·page-at page-at-def.routine code.calls-steps·judgement·page-at (page-at-thm.met 𝓤 H 𝓜 𝓖 𝓡))
+    (cited 𝓤 H (asked 𝓤 H (𝓖 .A) search-start.ended (search-start.clauses 𝓤 H (𝓖 .A) (𝓜 .mem) (𝓡 .run))) 𝓜 𝓡 code.env
+    #steps·judgement·search-start search-start-def.routine code.calls-steps·judgement·search-start (search-start-thm.met 𝓤 H 𝓜 𝓖 𝓡))
+    (cited 𝓤 H (asked 𝓤 H (𝓖 .A) search.ended (search.clauses 𝓤 H (𝓖 .A) (𝓜 .mem) (𝓡 .run))) 𝓜 𝓡 code.env
+    #steps·judgement·search search-def.routine code.calls-steps·judgement·search (search-thm.met 𝓤 H 𝓜 𝓖 𝓡))
+    (cited 𝓤 H (asked 𝓤 H (𝓖 .A) decided.ended (decided.clauses 𝓤 H (𝓖 .A) (𝓜 .mem) (𝓡 .run))) 𝓜 𝓡 code.env
+    #steps·judgement·decided decided-def.routine code.calls-steps·judgement·decided (decided-thm.met 𝓤 H 𝓜 𝓖 𝓡)))

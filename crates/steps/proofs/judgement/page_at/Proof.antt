@@ -52,8 +52,8 @@ module _ {M : Type 1} (𝓤 : URA M) (H : Heap 𝓤) (A : Atoms 𝓤) (W : Given
   abbrev Pages : Share → Fml
   Pages q = partAt (Array P.the-row 64) q (h .pages) b (o + 2)
 
-  cut : (q : Share) → ent 𝓤 (sem 𝓤 H A (partAt T.the-row q h b o)) (sep 𝓤 (sem 𝓤 H A (Pages q)) (wand 𝓤 (sem 𝓤 H A (Pages q))
-      (sem 𝓤 H A (partAt T.the-row q h b o))))
+  cut : (q : Share) → ent 𝓤 (sem 𝓤 H A (partAt T.the-row q h b o))
+      (sep 𝓤 (sem 𝓤 H A (Pages q)) (wand 𝓤 (sem 𝓤 H A (Pages q)) (sem 𝓤 H A (partAt T.the-row q h b o))))
   cut q = cut-records 𝓤 H A q T.the-row P.the-type 64 2 h h (h .pages) (h .pages) (b, o) (look-at 𝓤 H A W q T.the-type T′.the-laws 1 2 refl refl
       (b, o) h (h .shared, (h .pages, tt)) refl)
 
@@ -89,16 +89,17 @@ module _ {M : Type 1} (𝓤 : URA M) (H : Heap 𝓤) (A : Atoms 𝓤) (W : Given
         assigns ! (bin ! (local ! 4 refl) (local ! 6 refl) tt) (from ! (stop !)) (init ! 2 refl (tt, tt)) $
         rewrite ! 2 (λ (p : ℕ). ‵ (fat fullShare tyPtr l₅ 0 (vptr b p))) (sym (place-is 42 (o + 2) i)) refl $
         -- the borrow is looked into
-        move ! (14 ∷ 15 ∷ []) $ fsplit3 ! $ drop ! $ move ! (1 ∷ 2 ∷ []) $ shr-bor-open ! tt (part-halves 𝓤 H A W T.the-row (Is T.the-row)
-        (shows 𝓤 H A T.the-row) (λ x. tabled .val x ∷ []) (tabled .spelled) (SL.copy T.the-type T′.the-copy 𝓤 H A W) (t .now) b o)
-        (λ q′. move ! (1 ∷ []) $
+        move ! (14 ∷ 15 ∷ []) $ fsplit3 ! $ drop ! $ move ! (1 ∷ 2 ∷ []) $
+        shr-bor-open ! tt (part-halves 𝓤 H A W T.the-row (Is T.the-row) (shows 𝓤 H A T.the-row) (λ x. tabled .val x ∷ []) (tabled .spelled)
+        (SL.copy T.the-type T′.the-copy 𝓤 H A W) (t .now) b o) (λ q′. move ! (1 ∷ []) $
         -- the pages are cut out, and the element out of them
-        use1 W (‵ (Pages 𝓤 H A W (t .now) b o q′) ⊛ raw (wand 𝓤 (sem 𝓤 H A (Pages 𝓤 H A W (t .now) b o q′))
-        (sem 𝓤 H A (partAt T.the-row q′ (t .now) b o)))) (cut 𝓤 H A W (t .now) b o q′) $ split ! $
+        use1 W
+        (‵ (Pages 𝓤 H A W (t .now) b o q′) ⊛ raw (wand 𝓤 (sem 𝓤 H A (Pages 𝓤 H A W (t .now) b o q′)) (sem 𝓤 H A (partAt T.the-row q′ (t .now) b o))))
+        (cut 𝓤 H A W (t .now) b o q′) $ split ! $
         use1 W (‵ (arr-parts (shares P.the-row) 64 .part q′ gs b (o + 2))) (array-apart 𝓤 H A W P.the-row q′ tt 64 gs b (o + 2)) $ fsplit ! $
         feqL ! (λ len.
-        elem-out ! P.the-row (Is P.the-row) (shows 𝓤 H A P.the-row) (λ x. page .val x ∷ []) (page .spelled) q′ gs i noPageRecord b (o + 2) (subst
-        (λ (n : ℕ). i < n) (sym len) within) (λ is.
+        elem-out ! P.the-row (Is P.the-row) (shows 𝓤 H A P.the-row) (λ x. page .val x ∷ []) (page .spelled) q′ gs i noPageRecord b (o + 2)
+        (subst (λ (n : ℕ). i < n) (sym len) within) (λ is.
         -- [the element's cell; what it owns; the others; the way back; the open borrow; res; _6; …; _5; …; _4; …; _3; …; _2; …; _1; …; room for _0; …]
         assigns ! (of-opd ! (load ! (from ! (hop ! (look ! 8 refl) (stop !))) (look-raw ! 0 refl))) (from ! (stop !))
         (init ! 6 refl (page .lawful 𝓤 H A W .typed found _ is .0)) $
@@ -118,7 +119,8 @@ module _ {M : Type 1} (𝓤 : URA M) (H : Heap 𝓤) (A : Atoms 𝓤) (W : Given
         small = omega (arith, within)
 
   page-at-meets : Meets 𝓤 H A page-at.signature runs-as (page-at.spec 𝓤 H A mem run)
-  page-at-meets = ref-meets 𝓤 H A W T.the-row (word ∷ []) page c runs-as (WpFn-mono 𝓤 H (W .laws) 𝓣 code.function)
+  page-at-meets =
+      ref-meets 𝓤 H A W T.the-row (word ∷ []) page c runs-as (WpFn-mono 𝓤 H (W .laws) 𝓣 code.function)
       (λ κ q t a g are. needs 𝓤 _ _ (walk κ q t (a .0) (are .0 .1)))
 
 pub page-at-spec : {M : Type 1} → stated.statement M

@@ -102,19 +102,22 @@ module _ {M : Type 1} (𝓤 : URA M) (H : Heap 𝓤) (A : Atoms 𝓤) (W : Given
       abbrev En : Env 𝓤 H
       En = (H′.mir, l₀) ∷ (ref, l₁) ∷ (tyInt w8, l₂) ∷ (tyInt w64, l₃) ∷ (tyInt w64, l₄) ∷ (tyInt w8, l₅) ∷ (tyBool, l₆) ∷ []
 
-      -- [the reference; its token; room for _6; …; room for _5; …; _4; …; _3; …; _2; …; _1; …; room for _0; …]
+      -- the invariant: the reference, its token, and each local
       abbrev At-turn : Upto → List (Item 𝓤)
-      At-turn u = ‵ (ShrRef (named 0) κ T.the-row .own t (ptr-vals t)) ∷ ‵ (flft κ q) ∷ ‵ (froom tyBool l₆ 0) ∷ ‵ (fdies tyBool l₆)
+      At-turn u =
+          ‵ (ShrRef (named 0) κ T.the-row .own t (ptr-vals t)) ∷ ‵ (flft κ q)
+          ∷ ‵ (froom tyBool l₆ 0) ∷ ‵ (fdies tyBool l₆)
           ∷ ‵ (froom (tyInt w8) l₅ 0) ∷ ‵ (fdies (tyInt w8) l₅)
-          ∷ ‵ (fat fullShare (tyInt w64) l₄ 0 (vint w64 (u .i))) ∷ ‵ (fdies (tyInt w64) l₄) ∷ ‵ (fat fullShare (tyInt w64) l₃ 0 (vint w64 start))
-          ∷ ‵ (fdies (tyInt w64) l₃)
-          ∷ ‵ (fat fullShare (tyInt w8) l₂ 0 (vint w8 f)) ∷ ‵ (fdies (tyInt w8) l₂) ∷ ‵ (fat fullShare ref l₁ 0 (vptr (t .ptr .0) (t .ptr .1)))
-          ∷ ‵ (fdies ref l₁) ∷ ‵ (froom H′.mir l₀ 0) ∷ ‵ (fdies H′.mir l₀) ∷ []
+          ∷ ‵ (fat fullShare (tyInt w64) l₄ 0 (vint w64 (u .i))) ∷ ‵ (fdies (tyInt w64) l₄)
+          ∷ ‵ (fat fullShare (tyInt w64) l₃ 0 (vint w64 start)) ∷ ‵ (fdies (tyInt w64) l₃)
+          ∷ ‵ (fat fullShare (tyInt w8) l₂ 0 (vint w8 f)) ∷ ‵ (fdies (tyInt w8) l₂)
+          ∷ ‵ (fat fullShare ref l₁ 0 (vptr (t .ptr .0) (t .ptr .1))) ∷ ‵ (fdies ref l₁)
+          ∷ ‵ (froom H′.mir l₀ 0) ∷ ‵ (fdies H′.mir l₀) ∷ []
 
       -- a turn's postcondition: it ends at a later page, or the loop is left and the rest of the body runs
       abbrev Turned : Upto → Out → SProp 𝓤
-      Turned u = afterTurn 𝓤 H (Below 𝓤 H A Nearer At-turn u) (afterBlock 𝓤 H (afterSeq 𝓤 H (Wp 𝓤 H (𝓣 .C) (𝓣 .Λ) En mir′.t-3 (atReturn 𝓤 H En Post))
-          (atReturn 𝓤 H En Post)))
+      Turned u = afterTurn 𝓤 H (Below 𝓤 H A Nearer At-turn u)
+          (afterBlock 𝓤 H (afterSeq 𝓤 H (Wp 𝓤 H (𝓣 .C) (𝓣 .Λ) En mir′.t-3 (atReturn 𝓤 H En Post)) (atReturn 𝓤 H En Post)))
 
       abbrev k : Upto → ℕ
       k u = copyOn f 0 (inUse (pageAt (t .now) (u .i)))
@@ -167,7 +170,8 @@ module _ {M : Type 1} (𝓤 : URA M) (H : Heap 𝓤) (A : Atoms 𝓤) (W : Given
         (turns (at-most-eight (t .now) _ is) l₀ l₁ l₂ l₃ l₄ l₅ l₆) (record { i = start; fits = start-fits; same = refl })))))))))
 
   search-meets : Meets 𝓤 H A search.signature runs-as (search.spec 𝓤 H A mem run)
-  search-meets = ref-meets 𝓤 H A W T.the-row (byte ∷ word ∷ []) holder c runs-as (WpFn-mono 𝓤 H (W .laws) 𝓣 code.function)
+  search-meets =
+      ref-meets 𝓤 H A W T.the-row (byte ∷ word ∷ []) holder c runs-as (WpFn-mono 𝓤 H (W .laws) 𝓣 code.function)
       (λ κ q t a g are. via 𝓤 _ (fst∗ 𝓤 _ (emp 𝓤)) (walk κ q t (a .0) (are .0 .1) (a .1 .0) (are .1 .0 .1)))
 
 pub search-spec : {M : Type 1} → stated.statement M
@@ -176,7 +180,7 @@ search-spec 𝓤 H 𝓜 𝓖 𝓡 =
     entered 𝓤 H (tripleOf 𝓤 H (𝓖 .A) search.signature (search.spec 𝓤 H (𝓖 .A) (𝓜 .mem) (𝓡 .run)))
     (tables 𝓤 H 𝓜 𝓡 code.env .C) (tables 𝓤 H 𝓜 𝓡 code.env .Λ) #steps·judgement·search code.function (code.unfolded 𝓤 H 𝓜 𝓡)
     (search-meets 𝓤 H (𝓖 .A) (givenOf 𝓤 H 𝓜 𝓖) (𝓜 .mem) (𝓡 .run) (tablesOf 𝓤 H 𝓜 (tables 𝓤 H 𝓜 𝓡 code.env))
-    (cited 𝓤 H (asked 𝓤 H (𝓖 .A) copy-on.ended (copy-on.clauses 𝓤 H (𝓖 .A) (𝓜 .mem)
-    (𝓡 .run))) 𝓜 𝓡 code.env #steps·judgement·copy-on copy-on-def.routine code.calls-steps·judgement·copy-on (copy-on-thm.met 𝓤 H 𝓜 𝓖 𝓡))
-    (cited 𝓤 H (asked 𝓤 H (𝓖 .A) held.ended (held.clauses 𝓤 H (𝓖 .A) (𝓜 .mem)
-    (𝓡 .run))) 𝓜 𝓡 code.env #steps·judgement·held held-def.routine code.calls-steps·judgement·held (held-thm.met 𝓤 H 𝓜 𝓖 𝓡)))
+    (cited 𝓤 H (asked 𝓤 H (𝓖 .A) copy-on.ended (copy-on.clauses 𝓤 H (𝓖 .A) (𝓜 .mem) (𝓡 .run))) 𝓜 𝓡 code.env
+    #steps·judgement·copy-on copy-on-def.routine code.calls-steps·judgement·copy-on (copy-on-thm.met 𝓤 H 𝓜 𝓖 𝓡))
+    (cited 𝓤 H (asked 𝓤 H (𝓖 .A) held.ended (held.clauses 𝓤 H (𝓖 .A) (𝓜 .mem) (𝓡 .run))) 𝓜 𝓡 code.env
+    #steps·judgement·held held-def.routine code.calls-steps·judgement·held (held-thm.met 𝓤 H 𝓜 𝓖 𝓡)))
