@@ -372,24 +372,6 @@ module _ {M : Type 1} (𝓤 : URA M) (H : Heap 𝓤) (A : Atoms 𝓤) (W : Given
         → Ref-walk run κ q t a g (sep 𝓤 (⋆ 𝓤 H A (entry κ q t)) (c (κ, tt) (t, a) .requires g)))
         → Meets 𝓤 H A (by-ref R Ds D .signature) run (closing 𝓤 H A (by-ref R Ds D) c)
     ref-meets run mono k =
-<<<<<<< HEAD
-=======
-<<<<<<< HEAD
-        walk-meets 𝓤 H A (by-ref R Ds D) (gone (by-ref R Ds D .signature .params) (by-ref R Ds D .kept)) W (
-          goes-dropped 𝓤 H A W 1
-              (shrRefTo (0 ∷ []) tt (plain (λ _. R))) yes (λ κs x f. refl),
-          goes 1 Ds,
-        ) c run mono
-        (walked 𝓤 H A (by-ref R Ds D) (gone (by-ref R Ds D .signature .params) (by-ref R Ds D .kept)) c run (λ κs. (ptr-vals, spells 1 κs Ds))
-        (λ κs. (shr-tells (named 0) (κs .0) R, spelleds 1 κs Ds)) (λ κs qs bounds a g are.
-        via 𝓤 (sep 𝓤 (sep 𝓤 (sem 𝓤 H A (ShrRef (named 0) (κs .0) R .own (a .0) (ptr-vals (a .0)))) (A .lft (κs .0) (qs .0))) (c κs a .requires g))
-        (qed W (((‵ (flft (κs .0) (qs .0)) ⊛ ‵ ftrue) ⊛ ‵ (owns (typesAt (by-ref R Ds D .signature .params) κs) a (
-          ptr-vals (a .0),
-          machine 1 κs Ds
-              (a .1),
-        ))) ∷ raw (c κs a .requires g) ∷ []) ∵
-=======
->>>>>>> 510ba72b8d7324367ec048f5ebfd4dd194533588
         walk-meets 𝓤 H A (by-ref R Ds D) (gone (by-ref R Ds D .signature .params) (by-ref R Ds D .kept)) W
         (goes-dropped 𝓤 H A W 1 (shrRefTo (0 ∷ []) tt (plain (λ _. R))) yes (λ κs x f. refl), goes 1 Ds) c run mono
         (walked 𝓤 H A (by-ref R Ds D) (gone (by-ref R Ds D .signature .params) (by-ref R Ds D .kept)) c run (λ κs. (ptr-vals, spells 1 κs Ds))
@@ -398,9 +380,5 @@ module _ {M : Type 1} (𝓤 : URA M) (H : Heap 𝓤) (A : Atoms 𝓤) (W : Given
         (qed W
         (((‵ (flft (κs .0) (qs .0)) ⊛ ‵ ftrue) ⊛ ‵ (owns (typesAt (by-ref R Ds D .signature .params) κs) a
         (ptr-vals (a .0), machine 1 κs Ds (a .1)))) ∷ raw (c κs a .requires g) ∷ []) ∵
-<<<<<<< HEAD
-=======
->>>>>>> c571f0987c607a26db09dc476de5a91bc5e81398
->>>>>>> 510ba72b8d7324367ec048f5ebfd4dd194533588
         split ! $ split ! $ move ! (2 ∷ []) $ fsplit ! $ keep ! (0 ∷ 2 ∷ 4 ∷ []) $ join ! $ done !)
         (k (κs .0) (qs .0) (a .0) (a .1) g (are .1))))

@@ -60,16 +60,7 @@ module _ {M : Type 1} (𝓤 : URA M) (H : Heap 𝓤) (A : Atoms 𝓤) (W : Given
         qed W [] ∵ enter ! (𝓣 .C) (𝓣 .Λ) code.function (tabled .val h ∷ call .val m ∷ vint w64 size ∷ []) _ $
         alloc1 ! (λ l₀. alloc1 ! (λ l₁. alloc1 ! (λ l₂. alloc1 ! (λ l₃. alloc1 ! (λ l₄. alloc1 ! (λ l₅. alloc0 ! $ params1 ! $
         pass1 ! (init ! 8 refl (tabled .lawful 𝓤 H A W .typed h _ is-tables .0)) $
-<<<<<<< HEAD
         pass1 ! (init ! 6 refl (call .lawful 𝓤 H A W .typed m _ is-call .0)) $ pass1 ! (init ! 4 refl (tt, record { fits = size-fits })) $ pass0 ! $
-=======
-<<<<<<< HEAD
-        pass1 ! (init ! 6 refl (call .lawful 𝓤 H A W .typed m _ is-call .0)) $ pass1 ! (init ! 4 refl (tt, record { fits = size-fits })) $
-        pass0 ! $
-=======
-        pass1 ! (init ! 6 refl (call .lawful 𝓤 H A W .typed m _ is-call .0)) $ pass1 ! (init ! 4 refl (tt, record { fits = size-fits })) $ pass0 ! $
->>>>>>> c571f0987c607a26db09dc476de5a91bc5e81398
->>>>>>> 510ba72b8d7324367ec048f5ebfd4dd194533588
         assigns ! (of-opd ! (local ! 8 refl)) (from ! (stop !)) (init ! 2 refl (tabled .lawful 𝓤 H A W .typed h _ is-tables .0)) $
         assigns ! (addr ! (from ! (stop !))) (from ! (stop !)) (init ! 0 refl (tt, tt)) $
         -- [the reference; its token; the lender's part; _5; …; what frees _4; _3; …; _2; …; _1; …; room for _0; …]

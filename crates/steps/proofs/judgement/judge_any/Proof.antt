@@ -51,18 +51,8 @@ use Rattle.steps.proofs.judgement.judge_any.Statement as stated
 use Rattle.steps.proofs.judgement.judge_any.Code as code
 
 module _ {M : Type 1} (𝓤 : URA M) (H : Heap 𝓤) (A : Atoms 𝓤) (W : Given 𝓤 H A) (mem : Memory → SProp 𝓤) (run : Routine → Fun 𝓤) (𝓣 : Tables 𝓤 H)
-<<<<<<< HEAD
     (known-rules : Triple 𝓤 (𝓣 .C #steps·judgement·rules) (asked 𝓤 H A rules.ended (rules.clauses 𝓤 H A mem run)))
     (known-judge : Triple 𝓤 (𝓣 .C #steps·judgement·judge-at) (asked 𝓤 H A judge-at.ended (judge-at.clauses 𝓤 H A mem run)))
-=======
-<<<<<<< HEAD
-    (known-rules : Triple 𝓤 (𝓣 .C #steps·judgement·rules) (asked 𝓤 H A rules.ended (rules.clauses 𝓤 H A mem run))) (known-judge : Triple 𝓤
-    (𝓣 .C #steps·judgement·judge-at) (asked 𝓤 H A judge-at.ended (judge-at.clauses 𝓤 H A mem run)))
-=======
-    (known-rules : Triple 𝓤 (𝓣 .C #steps·judgement·rules) (asked 𝓤 H A rules.ended (rules.clauses 𝓤 H A mem run)))
-    (known-judge : Triple 𝓤 (𝓣 .C #steps·judgement·judge-at) (asked 𝓤 H A judge-at.ended (judge-at.clauses 𝓤 H A mem run)))
->>>>>>> c571f0987c607a26db09dc476de5a91bc5e81398
->>>>>>> 510ba72b8d7324367ec048f5ebfd4dd194533588
     (known-ruled : Triple 𝓤 (𝓣 .C #steps·judgement·ruled) (asked 𝓤 H A ruled.ended (ruled.clauses 𝓤 H A mem run))) where
   abbrev c : Clauses 𝓤 judge-any.ended
   c = judge-any.clauses 𝓤 H A mem run

@@ -63,23 +63,10 @@ use Rattle.steps.proofs.judgement.judge_at.Statement as stated
 use Rattle.steps.proofs.judgement.judge_at.Code as code
 
 module _ {M : Type 1} (𝓤 : URA M) (H : Heap 𝓤) (A : Atoms 𝓤) (W : Given 𝓤 H A) (mem : Memory → SProp 𝓤) (run : Routine → Fun 𝓤) (𝓣 : Tables 𝓤 H)
-<<<<<<< HEAD
-=======
-<<<<<<< HEAD
-    (known-page : Triple 𝓤 (𝓣 .C #steps·judgement·page-at) (asked 𝓤 H A page-at.ended (page-at.clauses 𝓤 H A mem run))) (known-start : Triple 𝓤
-    (𝓣 .C #steps·judgement·search-start) (asked 𝓤 H A search-start.ended (search-start.clauses 𝓤 H A mem run)))
-    (known-search : Triple 𝓤 (𝓣 .C #steps·judgement·search) (asked 𝓤 H A search.ended (search.clauses 𝓤 H A mem run))) (known-decided : Triple 𝓤
-    (𝓣 .C #steps·judgement·decided) (asked 𝓤 H A decided.ended (decided.clauses 𝓤 H A mem run))) where
-=======
->>>>>>> 510ba72b8d7324367ec048f5ebfd4dd194533588
     (known-page : Triple 𝓤 (𝓣 .C #steps·judgement·page-at) (asked 𝓤 H A page-at.ended (page-at.clauses 𝓤 H A mem run)))
     (known-start : Triple 𝓤 (𝓣 .C #steps·judgement·search-start) (asked 𝓤 H A search-start.ended (search-start.clauses 𝓤 H A mem run)))
     (known-search : Triple 𝓤 (𝓣 .C #steps·judgement·search) (asked 𝓤 H A search.ended (search.clauses 𝓤 H A mem run)))
     (known-decided : Triple 𝓤 (𝓣 .C #steps·judgement·decided) (asked 𝓤 H A decided.ended (decided.clauses 𝓤 H A mem run))) where
-<<<<<<< HEAD
-=======
->>>>>>> c571f0987c607a26db09dc476de5a91bc5e81398
->>>>>>> 510ba72b8d7324367ec048f5ebfd4dd194533588
   abbrev c : Clauses 𝓤 judge-at.ended
   c = judge-at.clauses 𝓤 H A mem run
 
@@ -116,18 +103,6 @@ module _ {M : Type 1} (𝓤 : URA M) (H : Heap 𝓤) (A : Atoms 𝓤) (W : Given
         pass1 ! (init ! 16 refl (tt, tt)) $ pass1 ! (init ! 14 refl (call .lawful 𝓤 H A W .typed m _ is-call .0)) $
         pass1 ! (init ! 12 refl (tt, record { fits = size-fits })) $ pass0 ! $
         -- what all pages share
-<<<<<<< HEAD
-=======
-<<<<<<< HEAD
-        move ! (20 ∷ 21 ∷ []) $ looks-in ! tt tabled (SL.copy T.the-type T′.the-copy 𝓤 H A W) κ q t (λ q′ is. let is-shared : Is (shared .row)
-        (t .now .shared) (shared .val (t .now .shared) ∷ []) = SL.owed T.the-type T′.the-laws (t .now) _ is .0 in
-        use1 W (‵ (fat q′ T′.mir (t .ptr .0) (t .ptr .1) (tabled .val (t .now)))) (W .laws .raw-at q′ T′.mir (t .ptr .0) (t .ptr .1)
-        (tabled .val (t .now))) $
-        assigns ! (of-opd ! (load ! (from ! (hop ! (look ! 22 refl) (fld ! {τ = S′.mir} {d = 0} refl (stop !))))
-        (look-in ! 0 (sub ! 0 {τ = S′.mir} {d = 0} refl (whole !))))) (from ! (stop !))
-        (init ! 16 refl (shared .lawful 𝓤 H A W .typed (t .now .shared) _ is-shared .0)) $
-=======
->>>>>>> 510ba72b8d7324367ec048f5ebfd4dd194533588
         move ! (20 ∷ 21 ∷ []) $ looks-in ! tt tabled (SL.copy T.the-type T′.the-copy 𝓤 H A W) κ q t
         (λ q′ is. let is-shared : Is (shared .row) (t .now .shared) (shared .val (t .now .shared) ∷ []) = SL.owed T.the-type T′.the-laws
         (t .now) _ is .0 in
@@ -137,10 +112,6 @@ module _ {M : Type 1} (𝓤 : URA M) (H : Heap 𝓤) (A : Atoms 𝓤) (W : Given
         (of-opd ! (load ! (from ! (hop ! (look ! 22 refl) (fld ! {τ = S′.mir} {d = 0} refl (stop !))))
         (look-in ! 0 (sub ! 0 {τ = S′.mir} {d = 0} refl (whole !))))) (from ! (stop !)) (init ! 16 refl (shared .lawful 𝓤 H A W .typed
         (t .now .shared) _ is-shared .0)) $
-<<<<<<< HEAD
-=======
->>>>>>> c571f0987c607a26db09dc476de5a91bc5e81398
->>>>>>> 510ba72b8d7324367ec048f5ebfd4dd194533588
         use1 W (‵ (cellAt q′ (T.the-row .mir) (tabled .val (t .now) ∷ []) (t .ptr .0) (t .ptr .1))) (W .laws .at-raw q′ T′.mir (t .ptr .0) (t .ptr .1)
         (tabled .val (t .now))) $ looks-away ! tt tabled q′ κ q t $
         -- the page's record. [the reference; its token; _9; …; _8; …; _7; …; _6; …; _5; …; _4; …; _3; …; _2; …; _1; …; room for _0; …]
