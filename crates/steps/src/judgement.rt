@@ -15,11 +15,9 @@ use crate::copies::delete_copy;
 use crate::copies::make_copy;
 use crate::copies::remove_current;
 use crate::copies::set_current;
-use crate::looks::look_frame;
 use crate::looks::look_page;
 use crate::pages::create;
-use crate::pages::delete_page;
-use crate::pages::grant;
+use crate::pages::owner_step;
 use crate::range::names_frame;
 use crate::range::outside;
 use tables::Change;
@@ -33,7 +31,6 @@ ghost use Prim.Native.Nat.{_<_};
 ghost use Rattle.tables.specs.declared.Holder.the-variants.{At};
 ghost use Rattle.tables.specs.Model.{inUse, pageAt};
 ghost use Rattle.tables.specs.Search.{copyOn};
-ghost use Rattle.steps.specs.Stores.{fits};
 ghost use Rattle.steps.specs.Steps.{refuse, accept, decideOn, decide, decideAny};
 ghost use Rattle.steps.specs.Promises.{rulesNumber, decisionOf, settled};
 ghost use Rattle.steps.specs.Private.{verdictOf, ruled, frameCount, decidedOn, holderFrom, searchStart, decidedAt};
@@ -73,8 +70,15 @@ fn verdict(view: View, call: Call, size: usize) -> Verdict
     let kind = call.kind;
     match kind {
         Kind::Create => create(view, call),
-        Kind::DeletePage => delete_page(view, call),
-        Kind::Grant => grant(view, call),
+        Kind::DeletePage => owner_step(view, call, Edit::Deleted),
+        Kind::Grant => owner_step(
+            view,
+            call,
+            Edit::Granted {
+                station: call.other,
+                right: call.right,
+            },
+        ),
         Kind::Read => read_page(view, call),
         Kind::Write => write_page(view, call, size),
         Kind::MakeCopy => make_copy(view, call),
@@ -82,7 +86,10 @@ fn verdict(view: View, call: Call, size: usize) -> Verdict
         Kind::SetCurrent => set_current(view, call),
         Kind::RemoveCurrent => remove_current(view, call),
         Kind::LookPage => look_page(view),
-        Kind::LookFrame => look_frame(view),
+        Kind::LookFrame => {
+            let holder = view.holder;
+            accepted(0, 3, Edit::Kept, Work::ShowHolder { holder })
+        }
     }
 }
 
@@ -200,15 +207,6 @@ pub fn judge(tables: Tables, call: Call, size: usize) -> Decision
     judge_at(&tables, call, size)
 }
 
-// Whether stores of these lengths are what the tables say.
-fn stores_fit(tables: Tables, fast_len: usize, slow_len: usize) -> bool
-    ensures { λ r. ⌜ r ≡ fits tables «fast_len» «slow_len» ⌝ }
-{
-    let p = tables.shared.p;
-    let s = tables.shared.s;
-    (fast_len == 64 * (p as usize)) & (slow_len == 64 * (s as usize))
-}
-
 // 5 or 6 for these tables and stores of these lengths, and else 0.
 pub fn rules(tables: Tables, fast_len: usize, slow_len: usize) -> u8
     ensures { λ r. ⌜ r ≡ rulesNumber tables «fast_len» «slow_len» ⌝ }
@@ -216,7 +214,9 @@ pub fn rules(tables: Tables, fast_len: usize, slow_len: usize) -> u8
     if !tables.sound() {
         return BROKEN_TABLES;
     }
-    if !stores_fit(tables, fast_len, slow_len) {
+    let p = tables.shared.p as usize;
+    let s = tables.shared.s as usize;
+    if !((fast_len == 64 * p) & (slow_len == 64 * s)) {
         return MISFIT_STORE;
     }
     ACCEPTED

@@ -16,7 +16,7 @@ ghost use Prim.Native.Nat.{ℕ, _≤_};
 ghost use lib.ListN.{length};
 ghost use Rattle.tables.specs.Model.{inUse};
 ghost use Rattle.tables.specs.Search.{shown};
-ghost use Rattle.steps.specs.declared.Kind.the-variants.{LookPage, LookFrame};
+ghost use Rattle.steps.specs.declared.Kind.the-variants.{LookPage};
 ghost use Rattle.steps.specs.declared.Call.{Call};
 ghost use Rattle.steps.specs.Stores.{over};
 ghost use Rattle.steps.specs.Steps.{perform};
@@ -47,13 +47,6 @@ pub(crate) fn look_page(view: View) -> Verdict
     }
     let n = page.in_use();
     accepted(0, 1 + 3 * n, Edit::Kept, Work::ShowPage)
-}
-
-pub(crate) fn look_frame(view: View) -> Verdict
-    ensures { λ r. ⌜ ((c : Call) (size : ℕ) → r ≡ verdictOf (perform view c size LookFrame)) ⌝ }
-{
-    let holder = view.holder;
-    accepted(0, 3, Edit::Kept, Work::ShowHolder { holder })
 }
 
 // Shows n and the copies of a page at the front of the buffer.

@@ -11,7 +11,7 @@ use crate::judgement::refused;
 use tables::Edit;
 ghost use mathlib.Core.Path.{_≡_};
 ghost use Prim.Native.Nat.{ℕ};
-ghost use Rattle.steps.specs.declared.Kind.the-variants.{Create, DeletePage, Grant};
+ghost use Rattle.steps.specs.declared.Kind.the-variants.{Create};
 ghost use Rattle.steps.specs.Steps.{editing, owns, standing, perform};
 ghost use Rattle.steps.specs.Private.{verdictOf};
 
@@ -31,8 +31,8 @@ pub(crate) fn create(view: View, call: Call) -> Verdict
     )
 }
 
-// A step that only the page's owner may take.
-fn owner_step(view: View, call: Call, edit: Edit) -> Verdict
+// Delete page and grant, which only the page's owner may do.
+pub(crate) fn owner_step(view: View, call: Call, edit: Edit) -> Verdict
     ensures { λ r. ⌜ r ≡ verdictOf (standing (view .page) (owns (view .page) (call .station)) (editing edit)) ⌝ }
 {
     if view.page.n == 0 {
@@ -42,23 +42,4 @@ fn owner_step(view: View, call: Call, edit: Edit) -> Verdict
         return refused(NO_RIGHT);
     }
     accepted(0, 0, edit, Work::Nothing)
-}
-
-pub(crate) fn delete_page(view: View, call: Call) -> Verdict
-    ensures { λ r. ⌜ ((size : ℕ) → r ≡ verdictOf (perform view call size DeletePage)) ⌝ }
-{
-    owner_step(view, call, Edit::Deleted)
-}
-
-pub(crate) fn grant(view: View, call: Call) -> Verdict
-    ensures { λ r. ⌜ ((size : ℕ) → r ≡ verdictOf (perform view call size Grant)) ⌝ }
-{
-    owner_step(
-        view,
-        call,
-        Edit::Granted {
-            station: call.other,
-            right: call.right,
-        },
-    )
 }

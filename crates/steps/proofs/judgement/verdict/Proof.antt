@@ -29,14 +29,14 @@ create-requires c κs = search needs
 enum-told-2 : tie.Need-enum-told-2
 enum-told-2 c = search needs
 
-delete-page-requires : tie.Need-delete-page-requires
-delete-page-requires c κs = search needs
+owner-step-requires : tie.Need-owner-step-requires
+owner-step-requires c κs = search needs
 
 enum-told-3 : tie.Need-enum-told-3
 enum-told-3 c = search needs
 
-grant-requires : tie.Need-grant-requires
-grant-requires c κs = search needs
+owner-step-requires-2 : tie.Need-owner-step-requires-2
+owner-step-requires-2 c κs = search needs
 
 enum-told-4 : tie.Need-enum-told-4
 enum-told-4 c = search needs
@@ -86,8 +86,8 @@ look-page-requires c κs = search needs
 enum-told-11 : tie.Need-enum-told-11
 enum-told-11 c = search needs
 
-look-frame-requires : tie.Need-look-frame-requires
-look-frame-requires c κs = search needs
+accepted-requires : tie.Need-accepted-requires
+accepted-requires c κs = search needs
 
 -- past number 7 the verdict is that of the call's kind
 arm : (c : tie.Else1) {k : Kind} {r : Verdict} → c .before .before .args .call .kind ≡ k
@@ -101,10 +101,12 @@ returns-2 : tie.Need-returns-2
 returns-2 c = arm (c .before .before .before) (c .before .enum-told .given .1) (c .create .ensures _)
 
 returns-3 : tie.Need-returns-3
-returns-3 c = arm (c .before .before .before) (c .before .enum-told2 .given .1) (c .delete-page .ensures _)
+unfolding perform
+returns-3 c = arm (c .before .before .before) (c .before .enum-told2 .given .1) (c .owner-step .ensures)
 
 returns-4 : tie.Need-returns-4
-returns-4 c = arm (c .before .before .before) (c .before .enum-told3 .given .1) (c .grant .ensures _)
+unfolding perform
+returns-4 c = arm (c .before .before .before) (c .before .enum-told3 .given .1) (c .owner-step2 .ensures)
 
 returns-5 : tie.Need-returns-5
 returns-5 c = arm (c .before .before .before) (c .before .enum-told4 .given .1) (c .read-page .ensures _)
@@ -128,7 +130,8 @@ returns-11 : tie.Need-returns-11
 returns-11 c = arm (c .before .before .before) (c .before .enum-told10 .given .1) (c .look-page .ensures _ _)
 
 returns-12 : tie.Need-returns-12
-returns-12 c = arm (c .before .before .before) (c .before .enum-told11 .given .1) (c .look-frame .ensures _ _)
+unfolding perform
+returns-12 c = arm (c .before .before .before) (c .before .enum-told11 .given .1) (c .accepted .ensures)
 
 pub verdict-spec : {M : Type 1} → statement M
 verdict-spec =
@@ -140,9 +143,9 @@ verdict-spec =
     enum-told
     create-requires
     enum-told-2
-    delete-page-requires
+    owner-step-requires
     enum-told-3
-    grant-requires
+    owner-step-requires-2
     enum-told-4
     read-page-requires
     enum-told-5
@@ -158,7 +161,7 @@ verdict-spec =
     enum-told-10
     look-page-requires
     enum-told-11
-    look-frame-requires
+    accepted-requires
     returns-2
     returns-3
     returns-4
