@@ -2,17 +2,16 @@
 -- either leaves, as `answer` and `run` have it; the reader's answer as a message; the rules are kept; a reply is short.
 use Prim.Native.Nat.{ℕ, _+_, _≤_, zero-le}
 use mathlib.Core.Path.{_≡_, refl, sym, ap, _∙_}
-use mathlib.Core.Bool.{Bool, true, false, not, _||_, cond}
+use mathlib.Core.Bool.{Bool, true, false, not, cond}
 use mathlib.Core.List.{List}
 use native.Mathlib.Omega.{arith}
-use lib.ListN.{length, getD, drop}
+use lib.ListN.{length}
 use lib.Dec.{ltb, eqb}
 use borrow.Author.Tests.{ltb-false, le-ltb, eqb-true, eqb-false, ne-eqb}
 use Rattle.tables.specs.declared.Tables.{Tables}
-use Rattle.tables.specs.Numbers.{accepted, cutShort, foreignVersion, unknownKind, wrongLength, shortSlip}
+use Rattle.tables.specs.Numbers.{accepted, shortSlip}
 use Rattle.steps.specs.declared.Call.{Call}
 use Rattle.steps.specs.declared.Decision.{Decision}
-use Rattle.steps.specs.Kinds.{kinds, kindOf, leastLength, mostLength, callOf}
 use Rattle.steps.specs.Stores.{part, over}
 use Rattle.steps.specs.Steps.{Outcome, refuse, accept, test, numberOf, decideAny}
 use Rattle.steps.specs.Effects.{State, Result, step, left, laidBy, dataOf}
@@ -24,9 +23,9 @@ use Rattle.messages.specs.declared.Parsed.the-variants.{Refused, Asked}
 use Rattle.messages.specs.declared.Next.{Next}
 use Rattle.messages.specs.declared.Next.the-variants.{Message, Cut, End}
 use Rattle.messages.specs.declared.Answered.{Answered}
-use Rattle.messages.specs.Messages.{parse, writeBytes, nextAt}
+use Rattle.messages.specs.Messages.{writeBytes, nextAt}
 use Rattle.messages.specs.Replies.{reply, replyIn, isRefusal}
-use Rattle.messages.specs.Run.{Sent, cut, whole, asked, bytesOf, respond, answer, leftBy}
+use Rattle.messages.specs.Run.{Sent, asked, bytesOf, respond, answer, leftBy}
 use Rattle.messages.specs.Promises.{sentBy, sentAlone, Replied}
 use Rattle.messages.specs.Private.{bytesAt, askedAt, askedNumber, earlyNumber, callIn, repliedWith}
 use Rattle.messages.proofs.ParseLaws.{Known, bad, asked-known}

@@ -1,18 +1,16 @@
 -- Loops over the copies in use of a page: at index j what is left to do is told by `drop j (inUse g)`.
 -- In order: one copy more; a loop that counts the copies of which f holds; the frame of the first CURRENT copy.
 use Prim.Native.Nat.{ℕ, _+_, _≤_, _<_}
-use mathlib.Core.Path.{_≡_, _∙_}
+use mathlib.Core.Path.{_≡_}
 use mathlib.Core.Bool.{Bool, true, false}
-use mathlib.Core.List.{_∷_}
 use native.Mathlib.Nat.{zero-add}
 use native.Mathlib.Omega.{arith}
-use lib.ListN.{length, drop, length-take}
-use lib.Seq.{getD-take}
+use lib.ListN.{length, drop}
 use Rattle.tables.specs.declared.Copy.{Copy}
 use Rattle.tables.specs.declared.Page.{Page}
 use Rattle.tables.specs.Lists.{count}
-use Rattle.tables.specs.Model.{inUse, noCopyEntry}
-use Rattle.tables.proofs.Loops.{drop-more, drop-end}
+use Rattle.tables.specs.Model.{inUse}
+use Rattle.tables.proofs.Loops.{drop-end}
 use Rattle.steps.specs.Steps.{copyAt, firstCurrent}
 use Rattle.steps.proofs.CopyLaws.{use-more}
 

@@ -3,7 +3,7 @@ use Prim.Native.Nat.{ℕ, zero, suc, _+_, _≤_, _<_, zero-le, suc-le-suc}
 use mathlib.Core.Bool.{Bool, true, false, _&&_, _||_, cond, and-assoc, true≢false, false≢true}
 use mathlib.Core.List.{List, [], _∷_, _++_, map}
 use mathlib.Core.Logic.{⊎-elim}
-use mathlib.Core.Path.{_≡_, refl, sym, ap, ap₂, _∙_}
+use mathlib.Core.Path.{_≡_, refl, sym, ap, _∙_}
 use native.Mathlib.Nat.{not-suc-le-zero, le-of-suc-le-suc, eq-or-lt-of-le, zero-add}
 use native.Mathlib.Omega.{arith}
 use lib.ListN.{length, getD, set, take, drop, replicate, take-append-drop}
@@ -107,12 +107,6 @@ module _ {A : Type 0} (f : A → Bool) where
   all-replicate zero a e = refl
   all-replicate (suc n) a e = and-intro e (all-replicate n a e)
 
-  -- a test that only a passes makes a list one of a alone
-  pub all-same : (a : A) → ((b : A) → f b ≡ true → b ≡ a) → (l : List A) → all f l ≡ true → l ≡ replicate (length l) a
-  unfolding all
-  all-same a h [] e = refl
-  all-same a h (x ∷ xs) e = ap₂ (λ (b : A) (r : List A). b ∷ r) (h x (and-left (f x) (all f xs) e)) (all-same a h xs (and-right (f x) (all f xs) e))
-
 -- of the images of the elements
 pub all-map : {A B : Type 0} (f : B → Bool) (h : A → B) (l : List A) → all f (map h l) ≡ all (λ a. f (h a)) l
 unfolding all
@@ -192,16 +186,6 @@ pub count-map : {A B : Type 0} (f : B → Bool) (g : A → Bool) (h : A → B) (
 unfolding count
 count-map f g h [] e = refl
 count-map f g h (x ∷ xs) e = rw (e x, count-map f g h xs e)
-
--- a weaker test holds of no fewer
-pub count-mono : {A : Type 0} (f g : A → Bool) (l : List A) → ((a : A) → f a ≡ true → g a ≡ true) → count f l ≤ count g l
-unfolding count
-count-mono f g [] h = zero-le
-count-mono f g (x ∷ xs) h = by (f x) (g x) (h x) (count-mono f g xs h)
-  where
-    by : (a b : Bool) → (a ≡ true → b ≡ true) → count f xs ≤ count g xs → cond a 1 0 + count f xs ≤ cond b 1 0 + count g xs
-    by true b p k = rw (p refl) (omega arith)
-    by false b p k = omega arith
 
 -- ---- a test of every number below a bound
 

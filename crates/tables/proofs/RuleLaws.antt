@@ -1,11 +1,10 @@
 -- What the table rules say, part by part, and back: of a copy, of a page, of the tables.
 use Prim.Native.Nat.{ℕ, _≤_, _<_}
 use mathlib.Core.Bool.{Bool, true, false, not, _&&_, _||_, cond, true≢false}
-use mathlib.Core.List.{List}
 use mathlib.Core.Path.{_≡_, refl, sym, ap, _∙_}
 use native.Mathlib.Omega.{arith}
 use lib.Dec.{leb, ltb, eqb}
-use lib.ListN.{length, getD, drop, replicate}
+use lib.ListN.{length, getD, drop}
 use lib.Seq.{length-take-le, getD-take}
 use borrow.Author.Tests.{ltb-true, leb-true, eqb-true, eqb-false, not-true, lt-ltb, le-leb, eq-eqb, ne-eqb}
 use Rattle.tables.specs.declared.Copy.{Copy}
@@ -14,7 +13,7 @@ use Rattle.tables.specs.declared.Tables.{Tables}
 use Rattle.tables.specs.Lists.{all, count}
 use Rattle.tables.specs.Model.{frames, isNull, inUse, absent, freshCopy, freshPage, noCopyEntry, noPageRecord, pageAt}
 use Rattle.tables.specs.Rules.{uses, isFresh, copyRule, isRecent, atMost, standingRule, absentRule, shaped, pageRule, alone, sound}
-use Rattle.tables.proofs.ListLaws.{and-left, and-right, and-intro, or-left, or-right, not-so, all-at, all-of, all-same, below-at, below-of}
+use Rattle.tables.proofs.ListLaws.{and-left, and-right, and-intro, or-left, or-right, not-so, all-at, all-of, below-at, below-of}
 
 -- ---- a copy
 
@@ -144,29 +143,7 @@ fresh-copy c e =
     same : (f : ℕ) (a b : Bool) → f ≡ 255 → a ≡ false → b ≡ false → _≡_ {A = Copy} (record { frame = f; current = a; recent = b }) freshCopy
     same f a b p q r = cc
 
--- an absent page is as in fresh tables
-pub absent-fresh : (limit : ℕ) (g : Page) → pageRule limit g ≡ true → absent g ≡ true → g ≡ freshPage
-unfolding pageRule absentRule freshPage
-absent-fresh limit g e st =
-    let r = eqb (length (g .rights)) 16 in
-    let s = and-left (shaped g) _ e in
-    let e₁ : absentRule g ≡ true = rw st at (and-right (shaped g) _ e) in
-    let e₂ = and-right (eqb (g .owner) 0) _ e₁ in
-    let l₁ : length (g .rights) ≡ 16 = eqb-true _ 16 (and-left r _ s) in
-    let l₂ : length (g .copies) ≡ 8 = eqb-true _ 8 (and-right r _ s) in
-    let rs : g .rights ≡ replicate 16 0 =
-    all-same (atMost 0) 0 (λ a z. let w = leb-true a 0 z in omega arith) (g .rights) (and-left (all (atMost 0) (g .rights)) _ e₂)
-    ∙ ap (λ (k : ℕ). replicate k 0) l₁ in
-    let cs : g .copies ≡ replicate 8 freshCopy =
-    all-same isFresh freshCopy fresh-copy (g .copies) (and-right (all (atMost 0) (g .rights)) _ e₂)
-    ∙ ap (λ (k : ℕ). replicate k freshCopy) l₂ in
-    same (g .rights) (g .copies) (g .owner) (g .n) rs cs (eqb-true (g .owner) 0 (and-left (eqb (g .owner) 0) _ e₁)) (eqb-true (g .n) 0 st)
-  where
-    same : (rs : List ℕ) (cs : List Copy) (o n : ℕ) → rs ≡ replicate 16 0 → cs ≡ replicate 8 freshCopy → o ≡ 0 → n ≡ 0
-        → _≡_ {A = Page} (record { rights = rs; copies = cs; owner = o; n = n }) (record { rights = replicate 16 0; copies = replicate 8 freshCopy; owner = 0; n = 0 })
-    same rs cs o n p q r s = cc
-
--- and a fresh page meets the rule
+-- a fresh page meets the rule
 pub fresh-page-ok : (limit : ℕ) → pageRule limit freshPage ≡ true
 unfolding pageRule absentRule freshPage all
 fresh-page-ok limit = refl

@@ -1,12 +1,12 @@
 -- The one pass over the pages answers what the table rules say.
 use Prim.Native.Nat.{ℕ, zero, suc, _+_, _≤_, _<_}
-use mathlib.Core.Path.{_≡_, refl, sym, ap, _∙_, subst}
+use mathlib.Core.Path.{_≡_, refl, sym, ap, _∙_}
 use mathlib.Core.Bool.{Bool, true, false, not, _&&_, _||_, cond, true≢false, false≢true}
 use mathlib.Core.List.{List, [], _∷_}
 use native.Mathlib.Decide.{ℕ-discrete}
 use native.Mathlib.Nat.{zero-add}
 use native.Mathlib.Omega.{arith}
-use lib.ListN.{length, getD, set, take, drop, replicate, length-set, length-replicate, getD-replicate}
+use lib.ListN.{length, getD, set, take, replicate, length-set, length-replicate, getD-replicate}
 use lib.Seq.{getD-set-same, getD-set-other, set-getD}
 use lib.Dec.{leb, eqb}
 use borrow.Author.Tests.{not-true, eq-eqb, ne-eqb, eqb-true, le-leb, leb-true}
@@ -17,7 +17,7 @@ use Rattle.tables.specs.Model.{isNull, inUse, absent}
 use Rattle.tables.specs.Rules.{uses, onFrame, isRecent, copyRule, pageRule, alone}
 use Rattle.tables.specs.PrivateMarks.{noMarks, mark, marks, unmarked, scanCopies, scanPage, scanPages}
 use Rattle.tables.proofs.ListLaws.{and-left, and-right, and-intro, iff-eq, bit-le, below-at, below-of}
-use Rattle.tables.proofs.RuleLaws.{good-copy, StandingPage, standing}
+use Rattle.tables.proofs.RuleLaws.{good-copy, standing}
 
 -- ---- the marks
 

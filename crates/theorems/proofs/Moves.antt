@@ -32,7 +32,7 @@ use Rattle.steps.specs.Kinds.{names, code, among}
 use Rattle.steps.specs.Calls.{nameOutside}
 use Rattle.steps.specs.Stores.{lay, held, zeros}
 use Rattle.steps.specs.Steps.{Outcome, Plan, laying, numbered, copyAt, recents, copying, perform, decideOn}
-use Rattle.steps.specs.Effects.{laidIn, shownOf, State, joined, carriedOut}
+use Rattle.steps.specs.Effects.{laidIn, State, joined, carriedOut}
 use Rattle.steps.proofs.Blocks.{block-lay-whole, block-lay-other}
 use Rattle.steps.proofs.DecideLaws.{page-near}
 use Rattle.steps.proofs.StepLaws.{joined-long, page-stands, length-held}

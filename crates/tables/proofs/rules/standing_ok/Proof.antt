@@ -1,6 +1,6 @@
 -- `standing_ok` tests a standing page, rule by rule, and marks its frames.
 use mathlib.Core.Bool.{false, false≢true}
-use mathlib.Core.Path.{_≡_, sym, _∙_}
+use mathlib.Core.Path.{sym, _∙_}
 use lib.ListN.{drop}
 use lib.Dec.{leb}
 use borrow.Author.Tests.{not-true, not-false, le-leb, lt-leb}
