@@ -210,11 +210,13 @@ fn serve(
         }
         let m = bytes_in(file, next);
         let parsed = asked_in(next, m);
+        let after = past(next, file.len());
         let slip = &mut out[used..];
-        let early = early_number(parsed, known, slip.len());
+        let room = slip.len();
+        let early = early_number(parsed, known, room);
         if early != ACCEPTED {
             reply_refusal(slip, early);
-            used = ahead(keep, used, reply_length(slip.len(), 0));
+            used = ahead(keep, used, reply_length(room, 0));
             tally = tally_after(tally, true, 0);
         } else {
             let call = call_in(parsed);
@@ -222,13 +224,13 @@ fn serve(
             let d = judge(tables, call, bytes.len());
             reply_decided(d, bytes, fast, slow, slip);
             used = ahead(keep, used, 6 + d.len);
+            tally = tally_after(tally, d.number != ACCEPTED, d.laid);
             if d.moved {
                 tables = settle(tables, d);
                 moved = true;
             }
-            tally = tally_after(tally, d.number != ACCEPTED, d.laid);
         }
-        at = past(next, file.len());
+        at = after;
     }
 }
 
@@ -246,10 +248,12 @@ pub fn run(
         (now (out .entry)) (stateOf (r .tables) (now (fast .exit)) (now (slow .exit))) (now (out .exit)) r ⌝ }
 {
     let done = serve(tables, fast, slow, file, 0, out, tally, false);
+    let left = done.tables;
+    let counted = done.tally;
     Ran {
         moved: done.moved,
-        tables: done.tables,
-        tally: done.tally,
+        tables: left,
+        tally: counted,
     }
 }
 
