@@ -16,8 +16,8 @@ use Rattle.steps.specs.Effects.{State}
 use Rattle.messages.specs.declared.Answered.{Answered}
 use Rattle.messages.specs.declared.Tally.{Tally}
 use Rattle.messages.specs.Replies.{upTo}
-use Rattle.messages.specs.Run.{whole, Turn}
-use Rattle.theorems.specs.Demand1.{allowed, refusalIn, Loan, refusedOnce, Obeys, TurnObeys, TurnsObey, RunObeys}
+use Rattle.messages.specs.Run.{whole, Turn, Run}
+use Rattle.theorems.specs.Demand1.{allowed, refusalIn, Loan, refusedOnce, Obeys, TurnObeys, next, TurnsObey}
 use Rattle.theorems.specs.Witness3.{But, fastBytes, slowBytes, start, made}
 
 -- ---- one message
@@ -230,7 +230,18 @@ turn-alone turn-fixed =
     each-turn-part (TurnRow turn-fixed) refl (λ _. refl) (λ _. refl)
     (λ k. false≢true (ap (λ (l : List ℕ). eqb (length l) 0) (k (λ e. omega arith))))
 
--- A run of no messages that ends with another state: `turns` of `RunObeys` holds, and only `starts` rules it out.
-pub starts-alone : (RunObeys 70 start (record { turns = []; final = made }) [] → ⊥) × TurnsObey 70 [] [] made
+-- the fields of `RunObeys`: a run of no messages that ends with another state
+abbrev pub strayed : Run
+strayed = record { turns = []; final = made }
+
+pub starts-alone : (next (strayed .turns) (strayed .final) ≡ start → ⊥) × TurnsObey 70 (strayed .turns) [] (strayed .final)
 unfolding freshTables freshPage created
-starts-alone = (λ o. false≢true (ap (λ (s : State). absent (pageAt (s .tables) 5)) (o .starts)), tt)
+starts-alone = (λ e. false≢true (ap (λ (s : State). absent (pageAt (s .tables) 5)) e), tt)
+
+-- and one of a wrong turn
+abbrev pub misnumbered : Run
+misnumbered = record { turns = wrongTurn turn-in-table .turn ∷ []; final = start }
+
+pub turns-alone : (next (misnumbered .turns) (misnumbered .final) ≡ start)
+    × (TurnsObey 70 (misnumbered .turns) (wrongTurn turn-in-table .reply ∷ []) (misnumbered .final) → ⊥)
+turns-alone = (refl, λ k. false≢true (k .0 .in-table))
