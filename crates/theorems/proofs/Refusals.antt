@@ -1,5 +1,5 @@
 -- Demand 1, in order: the number of a message; what a refusal leaves; one message, from the contracts; every turn of a run.
-use Prim.Native.Nat.{ℕ, zero, suc, _+_, _≤_, _<_, min}
+use Prim.Native.Nat.{ℕ, _+_, _≤_, _<_, min}
 use mathlib.Core.Path.{_≡_, refl, sym, ap, _∙_}
 use mathlib.Core.Bool.{Bool, true, false, not}
 use mathlib.Core.List.{List, [], _∷_}
@@ -8,7 +8,9 @@ use native.Mathlib.Omega.{arith}
 use lib.ListN.{length}
 use lib.Dec.{ltb, eqb}
 use borrow.Author.Tests.{lt-ltb, ne-eqb}
+use Rattle.tables.specs.Lists.{all}
 use Rattle.tables.specs.Numbers.{accepted, shortSlip}
+use Rattle.tables.proofs.ListLaws.{all-listed}
 use Rattle.steps.specs.Stores.{over}
 use Rattle.steps.specs.Steps.{Outcome, refuse, accept, test, numberOf}
 use Rattle.steps.specs.Effects.{State, Result, left, laidBy}
@@ -19,21 +21,14 @@ use Rattle.messages.specs.declared.Tally.{Tally}
 use Rattle.messages.specs.Promises.{sentAlone}
 use Rattle.messages.specs.Replies.{reply, replyIn, upTo, counted}
 use Rattle.messages.specs.Run.{Sent, asked, bytesOf, respond, answer, turnOf, leftBy, messagesOf, turnsOf, endOf, replies}
-use Rattle.messages.proofs.ParseLaws.{Known, bad, good, asked-known}
+use Rattle.messages.proofs.ParseLaws.{ownNumbers, Known, bad, good, asked-known}
 use Rattle.theorems.specs.Demand1.{allowed, refusalIn, refusedOnce, OneMessage, TurnObeys, next, TurnsObey, Demand1}
 
 -- ---- the number
 
-own-listed : (n : ℕ) → 1 ≤ n → n ≤ 4 → allowed n ≡ true
-own-listed zero some few = absurd (omega arith)
-own-listed (suc zero) some few = refl
-own-listed (suc (suc zero)) some few = refl
-own-listed (suc (suc (suc zero))) some few = refl
-own-listed (suc (suc (suc (suc zero)))) some few = refl
-own-listed (suc (suc (suc (suc (suc n))))) some few = absurd (omega arith)
-
 responded : (s : State) {a : Parsed} (bs : List ℕ) → Known a → allowed (numberOf (respond s a bs)) ≡ true
-responded s bs (bad {n} some few) = own-listed n some few
+unfolding all
+responded s bs (bad {n} some own) = all-listed allowed ownNumbers n refl own
 responded s bs (good {c}) = step-number s c bs
 
 module _ (room : ℕ) (s : State) (x : Sent) where
