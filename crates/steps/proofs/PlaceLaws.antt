@@ -21,7 +21,7 @@ use Rattle.steps.specs.declared.Decision.{Decision}
 use Rattle.steps.specs.Stores.{fits, part, block}
 use Rattle.steps.specs.Steps.{Outcome, refuse, accept, mapped, Plan, firstCurrent, viewOf, decideAny}
 use Rattle.steps.specs.Effects.{shownOf, State, carriedOut, step, dataOf, framePlace, noPlace, shownAt, placeOf, readPlace}
-use Rattle.steps.specs.Promises.{decisionOf, workOf, lenOf, bytesAt, pointerAt}
+use Rattle.steps.specs.Promises.{decisionOf, workOf, lenOf, bytesAt, pointerAt, ReadPart}
 use Rattle.steps.specs.Private.{Room, PlaceIn}
 use Rattle.steps.proofs.StoreLaws.{length-part, part-fast, part-slow, part-block}
 use Rattle.steps.proofs.DecideLaws.{IfAccepted, if-accepted, past, read-shows}
@@ -139,10 +139,11 @@ module _ (s : State) (c : Call) (kind : c .kind ≡ Read) where
     pub had-in : PlaceIn place (s .fast) (s .slow)
     had-in = subst (λ (q : Place). PlaceIn q (s .fast) (s .slow)) (sym is) read-in
 
-    pub had : (bytes : List ℕ) (at x y : ℕ × ℕ) → bytes ≡ bytesAt place (s .fast) (s .slow) → at ≡ pointerAt place x y
-        → (bytes ≡ dataOf (step s c [])) × ((length bytes ≡ readPlace (s .tables) (length (s .fast)) (length (s .slow)) c .len)
-        × (at ≡ pointerAt (readPlace (s .tables) (length (s .fast)) (length (s .slow)) c) x y))
-    had bytes at x y b r = (
-      b ∙ ap (λ (q : Place). bytesAt q (s .fast) (s .slow)) is ∙ read-bytes,
-      (ap length b ∙ length-bytes place (s .fast) (s .slow) had-in ∙ ap (λ (q : Place). q .len) is, r ∙ ap (λ (q : Place). pointerAt q x y) is),
-    )
+    pub had : (x y at : ℕ × ℕ) (bytes : List ℕ) → bytes ≡ bytesAt place (s .fast) (s .slow) → at ≡ pointerAt place x y
+        → ReadPart (step s c []) (readPlace (s .tables) (length (s .fast)) (length (s .slow)) c) x y at bytes
+    had x y at bytes b r =
+        record {
+          bytes-told = b ∙ ap (λ (q : Place). bytesAt q (s .fast) (s .slow)) is ∙ read-bytes;
+          len-told = ap length b ∙ length-bytes place (s .fast) (s .slow) had-in ∙ ap (λ (q : Place). q .len) is;
+          pointer-told = r ∙ ap (λ (q : Place). pointerAt q x y) is;
+        }

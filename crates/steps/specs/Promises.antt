@@ -144,3 +144,9 @@ bytesAt place fast slow = part (cond (place .slow) slow fast) (place .start) (pl
 -- where a reference to them points, if those to the stores point at `fast` and `slow`: a block of memory and an offset in it
 abbrev pub pointerAt : Place → ℕ × ℕ → ℕ × ℕ → ℕ × ℕ
 pointerAt place fast slow = cond (place .slow) (slow .0, place .start + slow .1) (fast .0, place .start + fast .1)
+
+-- what `read` gives of a call that comes to o and has its bytes at a place: `bytes`, at `pointer`
+pub record ReadPart (o : Outcome Result) (place : Place) (fast slow pointer : ℕ × ℕ) (bytes : List ℕ) : Type 0 where
+  pub bytes-told : bytes ≡ dataOf o
+  pub len-told : length bytes ≡ place .len
+  pub pointer-told : pointer ≡ pointerAt place fast slow

@@ -25,8 +25,8 @@ ghost use lib.ListN.{length};
 ghost use denote.Ref.{ptr};
 ghost use Rattle.tables.specs.Lists.{all};
 ghost use Rattle.tables.specs.Model.{inUse};
-ghost use Rattle.steps.specs.Effects.{step, dataOf, readCall, readPlace};
-ghost use Rattle.steps.specs.Promises.{stateOf, lent, currentWithin, carried, Stepped, pointerAt};
+ghost use Rattle.steps.specs.Effects.{step, readCall, readPlace};
+ghost use Rattle.steps.specs.Promises.{stateOf, lent, currentWithin, carried, Stepped, ReadPart};
 
 // Whether so many bytes from an offset on lie within a page.
 fn span_within(offset: u8, count: usize) -> bool
@@ -176,9 +176,9 @@ pub fn read<'a>(
     offset: u8,
     count: u8,
 ) -> &'a [u8]
-    ensures { λ r. ⌜ now r ≡ dataOf (step (stateOf tables (now (fast .entry)) (now (slow .entry))) (readCall station page offset count) []) ⌝ }
-    ensures { λ r. ⌜ length (now r) ≡ readPlace tables (length (now (fast .entry))) (length (now (slow .entry))) (readCall station page offset count) .len ⌝ }
-    ensures { λ r. ⌜ ptr r ≡ pointerAt (readPlace tables (length (now (fast .entry))) (length (now (slow .entry))) (readCall station page offset count)) (ptr (fast .entry)) (ptr (slow .entry)) ⌝ }
+    ensures { λ r. ⌜ ReadPart (step (stateOf tables (now (fast .entry)) (now (slow .entry))) (readCall station page offset count) [])
+        (readPlace tables (length (now (fast .entry))) (length (now (slow .entry))) (readCall station page offset count))
+        (ptr (fast .entry)) (ptr (slow .entry)) (ptr r) (now r) ⌝ }
 {
     let place = read_place(tables, fast.len(), slow.len(), station, page, offset, count);
     part_at(fast, slow, place)

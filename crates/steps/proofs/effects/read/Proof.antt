@@ -25,7 +25,7 @@ returns c =
     let r = c .part-at in
     had (stateOf (a .tables) (a .fast .now) (a .slow .now)) (readCall (a .station) (a .page) (a .offset) (a .count)) refl
     (c .before .read-place .result) (c .before .read-place .ensures)
-    (r .result .now) (r .result .ptr) (a .fast .ptr) (a .slow .ptr) (r .ensures .0) (r .ensures .1)
+    (a .fast .ptr) (a .slow .ptr) (r .result .ptr) (r .result .now) (r .ensures .0) (r .ensures .1)
 
 pub read-spec : {M : Type 1} → statement M
 read-spec = tie.close (tie.spec read-place-requires part-at-requires returns)
