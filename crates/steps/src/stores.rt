@@ -1,4 +1,5 @@
 // The two lent stores: frame f is in the fast one where f is below p, and else in the slow one.
+use crate::Place;
 use tables::Copy;
 use tables::Page;
 ghost use mathlib.Core.Path.{_≡_};
@@ -6,9 +7,12 @@ ghost use mathlib.Core.Bool.{true};
 ghost use mathlib.Core.List.{[], _∷_, _++_};
 ghost use Prim.Native.Nat.{ℕ, _+_, _<_, _≤_};
 ghost use lib.ListN.{length, getD};
+ghost use denote.Ref.{ptr};
 ghost use Rattle.tables.specs.Model.{noCopyEntry, inUse};
 ghost use Rattle.steps.specs.Stores.{part, splice, block, lay, zeros, layCurrent};
-ghost use Rattle.steps.specs.Private.{Room};
+ghost use Rattle.steps.specs.Effects.{framePlace};
+ghost use Rattle.steps.specs.Promises.{bytesAt, pointerAt};
+ghost use Rattle.steps.specs.Private.{Room, PlaceIn};
 
 // Lays all of src into dst from index at on.
 pub(crate) fn put(dst: &mut [u8], at: usize, src: &[u8])
@@ -96,6 +100,42 @@ pub(crate) fn frame_part<'a>(
     } else {
         let a = 64 * (frame - p) + offset;
         &slow[a..a + count]
+    }
+}
+
+// Where the bytes of a frame are from an offset on.
+pub(crate) fn frame_place(p: usize, frame: u8, offset: u8, len: usize) -> Place
+    ensures { λ r. ⌜ r ≡ framePlace p frame offset len ⌝ }
+{
+    let f = frame as usize;
+    let o = offset as usize;
+    if f < p {
+        Place {
+            slow: false,
+            start: 64 * f + o,
+            len,
+        }
+    } else {
+        Place {
+            slow: true,
+            start: 64 * (f - p) + o,
+            len,
+        }
+    }
+}
+
+// The part of a store that a place names.
+pub(crate) fn part_at<'a>(fast: &'a [u8], slow: &'a [u8], place: Place) -> &'a [u8]
+    requires { ⌜ PlaceIn place (now fast) (now slow) ⌝ }
+    ensures { λ r. ⌜ now r ≡ bytesAt place (now (fast .entry)) (now (slow .entry)) ⌝ }
+    ensures { λ r. ⌜ ptr r ≡ pointerAt place (ptr (fast .entry)) (ptr (slow .entry)) ⌝ }
+{
+    let start = place.start;
+    let end = start + place.len;
+    if place.slow {
+        &slow[start..end]
+    } else {
+        &fast[start..end]
     }
 }
 
