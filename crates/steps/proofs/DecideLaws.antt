@@ -32,7 +32,7 @@ use Rattle.steps.specs.declared.Call.{Call}
 use Rattle.steps.specs.declared.View.{View}
 use Rattle.steps.specs.declared.Work.{Work}
 use Rattle.steps.specs.declared.Work.the-variants.{Clear, Duplicate, Spread, Show, ShowPage, ShowHolder}
-use Rattle.steps.specs.Kinds.{offset, bytes, frame, names, code, among, has}
+use Rattle.steps.specs.Kinds.{offset, bytes, frame, names, code, among, has, leastLength}
 use Rattle.steps.specs.Calls.{nameOutside, frameOutside, badSpan, spanOutside}
 use Rattle.steps.specs.Steps.{Outcome, refuse, accept, test, Plan, editing, showing, laying, mayRead, mayWrite, owns, copyAt, currents, recents, firstCurrent, standing, numbered, copying, perform, decideOn, decide}
 use Rattle.steps.specs.Effects.{shownOf}
@@ -105,11 +105,13 @@ module _ {limit : ℕ} where
 
 -- ---- one plan
 
--- what is known of the plan of a call on page g of tables t: its edit is allowed, what it lays and shows fits, and lies within the frames
-pub record PlanOk (t : Tables) (c : Call) (size : ℕ) (plan : Plan) : Type 0 where
+-- what is known of the plan of a call of kind k on page g of tables t: its edit is allowed, what it lays and shows fits, and lies within the
+-- frames; and its reply has at most 35 bytes for each 4 of its message
+pub record PlanOk (t : Tables) (c : Call) (size : ℕ) (k : Kind) (plan : Plan) : Type 0 where
   pub near : c .page < 64
   pub allowed : Allowed t (c .page) (plan .edit)
   pub short : plan .len ≤ 64
+  pub paid : 4 * (6 + plan .len) ≤ 35 * (2 + leastLength k)
   pub laid-fits : plan .laid ≤ 512
   pub inside : workWithin (pageAt t (c .page)) (plan .len) (frames t) size (plan .work) ≡ true
   pub shows : (st : List ℕ) → length st ≡ 64 * frames t → length (shownOf (pageAt t (c .page)) (plan .work) (plan .len) st) ≡ plan .len
@@ -119,65 +121,68 @@ module _ (t : Tables) (c : Call) (size : ℕ) (near : c .page < 64)
   abbrev g : Page
   g = pageAt t (c .page)
 
-  -- one that only edits, shows or lays
-  edit-ok : (e : Edit) → Allowed t (c .page) e → IfAccepted (PlanOk t c size) (editing e)
-  unfolding shownOf
-  edit-ok e a =
-      if-accepted (record { near = near; allowed = a; short = zero-le; laid-fits = zero-le; inside = refl; shows = λ st l. refl })
+  module _ (kind : Kind) where
+    -- one that only edits, shows or lays
+    edit-ok : (e : Edit) → Allowed t (c .page) e → IfAccepted (PlanOk t c size kind) (editing e)
+    unfolding shownOf
+    edit-ok e a =
+        if-accepted
+        (record { near = near; allowed = a; short = zero-le; paid = omega arith; laid-fits = zero-le; inside = refl; shows = λ st l. refl })
 
-  show-ok : (len : ℕ) (w : Work) → len ≤ 64 → workWithin g len (frames t) size w ≡ true
-      → ((st : List ℕ) → length st ≡ 64 * frames t → length (shownOf g w len st) ≡ len)
-      → IfAccepted (PlanOk t c size) (showing len w)
-  show-ok len w short inside shows =
-      if-accepted (record { near = near; allowed = tt; short = short; laid-fits = zero-le; inside = inside; shows = shows })
+    show-ok : (len : ℕ) (w : Work) → len ≤ 64 → 4 * (6 + len) ≤ 35 * (2 + leastLength kind) → workWithin g len (frames t) size w ≡ true
+        → ((st : List ℕ) → length st ≡ 64 * frames t → length (shownOf g w len st) ≡ len)
+        → IfAccepted (PlanOk t c size kind) (showing len w)
+    show-ok len w short paid inside shows =
+        if-accepted (record { near = near; allowed = tt; short = short; paid = paid; laid-fits = zero-le; inside = inside; shows = shows })
 
-  lay-ok : (e : Edit) (laid : ℕ) (w : Work) → Allowed t (c .page) e → laid ≤ 512
-      → workWithin g 0 (frames t) size w ≡ true → ((st : List ℕ) → length (shownOf g w 0 st) ≡ 0)
-      → IfAccepted (PlanOk t c size) (laying e laid w)
-  lay-ok e laid w a few inside none =
-      if-accepted (record { near = near; allowed = a; short = zero-le; laid-fits = few; inside = inside; shows = λ st l. none st })
+    lay-ok : (e : Edit) (laid : ℕ) (w : Work) → Allowed t (c .page) e → laid ≤ 512
+        → workWithin g 0 (frames t) size w ≡ true → ((st : List ℕ) → length (shownOf g w 0 st) ≡ 0)
+        → IfAccepted (PlanOk t c size kind) (laying e laid w)
+    lay-ok e laid w a few inside none =
+        if-accepted
+        (record { near = near; allowed = a; short = zero-le; paid = omega arith; laid-fits = few; inside = inside; shows = λ st l. none st })
 
   -- ---- the walk
 
-  copy-ok : (k f : ℕ) → k < g .n → f < frames t → free t f ≡ true → absent g ≡ false
-      → g .n ≢ 8 → IfAccepted (PlanOk t c size) (copying (copyAt g k) f)
+  copy-ok : (kind : Kind) (k f : ℕ) → k < g .n → f < frames t → free t f ≡ true → absent g ≡ false
+      → g .n ≢ 8 → IfAccepted (PlanOk t c size kind) (copying (copyAt g k) f)
   unfolding shownOf
-  copy-ok k f less low spare some room =
+  copy-ok kind k f less low spare some room =
       go (isNull (copyAt g k)) refl (copy-at (stands some) k less .placed)
     where
       onto : FrameOk t f
       onto = record { in-range = low; unused = spare }
 
       go : (z : Bool) → isNull (copyAt g k) ≡ z → (z ≡ false → copyAt g k .frame < frames t)
-          → IfAccepted (PlanOk t c size) (cond z (laying (Placed f) 64 (Clear f))
+          → IfAccepted (PlanOk t c size kind) (cond z (laying (Placed f) 64 (Clear f))
           (laying (Added f (copyAt g k .recent)) 64 (Duplicate (copyAt g k .frame) f)))
-      go true e at = lay-ok (Placed f) 64 (Clear f) (record { onto = onto; stands = some }) (omega arith) (lt-ltb f (frames t) low) (λ st. refl)
+      go true e at = lay-ok kind (Placed f) 64 (Clear f) (record { onto = onto; stands = some }) (omega arith) (lt-ltb f (frames t) low) (λ st. refl)
       go false e at =
-          lay-ok (Added f _) 64 (Duplicate _ f)
+          lay-ok kind (Added f _) 64 (Duplicate _ f)
           (record { onto = onto; room = omega (arith, stands some .most); from = k; from-in = less; from-placed = e }) (omega arith)
           (and-intro (lt-ltb _ (frames t) (at refl)) (lt-ltb f (frames t) low)) (λ st. refl)
 
   perform-ok : (k : Kind) → nameOutside c ≡ false → (has frame k && leb (frames t) (c .frame)) ≡ false
       → (has offset k && badSpan (c .offset) (cond (has bytes k) size (c .count))) ≡ false
-      → IfAccepted (PlanOk t c size)
+      → IfAccepted (PlanOk t c size k)
       (perform (record { frames = frames t; page = g; holder = cond (has frame k) (holderOf t (c .frame)) Free }) c size k)
   unfolding perform shownOf names code among
   perform-ok Create name far span =
       let low = ltb-false 15 (c .station) (or-left (ltb 15 (c .station)) _ (or-left (ltb 15 (c .station) || ltb 63 (c .page)) _ name)) in
-      past (not (absent g)) _ refl (λ _. edit-ok (Created (c .station)) (omega arith))
+      past (not (absent g)) _ refl (λ _. edit-ok Create (Created (c .station)) (omega arith))
   perform-ok DeletePage name far span =
-      past-standing g (owns g (c .station)) (λ _. edit-ok Deleted tt)
+      past-standing g (owns g (c .station)) (λ _. edit-ok DeletePage Deleted tt)
   perform-ok Grant name far span =
       let low = ltb-false 2 (c .right) (or-right (ltb 15 (c .other)) _ (or-right (ltb 15 (c .station) || ltb 63 (c .page)) _ name)) in
       past-standing g (owns g (c .station)) (λ some.
-      edit-ok (Granted (c .other) (c .right)) (record { stands = some; low = low }))
+      edit-ok Grant (Granted (c .other) (c .right)) (record { stands = some; low = low }))
   perform-ok Read name far span =
       past-standing g (mayRead g (c .station)) (λ some.
       past (eqb (currents g) 0) _ refl (λ e.
       let ne = eqb-false (currents g) 0 e in
       let low = first-low (inUse g) (currents-within (stands some)) (omega arith) in
       let span = span-within (c .offset) (c .count) span in
-      show-ok (c .count) (Show _ (c .offset)) (omega arith) (and-intro (lt-ltb _ (frames t) low) (le-leb (c .offset + c .count) 64 span))
+      show-ok Read (c .count) (Show _ (c .offset)) (omega arith) (omega arith) (and-intro (lt-ltb _ (frames t) low) (le-leb (c .offset + c .count) 64 span))
       (λ st l. length-frame-part st _ (c .offset) (c .count) (omega arith) span)))
   perform-ok Write name far span =
       past-standing g (mayWrite g (c .station)) (λ some.
@@ -187,32 +192,32 @@ module _ (t : Tables) (c : Call) (size : ℕ) (near : c .page < 64)
       let few = count-le isCurrent (inUse g) in
       let most = stands some .most in
       let long = length-in-use (stands some) in
-      lay-ok Staled (size * currents g) (Spread (c .offset)) (record { stands = some; written = omega arith })
+      lay-ok Write Staled (size * currents g) (Spread (c .offset)) (record { stands = some; written = omega arith })
       (mul-le-mul {n₂ = 64} {m₂ = 8} (omega arith) (omega arith))
       (and-intro (le-leb (c .offset + size) 64 span) (currents-within (stands some))) (λ st. refl)))
   perform-ok MakeCopy name far span =
       past-numbered g (c .copy) (λ some less. past (not (isFree (holderOf t (c .frame)))) _ refl (λ is.
       past (eqb (g .n) 8) _ refl (λ room.
-      copy-ok (c .copy) (c .frame) less (leb-false (frames t) (c .frame) far) (free-holder t (c .frame) ∙ not-false _ is) some
+      copy-ok MakeCopy (c .copy) (c .frame) less (leb-false (frames t) (c .frame) far) (free-holder t (c .frame) ∙ not-false _ is) some
       (eqb-false (g .n) 8 room))))
   perform-ok DeleteCopy name far span =
       past-numbered g (c .copy) (λ _ less.
       past (copyAt g (c .copy) .recent && eqb (recents g) 1) _ refl (λ last.
-      edit-ok (Removed (c .copy)) (record { in-use = less; not-last = last })))
+      edit-ok DeleteCopy (Removed (c .copy)) (record { in-use = less; not-last = last })))
   perform-ok SetCurrent name far span =
       past-numbered g (c .copy) (λ _ less. past (isNull (copyAt g (c .copy))) _ refl (λ full.
       past (not (copyAt g (c .copy) .recent)) _ refl (λ new.
-      edit-ok (Marked (c .copy) true) (record { in-use = less; fresh = λ _. not-false _ new; placed = λ _. full }))))
+      edit-ok SetCurrent (Marked (c .copy) true) (record { in-use = less; fresh = λ _. not-false _ new; placed = λ _. full }))))
   perform-ok RemoveCurrent name far span =
       past-numbered g (c .copy) (λ _ less.
-      edit-ok (Marked (c .copy) false) (record { in-use = less; fresh = λ e. absurd (false≢true e); placed = λ e. absurd (false≢true e) }))
+      edit-ok RemoveCurrent (Marked (c .copy) false) (record { in-use = less; fresh = λ e. absurd (false≢true e); placed = λ e. absurd (false≢true e) }))
   perform-ok LookPage name far span =
       past (absent g) _ refl (λ some.
       let most = stands some .most in
       let long = length-in-use (stands some) in
       let data-long = length-entries (inUse g) in
-      show-ok (1 + 3 * length (inUse g)) ShowPage (omega arith) refl (λ st l. omega arith))
-  perform-ok LookFrame name far span = show-ok 3 (ShowHolder _) (omega arith) refl (λ st l. three (holderOf t (c .frame)))
+      show-ok LookPage (1 + 3 * length (inUse g)) ShowPage (omega arith) (omega arith) refl (λ st l. omega arith))
+  perform-ok LookFrame name far span = show-ok LookFrame 3 (ShowHolder _) (omega arith) (omega arith) refl (λ st l. three (holderOf t (c .frame)))
     where
       three : (h : Holder) → length (shown h) ≡ 3
       three (At p k) = refl
@@ -220,7 +225,7 @@ module _ (t : Tables) (c : Call) (size : ℕ) (near : c .page < 64)
 
 -- ---- a call on tables that keep the rules
 
-pub decide-ok : (t : Tables) (c : Call) (size : ℕ) → sound t ≡ true → IfAccepted (PlanOk t c size) (decide t c size)
+pub decide-ok : (t : Tables) (c : Call) (size : ℕ) → sound t ≡ true → IfAccepted (PlanOk t c size (c .kind)) (decide t c size)
 unfolding decideOn
 decide-ok t c size e =
     past (nameOutside c) _ refl (λ name. past (frameOutside (frames t) c) _ refl (λ far. past (spanOutside size c) _ refl (λ span.

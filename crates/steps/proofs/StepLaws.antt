@@ -23,6 +23,7 @@ use Rattle.steps.specs.declared.Call.{Call}
 use Rattle.steps.specs.declared.Work.{Work}
 use Rattle.steps.specs.declared.Work.the-variants.{Nothing, Clear, Duplicate, Spread, Show, ShowPage, ShowHolder}
 use Rattle.steps.specs.declared.Decision.{Decision}
+use Rattle.steps.specs.Kinds.{leastLength}
 use Rattle.steps.specs.Stores.{fits, block, held, zeros, over}
 use Rattle.steps.specs.Steps.{Outcome, refuse, accept, test, mapped, Plan, copyAt, decide, decideAny, numberOf}
 use Rattle.steps.specs.Effects.{laidIn, shownOf, State, joined, Result, carriedOut, step, left, laidBy, dataOf}
@@ -126,7 +127,7 @@ length-laid g (ShowHolder h) len limit bs st l e = refl
 -- of an accepted call: the rules hold before it, and its plan is in order
 pub record Sure (s : State) (c : Call) (bs : List ℕ) (plan : Plan) : Type 0 where
   pub good : Good s
-  pub plan-ok : PlanOk (s .tables) c (length bs) plan
+  pub plan-ok : PlanOk (s .tables) c (length bs) (c .kind) plan
 
 module _ (s : State) (c : Call) (bs : List ℕ) where
   pub sure : IfAccepted (Sure s c bs) (decideAny (s .tables) (length (s .fast)) (length (s .slow)) c (length bs))
@@ -187,6 +188,16 @@ module _ (s : State) (c : Call) (bs : List ℕ) where
       go (refuse n) k = zero-le
       go (accept plan) (if-accepted u) = rw (u .plan-ok .shows (joined s) (joined-long (u .good))) (u .plan-ok .short)
 
+  -- and with its first six bytes the reply has at most 35 for each 4 of its message
+  pub data-paid : 4 * (6 + length (dataOf (step s c bs))) ≤ 35 * (2 + leastLength (c .kind))
+  unfolding step
+  data-paid = go _ sure
+    where
+      go : (o : Outcome Plan) → IfAccepted (Sure s c bs) o
+          → 4 * (6 + length (dataOf (mapped (carriedOut s c bs) o))) ≤ 35 * (2 + leastLength (c .kind))
+      go (refuse n) k = omega arith
+      go (accept plan) (if-accepted u) = rw (u .plan-ok .shows (joined s) (joined-long (u .good))) (u .plan-ok .paid)
+
   -- every number is 0 or one of the table
   pub step-number : listed (numberOf (step s c bs)) (accepted ∷ table) ≡ true
   unfolding step
@@ -236,7 +247,7 @@ decided-within s c size out d i room q =
     and-intro (le-leb 64 (length out) room) (and-intro (eq-eqb (length (s .fast) % 64) 0 (omega arith))
     (rw same (go _ (decide-ok (s .tables) c size (i .tables-sound)) q)))
   where
-    go : (o : Outcome Plan) → IfAccepted (PlanOk (s .tables) c size) o → Decides (s .tables) c o d
+    go : (o : Outcome Plan) → IfAccepted (PlanOk (s .tables) c size (c .kind)) o → Decides (s .tables) c o d
         → workWithin (d .before) (d .len) (frames (s .tables)) size (d .work) ≡ true
     go (refuse n) k q = rw (q .work-told) refl
     go (accept plan) (if-accepted u) q = rw (q .before-told refl, q .len-told, q .work-told) (u .inside)
