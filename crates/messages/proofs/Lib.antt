@@ -4,3 +4,4 @@ pub mod ReplyLaws
 pub mod TurnLaws
 pub mod RunLaws
 pub mod PartLaws
+pub mod JoinLaws

@@ -1,11 +1,12 @@
--- A message that its own bytes turn back gets 1, 2, 3 or 4.
+-- A message that its own bytes turn back gets 1, 2, 3 or 4; one that asks for a call is as long as its kind.
 use Prim.Native.Nat.{ℕ, _≤_}
-use mathlib.Core.Path.{_≡_, refl}
+use mathlib.Core.Path.{_≡_, refl, subst}
 use mathlib.Core.Bool.{Bool, true, false, not, _||_, cond}
 use mathlib.Core.List.{List, [], _∷_}
 use native.Mathlib.Omega.{arith}
 use lib.ListN.{length, drop, getD}
 use lib.Dec.{ltb, eqb}
+use borrow.Author.Tests.{ltb-false}
 use Rattle.tables.specs.Lists.{listed}
 use Rattle.tables.specs.Numbers.{cutShort, foreignVersion, unknownKind, wrongLength}
 use Rattle.steps.specs.declared.Call.{Call}
@@ -36,3 +37,22 @@ asked-known (whole m) =
     ladder false true c call = bad {n = unknownKind} (omega arith) refl
     ladder false false true call = bad {n = wrongLength} (omega arith) refl
     ladder false false false call = good
+
+pub asked-long : (m : List ℕ) (c : Call) → parse m ≡ Asked c → leastLength (c .kind) ≤ length m
+unfolding parse callOf
+asked-long m c =
+    ladder (eqb (length m) 0 || not (eqb (getD m 0 0) 1)) (eqb (length m) 1 || (eqb (getD m 1 0) 0 || ltb (length kinds) (getD m 1 0)))
+    (ltb (length m) (leastLength (kindOf (getD m 1 0)))) (ltb (mostLength (kindOf (getD m 1 0))) (length m)) refl
+  where
+    ladder : (a b less more : Bool) → ltb (length m) (leastLength (kindOf (getD m 1 0))) ≡ less
+        → cond a (Refused foreignVersion) (cond b (Refused unknownKind)
+        (cond (less || more) (Refused wrongLength) (Asked (callOf (kindOf (getD m 1 0)) (drop 2 m)))))
+        ≡ Asked c
+        → leastLength (c .kind) ≤ length m
+    ladder true b less more e p = let z : _≡_ {A = ℕ} 0 1 = cc in absurd (omega arith)
+    ladder false true less more e p = let z : _≡_ {A = ℕ} 0 1 = cc in absurd (omega arith)
+    ladder false false true more e p = let z : _≡_ {A = ℕ} 0 1 = cc in absurd (omega arith)
+    ladder false false false true e p = let z : _≡_ {A = ℕ} 0 1 = cc in absurd (omega arith)
+    ladder false false false false e p =
+        let is : callOf (kindOf (getD m 1 0)) (drop 2 m) ≡ c = cc in
+        subst (λ (d : Call). leastLength (d .kind) ≤ length m) is (ltb-false (length m) (leastLength (kindOf (getD m 1 0))) e)

@@ -20,7 +20,7 @@ use Rattle.messages.proofs.RunLaws.{reply-inside}
 
 -- ---- the run
 
-never-full : (room : ℕ) → full room 0 ≡ false
+pub never-full : (room : ℕ) → full room 0 ≡ false
 never-full room = le-ltb (room - 70) 0 zero-le
 
 record RunServed (room : ℕ) (s : State) (out : List ℕ) (n : Tally) (xs : List Sent) (v : Serving) : Type 0 where

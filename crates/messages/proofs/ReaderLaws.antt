@@ -44,7 +44,7 @@ next-message a b l =
 -- ---- at a place of the file
 
 module _ (file : List ℕ) (at : ℕ) where
-  at-end : length file ≤ at → messagesOf (drop at file) ≡ []
+  pub at-end : length file ≤ at → messagesOf (drop at file) ≡ []
   unfolding messagesOf split
   at-end h = rw (drop-of-length-le file h)
 

@@ -104,7 +104,7 @@ module _ (room used : ℕ) (roomy : full room used ≡ false) where
           let h = ltb-false (room - 70) used roomy in
           omega arith
 
-same-answer : (a b : ℕ) (s : State) (x : Sent) → ltb a 70 ≡ ltb b 70 → answer a s x ≡ answer b s x
+pub same-answer : (a b : ℕ) (s : State) (x : Sent) → ltb a 70 ≡ ltb b 70 → answer a s x ≡ answer b s x
 unfolding answer
 same-answer a b s x e = rw e
 
@@ -150,7 +150,7 @@ unfolding servedAll
 served-full keep room end v [] h = refl
 served-full keep room end v (x ∷ xs) h = rw h
 
-none-left : (file : List ℕ) (next : Next) → isEnd next ≡ true → yielded file next ≡ []
+pub none-left : (file : List ℕ) (next : Next) → isEnd next ≡ true → yielded file next ≡ []
 none-left file (Message start len next) h = let z : _≡_ {A = ℕ} 0 1 = cc in absurd (omega arith)
 none-left file Cut h = let z : _≡_ {A = ℕ} 0 1 = cc in absurd (omega arith)
 none-left file End h = refl

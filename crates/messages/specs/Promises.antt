@@ -1,9 +1,9 @@
 -- What the functions that this layer exports promise.
-use Prim.Native.Nat.{ℕ}
+use Prim.Native.Nat.{ℕ, _≤_}
 use mathlib.Core.Path.{_≡_}
 use mathlib.Core.Bool.{false}
-use mathlib.Core.List.{List}
-use lib.ListN.{length}
+use mathlib.Core.List.{List, [], _∷_, _++_}
+use lib.ListN.{length, take}
 use Rattle.steps.specs.Stores.{part, over}
 use Rattle.steps.specs.Steps.{Outcome, numberOf}
 use Rattle.steps.specs.Effects.{State, Result, left, laidBy}
@@ -15,7 +15,7 @@ use Rattle.messages.specs.declared.Ran.{Ran}
 use Rattle.messages.specs.declared.Filled.{Filled}
 use Rattle.messages.specs.Messages.{nextAt}
 use Rattle.messages.specs.Replies.{replyIn}
-use Rattle.messages.specs.Run.{Sent, cut, whole, Run, buffer, tally, joinedReplies, Part}
+use Rattle.messages.specs.Run.{Sent, cut, whole, Run, buffer, tally, joinedReplies, Part, partFrom}
 
 -- what the reader's answer at a place says of the message there: no bytes at all count as cut short
 abbrev pub sentBy : List ℕ → Next → Sent
@@ -53,3 +53,37 @@ pub record PartEnded (s : State) (w : Part) (n : Tally) (out : List ℕ) (s′ :
   pub buffer-out : out′ ≡ over (joinedReplies (length out) (w .turns)) out
   pub tally-out : r .tally ≡ tally (w .turns) n
   pub kept : r .moved ≡ false → s′ .tables ≡ s .tables
+
+-- ---- parts of a run, one after the other: "One reply buffer serves the whole run and is emptied by the caller between turns"
+
+-- a call of `fill`: the buffer that was lent, and what it left
+pub record FillCall : Type 0 where
+  pub out : List ℕ
+  pub state : State
+  pub out′ : List ℕ
+  pub result : Filled
+
+-- calls on a file with buffers of 70 bytes or more, from a place, a state and a tally on; each goes on where the one before it left off
+abbrev pub FillCalls : List ℕ → ℕ → State → Tally → List FillCall → Type 0
+FillCalls file at s n [] = Unit {0}
+FillCalls file at s n (k ∷ ks) =
+    (70 ≤ length (k .out))
+    × PartEnded s (partFrom (length (k .out)) file at s) n (k .out) (k .state) (k .out′) (k .result)
+    × FillCalls file (k .result .at) (k .state) (k .result .tally) ks
+
+-- what the caller took out of its buffers, and where the last call left off
+abbrev pub emptied : List FillCall → List ℕ
+emptied [] = []
+emptied (k ∷ ks) = take (k .result .used) (k .out′) ++ emptied ks
+
+abbrev pub reached : ℕ → List FillCall → ℕ
+reached at [] = at
+reached at (k ∷ ks) = reached (k .result .at) ks
+
+abbrev pub stateLeft : State → List FillCall → State
+stateLeft s [] = s
+stateLeft s (k ∷ ks) = stateLeft (k .state) ks
+
+abbrev pub tallyLeft : Tally → List FillCall → Tally
+tallyLeft n [] = n
+tallyLeft n (k ∷ ks) = tallyLeft (k .result .tally) ks
