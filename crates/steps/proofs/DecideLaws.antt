@@ -17,8 +17,8 @@ use Rattle.tables.specs.declared.Holder.{Holder}
 use Rattle.tables.specs.declared.Holder.the-variants.{At, Free}
 use Rattle.tables.specs.declared.Edit.{Edit}
 use Rattle.tables.specs.declared.Edit.the-variants.{Created, Deleted, Granted, Staled, Placed, Added, Removed, Marked}
-use Rattle.tables.specs.Lists.{all, count}
-use Rattle.tables.specs.Numbers.{noPage, noRight, noCopy}
+use Rattle.tables.specs.Lists.{all, count, listed}
+use Rattle.tables.specs.Numbers.{noPage, noRight, noCopy, table}
 use Rattle.tables.specs.Model.{frames, isNull, inUse, absent, pageAt}
 use Rattle.tables.specs.Rules.{free, isCurrent, copyRule, sound}
 use Rattle.tables.specs.Search.{holderOf, isFree, shown}
@@ -42,19 +42,16 @@ use Rattle.steps.proofs.CopyLaws.{length-entries}
 
 -- ---- what holds of an outcome if it is accepted
 
--- the numbers that calls are turned back with
-abbrev pub callNumber : ℕ → Bool
-callNumber n = leb 1 n && leb n 17
-
+-- and if it is turned back, that is with a number of the table
 pub data IfAccepted {A : Type 0} (P : A → Type 0) : Outcome A → Type 0 where
-  if-refused : {n : ℕ} → callNumber n ≡ true → IfAccepted P (refuse n)
+  if-refused : {n : ℕ} → listed n table ≡ true → IfAccepted P (refuse n)
   if-accepted : {a : A} → P a → IfAccepted P (accept a)
 
 -- behind a test
-pub past : {A : Type 0} {P : A → Type 0} {o : Outcome A} (b : Bool) (n : ℕ) → callNumber n ≡ true → (b ≡ false → IfAccepted P o)
+pub past : {A : Type 0} {P : A → Type 0} {o : Outcome A} (b : Bool) (n : ℕ) → listed n table ≡ true → (b ≡ false → IfAccepted P o)
     → IfAccepted P (test b n o)
-past true n low h = if-refused low
-past false n low h = h refl
+past true n row h = if-refused row
+past false n row h = h refl
 
 -- behind 9 and 10
 past-standing : {P : Plan → Type 0} {o : Outcome Plan} (g : Page) (may : Bool) → (absent g ≡ false → IfAccepted P o)
@@ -68,7 +65,7 @@ past-numbered g k h = past (absent g) noPage refl (λ some. past (leb (g .n) k) 
 
 -- what follows from it
 pub then-keeps : {A : Type 0} {P Q : A → Type 0} {o : Outcome A} → ((a : A) → P a → Q a) → IfAccepted P o → IfAccepted Q o
-then-keeps h (if-refused low) = if-refused low
+then-keeps h (if-refused row) = if-refused row
 then-keeps h (if-accepted k) = if-accepted (h _ k)
 
 -- ---- the names of a call that passes number 7

@@ -29,10 +29,10 @@ use Rattle.steps.proofs.StepLaws.{fit-lengths, Sure, sure}
 
 -- ---- bytes of a frame
 
-module _ (x y : List ℕ) (p f o n : ℕ) (room : Room x y p f) (span : o + n ≤ 64) (place : Place) (is : place ≡ framePlace p f o n) where
+module _ (x y : List ℕ) (p f o n : ℕ) (room : Room x y p f) (span : o + n ≤ 64) where
   -- they lie within the store that has them
-  pub frame-in : PlaceIn place x y
-  frame-in = rw is (go (ltb f p) refl)
+  frame-in : PlaceIn (framePlace p f o n) x y
+  frame-in = go (ltb f p) refl
     where
       go : (b : Bool) → ltb f p ≡ b
           → PlaceIn (cond b (record { slow = false; start = 64 * f + o; len = n }) (record { slow = true; start = 64 * (f - p) + o; len = n })) x y
@@ -40,8 +40,8 @@ module _ (x y : List ℕ) (p f o n : ℕ) (room : Room x y p f) (span : o + n �
       go false e = let h = ltb-false f p e in let r = room .split in let k = room .there in omega arith
 
   -- and are a part of the frame in the joined stores
-  pub frame-bytes : bytesAt place x y ≡ part (block (x ++ y) f) o n
-  frame-bytes = rw is (go (ltb f p) refl ∙ sym (part-block x y p f (room .split) o n (room .there) span))
+  frame-bytes : bytesAt (framePlace p f o n) x y ≡ part (block (x ++ y) f) o n
+  frame-bytes = go (ltb f p) refl ∙ sym (part-block x y p f (room .split) o n (room .there) span)
     where
       go : (b : Bool) → ltb f p ≡ b
           → bytesAt (cond b (record { slow = false; start = 64 * f + o; len = n }) (record { slow = true; start = 64 * (f - p) + o; len = n })) x y
@@ -119,7 +119,7 @@ module _ (s : State) (c : Call) (kind : c .kind ≡ Read) where
       go (refuse n) k w = zero-le
       go (accept plan) (if-accepted u) (if-accepted w) =
           let r = shown-room plan u _ _ w in
-          rw w (frame-in (s .fast) (s .slow) (s .tables .shared .p) _ _ _ (r .0) (r .1) _ refl)
+          rw w (frame-in (s .fast) (s .slow) (s .tables .shared .p) _ _ _ (r .0) (r .1))
 
   -- and the bytes there are the data of the step
   pub read-bytes : bytesAt (readPlace (s .tables) (length (s .fast)) (length (s .slow)) c) (s .fast) (s .slow) ≡ dataOf (step s c [])
@@ -132,7 +132,7 @@ module _ (s : State) (c : Call) (kind : c .kind ≡ Read) where
       go (refuse n) k w = refl
       go (accept plan) (if-accepted u) (if-accepted w) =
           let r = shown-room plan u _ _ w in
-          rw w (frame-bytes (s .fast) (s .slow) (s .tables .shared .p) _ _ _ (r .0) (r .1) _ refl)
+          rw w (frame-bytes (s .fast) (s .slow) (s .tables .shared .p) _ _ _ (r .0) (r .1))
 
   -- So this is known of bytes that are had at that place, and of where they are.
   module _ (place : Place) (is : place ≡ readPlace (s .tables) (length (s .fast)) (length (s .slow)) c) where

@@ -2,8 +2,8 @@
 -- out; what a step leaves and replies; a decision carried out is the step.
 use Prim.Native.Nat.{ℕ, _+_, _%_, _*_, _≤_, _<_, zero-le}
 use mathlib.Core.Path.{_≡_, refl, sym, ap, _∙_, subst}
-use mathlib.Core.Bool.{Bool, true, false, not, cond}
-use mathlib.Core.List.{List, _++_}
+use mathlib.Core.Bool.{Bool, true, false, not, _||_, cond, or-true, false≢true}
+use mathlib.Core.List.{List, [], _∷_, _++_}
 use native.Mathlib.Omega.{arith}
 use lib.ListN.{length, take, drop, length-append, length-drop}
 use lib.Seq.{length-take-le, take-append-seam, drop-append-seam}
@@ -11,7 +11,8 @@ use lib.Dec.{leb, ltb, eqb}
 use borrow.Author.Tests.{ltb-true, leb-true, eqb-true, le-leb, eq-eqb, not-false}
 use Rattle.tables.specs.declared.Page.{Page}
 use Rattle.tables.specs.declared.Tables.{Tables}
-use Rattle.tables.specs.Numbers.{accepted, brokenTables, misfitStore}
+use Rattle.tables.specs.Lists.{listed}
+use Rattle.tables.specs.Numbers.{accepted, brokenTables, misfitStore, table}
 use Rattle.tables.specs.Model.{frames, isNull, inUse, absent, pageAt}
 use Rattle.tables.specs.Rules.{sound}
 use Rattle.tables.specs.Changes.{after}
@@ -186,14 +187,14 @@ module _ (s : State) (c : Call) (bs : List ℕ) where
       go (refuse n) k = zero-le
       go (accept plan) (if-accepted u) = rw (u .plan-ok .shows (joined s) (joined-long (u .good))) (u .plan-ok .short)
 
-  -- every number is 0 or one of the table's that a call can be turned back with
-  pub step-number : numberOf (step s c bs) ≤ 17
+  -- every number is 0 or one of the table
+  pub step-number : listed (numberOf (step s c bs)) (accepted ∷ table) ≡ true
   unfolding step
   step-number = go _ sure
     where
-      go : (o : Outcome Plan) → IfAccepted (Sure s c bs) o → numberOf (mapped (carriedOut s c bs) o) ≤ 17
-      go (refuse n) (if-refused known) = leb-true n 17 (and-right (leb 1 n) _ known)
-      go (accept plan) k = zero-le
+      go : (o : Outcome Plan) → IfAccepted (Sure s c bs) o → listed (numberOf (mapped (carriedOut s c bs) o)) (accepted ∷ table) ≡ true
+      go (refuse n) (if-refused row) = ap (λ (b : Bool). eqb n accepted || b) row ∙ or-true (eqb n accepted)
+      go (accept plan) k = refl
 
   -- and it is not 0 where the call is turned back
   pub step-told : (n : ℕ) → step s c bs ≡ refuse n → n ≡ accepted → ⊥
@@ -201,10 +202,7 @@ module _ (s : State) (c : Call) (bs : List ℕ) where
   step-told n e z = go _ sure e
     where
       go : (o : Outcome Plan) → IfAccepted (Sure s c bs) o → mapped (carriedOut s c bs) o ≡ refuse n → ⊥
-      go (refuse m) (if-refused known) e =
-          let k = leb-true 1 m (and-left (leb 1 m) _ known) in
-          let w : m ≡ n = cc in
-          omega arith
+      go (refuse m) (if-refused row) e = let w : m ≡ accepted = cc in absurd (false≢true (subst (λ (k : ℕ). listed k table ≡ true) w row))
       go (accept plan) k e = let w : _≡_ {A = ℕ} 0 1 = cc in omega arith
 
 -- ---- a decision carried out

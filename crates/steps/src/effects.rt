@@ -11,6 +11,7 @@ use crate::looks::show_holder;
 use crate::looks::show_page;
 use crate::stores::clear_frame;
 use crate::stores::copy_frame;
+use crate::stores::frame_part;
 use crate::stores::frame_place;
 use crate::stores::lay_current;
 use crate::stores::part_at;
@@ -92,8 +93,7 @@ pub fn carry(d: Decision, bytes: &[u8], fast: &mut [u8], slow: &mut [u8], out: &
         Work::Show { frame, offset } => {
             let f = frame as usize;
             if (f < limit) & span_within(offset, len) {
-                let place = frame_place(p, frame, offset, len);
-                let part = part_at(&fast[..], &slow[..], place);
+                let part = frame_part(&fast[..], &slow[..], p, f, offset as usize, len);
                 put(out, 0, part);
             }
         }

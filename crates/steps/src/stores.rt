@@ -81,6 +81,28 @@ pub(crate) fn copy_frame(fast: &mut [u8], slow: &mut [u8], p: usize, from: usize
     lay_frame(fast, slow, p, to, 0, &b);
 }
 
+// Bytes of a frame, as a part of the store that has them.
+pub(crate) fn frame_part<'a>(
+    fast: &'a [u8],
+    slow: &'a [u8],
+    p: usize,
+    frame: usize,
+    offset: usize,
+    count: usize,
+) -> &'a [u8]
+    requires { ⌜ Room (now fast) (now slow) p frame ⌝ }
+    requires { ⌜ offset + count ≤ 64 ⌝ }
+    ensures { λ r. ⌜ now r ≡ part (block (now (fast .entry) ++ now (slow .entry)) frame) offset count ⌝ }
+{
+    if frame < p {
+        let a = 64 * frame + offset;
+        &fast[a..a + count]
+    } else {
+        let a = 64 * (frame - p) + offset;
+        &slow[a..a + count]
+    }
+}
+
 // Where the bytes of a frame are from an offset on.
 pub(crate) fn frame_place(p: usize, frame: u8, offset: u8, len: usize) -> Place
     ensures { λ r. ⌜ r ≡ framePlace p frame offset len ⌝ }

@@ -2,7 +2,7 @@
 use Prim.Native.Nat.{ℕ, _+_}
 use mathlib.Core.Bool.{Bool, true, false, _&&_, cond}
 use mathlib.Core.List.{List, [], _∷_}
-use mathlib.Core.Path.{_≡_, refl, sym, _∙_}
+use mathlib.Core.Path.{_≡_, refl, sym, ap, _∙_}
 use native.Mathlib.Nat.{zero-add}
 use native.Mathlib.Omega.{arith}
 use lib.Dec.{eqb}
@@ -49,3 +49,7 @@ free-pages f p (g ∷ gs) =
 pub free-holder : (t : Tables) (f : ℕ) → free t f ≡ isFree (holderOf t f)
 unfolding free
 free-holder t f = sym (free-pages f 0 (t .pages))
+
+-- so the holder that it finds tells it
+pub told-free : (t : Tables) (f : ℕ) {h : Holder} → h ≡ holderOf t f → (h ≡ holderOf t f) × (isFree h ≡ free t f)
+told-free t f e = (e, ap isFree e ∙ sym (free-holder t f))

@@ -1,4 +1,4 @@
--- Laws of the tests over a list, `all`, `count` and `allBelow`, and of tests joined by `&&` and `||`.
+-- Laws of the tests over a list, `all`, `count`, `allBelow` and `listed`, and of tests joined by `&&` and `||`.
 use Prim.Native.Nat.{ℕ, zero, suc, _+_, _≤_, _<_, zero-le, suc-le-suc}
 use mathlib.Core.Bool.{Bool, true, false, _&&_, _||_, cond, and-assoc, true≢false, false≢true}
 use mathlib.Core.List.{List, [], _∷_, _++_, map}
@@ -7,7 +7,9 @@ use mathlib.Core.Path.{_≡_, refl, sym, ap, _∙_}
 use native.Mathlib.Nat.{not-suc-le-zero, le-of-suc-le-suc, eq-or-lt-of-le, zero-add}
 use native.Mathlib.Omega.{arith}
 use lib.ListN.{length, getD, set, take, drop, replicate, take-append-drop}
-use Rattle.tables.specs.Lists.{all, count, allBelow}
+use lib.Dec.{eqb}
+use borrow.Author.Tests.{eqb-true}
+use Rattle.tables.specs.Lists.{all, count, allBelow, listed}
 
 -- ---- tests joined
 
@@ -106,6 +108,15 @@ module _ {A : Type 0} (f : A → Bool) where
   unfolding all
   all-replicate zero a e = refl
   all-replicate (suc n) a e = and-intro e (all-replicate n a e)
+
+-- of a number that is listed
+pub all-listed : (f : ℕ → Bool) (l : List ℕ) (n : ℕ) → all f l ≡ true → listed n l ≡ true → f n ≡ true
+all-listed f [] n e h = absurd (false≢true h)
+all-listed f (m ∷ ms) n e h = go (eqb n m) refl (all-listed f ms n (all-rest f m ms e)) h
+  where
+    go : (b : Bool) → eqb n m ≡ b → (listed n ms ≡ true → f n ≡ true) → (b || listed n ms) ≡ true → f n ≡ true
+    go true is later h = rw (eqb-true n m is) (all-first f m ms e)
+    go false is later h = later h
 
 -- of the images of the elements
 pub all-map : {A B : Type 0} (f : B → Bool) (h : A → B) (l : List A) → all f (map h l) ≡ all (λ a. f (h a)) l

@@ -1,7 +1,8 @@
 -- Tests over a list.
 use Prim.Native.Nat.{ℕ, zero, suc, _+_}
-use mathlib.Core.Bool.{Bool, true, _&&_, cond}
+use mathlib.Core.Bool.{Bool, true, false, _&&_, _||_, cond}
 use mathlib.Core.List.{List, [], _∷_}
+use lib.Dec.{eqb}
 
 -- whether f holds of every element
 unfoldable pub all : {A : Type 0} → (A → Bool) → List A → Bool
@@ -17,3 +18,8 @@ count f (x ∷ xs) = cond (f x) 1 0 + count f xs
 unfoldable pub allBelow : ℕ → (ℕ → Bool) → Bool
 allBelow zero f = true
 allBelow (suc n) f = f n && allBelow n f
+
+-- whether n is one of the numbers
+abbrev pub listed : ℕ → List ℕ → Bool
+listed n [] = false
+listed n (m ∷ ms) = eqb n m || listed n ms

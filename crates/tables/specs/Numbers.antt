@@ -1,5 +1,6 @@
 -- Document 01, "Why a message is turned back": its table, a row a name.
 use Prim.Native.Nat.{ℕ}
+use mathlib.Core.List.{List, [], _∷_}
 
 -- the message was carried out
 abbrev pub accepted : ℕ
@@ -80,3 +81,7 @@ shortSlip = 18
 -- fresh with P or S above 127; returns fresh tables with P = S = 0
 abbrev pub tooManyFrames : ℕ
 tooManyFrames = 19
+
+-- The rows that a message can be turned back with, in the paper's order: 19 is for making tables alone.
+abbrev pub table : List ℕ
+table = 1 ∷ 2 ∷ 3 ∷ 4 ∷ 5 ∷ 6 ∷ 7 ∷ 8 ∷ 9 ∷ 10 ∷ 11 ∷ 12 ∷ 13 ∷ 14 ∷ 15 ∷ 16 ∷ 17 ∷ 18 ∷ []

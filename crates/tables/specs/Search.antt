@@ -1,7 +1,9 @@
 -- Document 01, step 11: "it goes through the pages in order and each one's copies, and stops at the first on that frame".
 use Prim.Native.Nat.{ℕ, _+_}
-use mathlib.Core.Bool.{Bool, true, false, cond}
+use mathlib.Core.Bool.{Bool, cond}
 use mathlib.Core.List.{List, [], _∷_}
+use lib.ListN.{getD}
+use lib.Dec.{eqb}
 use Rattle.tables.specs.declared.Copy.{Copy}
 use Rattle.tables.specs.declared.Page.{Page}
 use Rattle.tables.specs.declared.Tables.{Tables}
@@ -24,14 +26,14 @@ inPages f p (g ∷ gs) = inCopies f p 0 (inUse g) (inPages f (p + 1) gs)
 abbrev pub holderOf : Tables → ℕ → Holder
 holderOf t f = inPages f 0 (t .pages)
 
--- "1, page, copy. Free: 0, 255, 255"
+-- "1, page, copy. Free: 0, 255, 255": document 01's number and values for each case of a holder, the number first
 abbrev pub shown : Holder → List ℕ
 shown (At p c) = 1 ∷ p ∷ c ∷ []
 shown Free = 0 ∷ 255 ∷ 255 ∷ []
 
+-- whether that number is 0; `free-holder` says that this is so exactly where "no copy has it"
 abbrev pub isFree : Holder → Bool
-isFree (At p c) = false
-isFree Free = true
+isFree h = eqb (getD (shown h) 0 0) 0
 
 -- the number of the first of some copies, numbered from j on, that is on frame f; 8 where none is
 unfoldable pub copyOn : ℕ → ℕ → List Copy → ℕ

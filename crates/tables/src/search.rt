@@ -32,6 +32,7 @@ impl Tables {
     // The first copy, page by page, that is on the frame.
     pub fn holder(self, frame: u8) -> Holder
         ensures { λ r. ⌜ r ≡ holderOf self frame ⌝ }
+        ensures { λ r. ⌜ isFree r ≡ free self frame ⌝ }
     {
         let mut i: usize = 0;
         'pages: loop {

@@ -2,16 +2,16 @@
 -- One turn keeps the agreement of state and flat memory (kind by kind in Owners, Access and Moves); Induction goes through the file.
 use Prim.Native.Nat.{ℕ, _*_, _≤_, _<_}
 use mathlib.Core.Path.{_≡_, refl, sym, ap, _∙_}
-use mathlib.Core.Bool.{Bool, false, _&&_}
+use mathlib.Core.Bool.{Bool, false, not, _&&_}
 use mathlib.Core.List.{List}
-use native.Mathlib.Omega.{arith}
 use lib.ListN.{length, getD-replicate}
-use lib.Dec.{ltb}
-use borrow.Author.Tests.{le-ltb, eq-eqb, ne-eqb}
+use lib.Dec.{ltb, eqb}
+use borrow.Author.Tests.{le-ltb, eq-eqb, not-true}
 use Rattle.tables.specs.declared.Shared.{Shared}
+use Rattle.tables.specs.Lists.{all}
 use Rattle.tables.specs.Numbers.{nothingCurrent}
 use Rattle.tables.specs.Model.{freshPage, freshTables, noPageRecord, pageAt}
-use Rattle.tables.proofs.ListLaws.{and-intro}
+use Rattle.tables.proofs.ListLaws.{and-intro, all-listed}
 use Rattle.tables.proofs.FreshLaws.{fresh-sound}
 use Rattle.steps.specs.declared.Kind.{Kind}
 use Rattle.steps.specs.declared.Kind.the-variants.{Create, DeletePage, Grant, Read, Write, MakeCopy, DeleteCopy, SetCurrent, RemoveCurrent, LookPage, LookFrame}
@@ -24,7 +24,7 @@ use Rattle.messages.specs.declared.Parsed.the-variants.{Refused, Asked}
 use Rattle.messages.specs.Run.{Sent, asked, bytesOf, respond, answer, messagesOf}
 use Rattle.theorems.specs.Flat.{Flat, Slot, gone, here, slotAt, none, flatKind, react, reactTo, accepts}
 use Rattle.theorems.specs.Demand3.{flatAfter, answered, lacks, due, SameSlot, Demand3}
-use Rattle.messages.proofs.ParseLaws.{Known, bad, good, asked-known}
+use Rattle.messages.proofs.ParseLaws.{ownNumbers, Known, bad, asked-known}
 use Rattle.theorems.proofs.Agreement.{AlikeSlot, turned-back, ResultAgrees, says, eleven, leaves, ofKind, CallAgrees, carried-agrees, Inv}
 use Rattle.theorems.proofs.Owners.{create-agrees, delete-agrees, grant-agrees}
 use Rattle.theorems.proofs.Access.{read-agrees, write-agrees}
@@ -59,8 +59,8 @@ module _ (s : State) (f : Flat) (i : Inv s f) where
   lacksIn (Asked c) = lacks (s .tables) c
 
   parsed-agrees : (a : Parsed) (bs : List ℕ) → Known a → ResultAgrees f (answered a) (lacksIn a) (respond s a bs) (reactTo f a bs)
-  unfolding reactTo
-  parsed-agrees (Refused n) bs (bad some h) = turned-back (ne-eqb n nothingCurrent (λ e. omega arith))
+  unfolding reactTo all
+  parsed-agrees (Refused n) bs (bad some own) = turned-back (not-true _ (all-listed (λ m. not (eqb m nothingCurrent)) ownNumbers n refl own))
   parsed-agrees (Asked c) bs k = step-agrees c bs
 
   parsed-keeps : (a : Parsed) (bs : List ℕ) → Good (left s (respond s a bs))

@@ -1,7 +1,7 @@
 -- Document 01, "Cases": the worked example and the starred cases, computed from the definitions.
 use Prim.Native.Nat.{ℕ}
 use mathlib.Core.Path.{_≡_, refl}
-use mathlib.Core.List.{List, [], _∷_, _++_, map}
+use mathlib.Core.List.{List, [], _∷_, _++_, map, flatten}
 use lib.ListN.{replicate}
 use Rattle.tables.specs.Lists.{all, count, allBelow}
 use Rattle.tables.specs.Model.{freshPage, freshTables}
@@ -52,57 +52,63 @@ rightTurn s x = answer 70 s x
 abbrev pub repliesOf : State → List ℕ → List (List ℕ)
 repliesOf s file = replies 70 (runOn s file .turns)
 
-pub worked : repliesOf state₀ file₁
-    ≡ ((0 ∷ 4 ∷ 1 ∷ 0 ∷ 0 ∷ 0 ∷ []) ∷ (0 ∷ 4 ∷ 1 ∷ 0 ∷ 0 ∷ 0x40 ∷ []) ∷ (0 ∷ 4 ∷ 1 ∷ 0 ∷ 0 ∷ 0 ∷ [])
-    ∷ (0 ∷ 4 ∷ 1 ∷ 0 ∷ 0 ∷ 2 ∷ []) ∷ (0 ∷ 7 ∷ 1 ∷ 0 ∷ 0 ∷ 0 ∷ 0x41 ∷ 0x37 ∷ 0 ∷ [])
-    ∷ (0 ∷ 8 ∷ 1 ∷ 0 ∷ 0 ∷ 0 ∷ 1 ∷ 0 ∷ 1 ∷ 1 ∷ []) ∷ [])
+-- created; 64 laid; current; 2 laid; three bytes; one copy on frame 0
+abbrev pub replies₁ : List (List ℕ)
+replies₁ =
+    (0 ∷ 4 ∷ 1 ∷ 0 ∷ 0 ∷ 0 ∷ []) ∷ (0 ∷ 4 ∷ 1 ∷ 0 ∷ 0 ∷ 0x40 ∷ []) ∷ (0 ∷ 4 ∷ 1 ∷ 0 ∷ 0 ∷ 0 ∷ []) ∷ (0 ∷ 4 ∷ 1 ∷ 0 ∷ 0 ∷ 2 ∷ [])
+    ∷ (0 ∷ 7 ∷ 1 ∷ 0 ∷ 0 ∷ 0 ∷ 0x41 ∷ 0x37 ∷ 0 ∷ []) ∷ (0 ∷ 8 ∷ 1 ∷ 0 ∷ 0 ∷ 0 ∷ 1 ∷ 0 ∷ 1 ∷ 1 ∷ []) ∷ []
+
+pub worked : repliesOf state₀ file₁ ≡ replies₁
 unfolding runOn
 worked = refl
 
 -- ---- the starred cases
 
--- the state that the worked example leaves
-unfoldable pub state₁ : State
-state₁ = runOn state₀ file₁ .final
-
-abbrev pub lastOf : List (List ℕ) → List ℕ
-lastOf [] = []
-lastOf (r ∷ []) = r
-lastOf (r ∷ r′ ∷ rs) = lastOf (r′ ∷ rs)
-
--- a case: a call file, and the last reply to it
+-- a case: messages sent after those of the worked example, and the replies to them
 pub record Case : Type 0 where
-  pub file : List ℕ
-  pub last : List ℕ
+  pub messages : List (List ℕ)
+  pub answers : List (List ℕ)
 
 infix 80 _↝_
-abbrev pub _↝_ : List ℕ → List ℕ → Case
-file ↝ last = record { file = file; last = last }
+abbrev pub _↝_ : List (List ℕ) → List (List ℕ) → Case
+messages ↝ answers = record { messages = messages; answers = answers }
+
+-- "A refusal is 00 04 01 nn 00 00"; an accepted reply without data states the bytes laid
+abbrev pub refused : ℕ → List ℕ
+refused n = 0 ∷ 4 ∷ 1 ∷ n ∷ 0 ∷ 0 ∷ []
+
+abbrev pub laying : ℕ → List ℕ
+laying n = 0 ∷ 4 ∷ 1 ∷ 0 ∷ 0 ∷ n ∷ []
 
 -- "each on that end state anew, by station 3 and on page 5 where no other is named"
-abbrev pub table : List Case
-table =
+abbrev pub cases : List Case
+cases =
     -- read offset 63 count 1 gives 00; count 2 there: 7
-    (0 ∷ 6 ∷ 1 ∷ 4 ∷ 3 ∷ 5 ∷ 63 ∷ 1 ∷ []) ↝ (0 ∷ 5 ∷ 1 ∷ 0 ∷ 0 ∷ 0 ∷ 0 ∷ [])
-    ∷ (0 ∷ 6 ∷ 1 ∷ 4 ∷ 3 ∷ 5 ∷ 63 ∷ 2 ∷ []) ↝ (0 ∷ 4 ∷ 1 ∷ 7 ∷ 0 ∷ 0 ∷ [])
+    ((0 ∷ 6 ∷ 1 ∷ 4 ∷ 3 ∷ 5 ∷ 63 ∷ 1 ∷ []) ∷ []) ↝ ((0 ∷ 5 ∷ 1 ∷ 0 ∷ 0 ∷ 0 ∷ 0 ∷ []) ∷ [])
+    ∷ ((0 ∷ 6 ∷ 1 ∷ 4 ∷ 3 ∷ 5 ∷ 63 ∷ 2 ∷ []) ∷ []) ↝ (refused 7 ∷ [])
     -- frame 7 copied to: accepted; frame 8: 7; frame 0: 13
-    ∷ (0 ∷ 5 ∷ 1 ∷ 6 ∷ 5 ∷ 0 ∷ 7 ∷ []) ↝ (0 ∷ 4 ∷ 1 ∷ 0 ∷ 0 ∷ 64 ∷ [])
-    ∷ (0 ∷ 5 ∷ 1 ∷ 6 ∷ 5 ∷ 0 ∷ 8 ∷ []) ↝ (0 ∷ 4 ∷ 1 ∷ 7 ∷ 0 ∷ 0 ∷ [])
-    ∷ (0 ∷ 5 ∷ 1 ∷ 6 ∷ 5 ∷ 0 ∷ 0 ∷ []) ↝ (0 ∷ 4 ∷ 1 ∷ 13 ∷ 0 ∷ 0 ∷ [])
+    ∷ ((0 ∷ 5 ∷ 1 ∷ 6 ∷ 5 ∷ 0 ∷ 7 ∷ []) ∷ []) ↝ (laying 64 ∷ [])
+    ∷ ((0 ∷ 5 ∷ 1 ∷ 6 ∷ 5 ∷ 0 ∷ 8 ∷ []) ∷ []) ↝ (refused 7 ∷ [])
+    ∷ ((0 ∷ 5 ∷ 1 ∷ 6 ∷ 5 ∷ 0 ∷ 0 ∷ []) ∷ []) ↝ (refused 13 ∷ [])
     -- delete copy 0: 15; station 4 reads: 10; create page 5: 8
-    ∷ (0 ∷ 4 ∷ 1 ∷ 7 ∷ 5 ∷ 0 ∷ []) ↝ (0 ∷ 4 ∷ 1 ∷ 15 ∷ 0 ∷ 0 ∷ [])
-    ∷ (0 ∷ 6 ∷ 1 ∷ 4 ∷ 4 ∷ 5 ∷ 0 ∷ 1 ∷ []) ↝ (0 ∷ 4 ∷ 1 ∷ 10 ∷ 0 ∷ 0 ∷ [])
-    ∷ (0 ∷ 4 ∷ 1 ∷ 1 ∷ 3 ∷ 5 ∷ []) ↝ (0 ∷ 4 ∷ 1 ∷ 8 ∷ 0 ∷ 0 ∷ [])
+    ∷ ((0 ∷ 4 ∷ 1 ∷ 7 ∷ 5 ∷ 0 ∷ []) ∷ []) ↝ (refused 15 ∷ [])
+    ∷ ((0 ∷ 6 ∷ 1 ∷ 4 ∷ 4 ∷ 5 ∷ 0 ∷ 1 ∷ []) ∷ []) ↝ (refused 10 ∷ [])
+    ∷ ((0 ∷ 4 ∷ 1 ∷ 1 ∷ 3 ∷ 5 ∷ []) ∷ []) ↝ (refused 8 ∷ [])
     -- copy 1 made, then a write: set current 1 gives 16
-    ∷ (0 ∷ 5 ∷ 1 ∷ 6 ∷ 5 ∷ 0 ∷ 1 ∷ 0 ∷ 6 ∷ 1 ∷ 5 ∷ 3 ∷ 5 ∷ 0 ∷ 9 ∷ 0 ∷ 4 ∷ 1 ∷ 8 ∷ 5 ∷ 1 ∷ []) ↝ (0 ∷ 4 ∷ 1 ∷ 16 ∷ 0 ∷ 0 ∷ [])
+    ∷ ((0 ∷ 5 ∷ 1 ∷ 6 ∷ 5 ∷ 0 ∷ 1 ∷ []) ∷ (0 ∷ 6 ∷ 1 ∷ 5 ∷ 3 ∷ 5 ∷ 0 ∷ 9 ∷ []) ∷ (0 ∷ 4 ∷ 1 ∷ 8 ∷ 5 ∷ 1 ∷ []) ∷ [])
+    ↝ (laying 64 ∷ laying 1 ∷ refused 16 ∷ [])
     -- remove current 0, then read: 11
-    ∷ (0 ∷ 4 ∷ 1 ∷ 9 ∷ 5 ∷ 0 ∷ 0 ∷ 6 ∷ 1 ∷ 4 ∷ 3 ∷ 5 ∷ 0 ∷ 1 ∷ []) ↝ (0 ∷ 4 ∷ 1 ∷ 11 ∷ 0 ∷ 0 ∷ [])
+    ∷ ((0 ∷ 4 ∷ 1 ∷ 9 ∷ 5 ∷ 0 ∷ []) ∷ (0 ∷ 6 ∷ 1 ∷ 4 ∷ 3 ∷ 5 ∷ 0 ∷ 1 ∷ []) ∷ []) ↝ (laying 0 ∷ refused 11 ∷ [])
     -- page 6 created, set current 0: 17
-    ∷ (0 ∷ 4 ∷ 1 ∷ 1 ∷ 3 ∷ 6 ∷ 0 ∷ 4 ∷ 1 ∷ 8 ∷ 6 ∷ 0 ∷ []) ↝ (0 ∷ 4 ∷ 1 ∷ 17 ∷ 0 ∷ 0 ∷ [])
+    ∷ ((0 ∷ 4 ∷ 1 ∷ 1 ∷ 3 ∷ 6 ∷ []) ∷ (0 ∷ 4 ∷ 1 ∷ 8 ∷ 6 ∷ 0 ∷ []) ∷ []) ↝ (laying 0 ∷ refused 17 ∷ [])
     ∷ []
 
-pub starred : map (λ (c : Case). lastOf (repliesOf state₁ (c .file))) table ≡ map (λ (c : Case). c .last) table
-unfolding state₁ runOn
+-- one file of the worked example's messages and the case's, and every reply of its run
+abbrev pub fileOf : Case → List ℕ
+fileOf c = file₁ ++ flatten (c .messages)
+
+pub starred : map (λ (c : Case). repliesOf state₀ (fileOf c)) cases ≡ map (λ (c : Case). replies₁ ++ c .answers) cases
+unfolding runOn flatten
 starred = refl
 
 -- ---- the flat memory beside the worked example, a read answered 11 after it and a delete by another station

@@ -1,10 +1,11 @@
 -- Document 01, "Try these impostors": wrong kernels beside the right one on the worked example, computed.
 -- Each differs from the definitions that the contracts cite (demand 2), and where demand 3 sees it too, it is shown there.
 use Prim.Native.Nat.{ℕ}
-use mathlib.Core.Path.{_≡_, refl}
-use mathlib.Core.Bool.{Bool, true, false, _&&_, cond}
-use mathlib.Core.List.{List, [], _∷_, _++_, map}
+use mathlib.Core.Path.{_≡_, refl, ap}
+use mathlib.Core.Bool.{Bool, true, false, _&&_, cond, false≢true}
+use mathlib.Core.List.{List, [], _∷_, map, dropLast}
 use lib.ListN.{length, take, drop}
+use lib.Dec.{eqb}
 use Rattle.tables.specs.Numbers.{noPage, nothingCurrent}
 use Rattle.tables.specs.Model.{absent, inUse, pageAt}
 use Rattle.steps.specs.declared.Call.{Call}
@@ -18,8 +19,8 @@ use Rattle.messages.specs.Messages.{parse}
 use Rattle.messages.specs.Replies.{reply}
 use Rattle.messages.specs.Run.{Sent, split, messagesOf, asked, Turn, bytesOf}
 use Rattle.theorems.specs.Flat.{none, reactAs, reactTo, Answer}
-use Rattle.theorems.specs.Demand3.{elevens, flatAfter, flatAnswers, runAnswers, dues}
-use Rattle.theorems.specs.Cases.{state₀, file₁, rightTurn}
+use Rattle.theorems.specs.Demand3.{sentIn, elevens, flatAfter, flatAnswers, runAnswers, dues}
+use Rattle.theorems.specs.Cases.{state₀, file₁, replies₁, rightTurn}
 
 -- what answers a message
 abbrev pub Kernel : Type 0
@@ -37,10 +38,7 @@ abbrev pub repliesBy : Kernel → List (List ℕ)
 repliesBy k = map (λ (t : Turn). reply (t .outcome)) (worked-by k)
 
 -- the right kernel, for comparison
-pub right : repliesBy rightTurn
-    ≡ ((0 ∷ 4 ∷ 1 ∷ 0 ∷ 0 ∷ 0 ∷ []) ∷ (0 ∷ 4 ∷ 1 ∷ 0 ∷ 0 ∷ 0x40 ∷ []) ∷ (0 ∷ 4 ∷ 1 ∷ 0 ∷ 0 ∷ 0 ∷ [])
-    ∷ (0 ∷ 4 ∷ 1 ∷ 0 ∷ 0 ∷ 2 ∷ []) ∷ (0 ∷ 7 ∷ 1 ∷ 0 ∷ 0 ∷ 0 ∷ 0x41 ∷ 0x37 ∷ 0 ∷ [])
-    ∷ (0 ∷ 8 ∷ 1 ∷ 0 ∷ 0 ∷ 0 ∷ 1 ∷ 0 ∷ 1 ∷ 1 ∷ []) ∷ [])
+pub right : repliesBy rightTurn ≡ replies₁
 unfolding turnsBy messagesOf split rightTurn parse names kinds code among argument callOf
 right = refl
 
@@ -147,11 +145,44 @@ pub inventing-replies : repliesBy inventing
 unfolding turnsBy messagesOf split rightTurn parse names kinds code among argument callOf
 inventing-replies = refl
 
--- ---- "a reader that reports the end too early": demand 3 asks for a turn for each of these
+-- ---- "a reader that reports the end too early": the last message is lost
 
-pub six-messages : length (messagesOf file₁) ≡ 6
+abbrev pub early : List ℕ → List Sent
+early file = dropLast (messagesOf file)
+
+abbrev pub earlyTurns : List Turn
+earlyTurns = turnsBy rightTurn state₀ (early file₁)
+
+-- the look at the page has no reply
+pub early-replies : map (λ (t : Turn). reply (t .outcome)) earlyTurns ≡ dropLast replies₁
+unfolding turnsBy messagesOf split rightTurn parse names kinds code among argument callOf
+early-replies = refl
+
+-- the flat memory stops there too, and its answers agree: demand 3's `messages` rules it out, and in Witness3 it alone
+pub early-answers : flatAnswers none (messagesOf file₁) (elevens 70 earlyTurns) ≡ runAnswers 70 earlyTurns
+unfolding turnsBy messagesOf split rightTurn parse names kinds code among argument callOf flatAnswers flatAfter reactAs reactTo runAnswers
+early-answers = refl
+
+pub early-messages : map sentIn earlyTurns ≡ messagesOf file₁ → ⊥
+unfolding turnsBy messagesOf split rightTurn parse names kinds code among argument callOf
+early-messages e = false≢true (ap (λ (l : List Sent). eqb (length l) 6) e)
+
+-- one that stops at a message that is turned back by its own bytes: here L is 0, and the worked example after it is lost
+abbrev pub unlessRefused : Parsed → List Sent → List Sent
+unlessRefused (Refused n) xs = []
+unlessRefused (Asked c) xs = xs
+
+abbrev pub stopping : List Sent → List Sent
+stopping [] = []
+stopping (x ∷ xs) = x ∷ unlessRefused (asked x) (stopping xs)
+
+pub stopping-messages : length (stopping (messagesOf (0 ∷ 0 ∷ file₁))) ≡ 1
+unfolding messagesOf split parse
+stopping-messages = refl
+
+pub seven-messages : length (messagesOf (0 ∷ 0 ∷ file₁)) ≡ 7
 unfolding messagesOf split
-six-messages = refl
+seven-messages = refl
 
 -- ---- two of the traps, on files of their own
 

@@ -3,3 +3,5 @@ pub mod Demand1
 pub mod Demand3
 pub mod Cases
 pub mod Impostors
+pub mod Witness3
+pub mod Witness1

@@ -1,8 +1,6 @@
 -- `Tables::free`: a free frame is one that the search does not find.
-use mathlib.Core.Path.{sym, ap, _∙_}
+use mathlib.Core.Path.{_∙_}
 use borrow.Author.Needs.{needs}
-use Rattle.tables.specs.Search.{isFree}
-use Rattle.tables.proofs.HolderLaws.{free-holder}
 use Rattle.tables.proofs.Tables.free.Statement.{statement}
 use Rattle.tables.proofs.Tables.free.Tie as tie
 
@@ -13,7 +11,7 @@ is-free-requires : tie.Need-is-free-requires
 is-free-requires c κs = search needs
 
 returns : tie.Need-returns
-returns c = c .is-free .ensures ∙ ap isFree (c .before .holder .ensures) ∙ sym (free-holder _ _)
+returns c = c .is-free .ensures ∙ c .before .holder .ensures .1
 
 pub free-spec : {M : Type 1} → statement M
 free-spec = tie.close (tie.spec holder-requires is-free-requires returns)

@@ -8,6 +8,7 @@ use borrow.Author.Tests.{eq-eqb, ne-eqb}
 use borrow.Author.Needs.{needs}
 use Rattle.tables.specs.Model.{pageAt, inUse, noCopyEntry, noPageRecord}
 use Rattle.tables.proofs.Loops.{drop-more, drop-end}
+use Rattle.tables.proofs.HolderLaws.{told-free}
 use Rattle.tables.specs.Search.{holderOf, inCopies, inPages}
 use Rattle.tables.proofs.Tables.holder.Statement.{statement}
 use Rattle.tables.proofs.Tables.holder.Tie as tie
@@ -102,7 +103,7 @@ unfolding inPages
 returns c =
     let t = c .before .before .args .t1 in
     let l : length (t .pages) ≡ 64 = simp length-map at (c .before .before .good .0 .1 .1 .1 .0 .1 .0 .1) in
-    sym (c .before .pages .inv .1 ∙ rw (drop-end (t .pages) (c .before .pages .i) (omega arith)))
+    told-free t _ (sym (c .before .pages .inv .1 ∙ rw (drop-end (t .pages) (c .before .pages .i) (omega arith))))
 
 returns-2 : tie.Need-returns-2 Inv-loop μ-loop Inv-pages μ-pages
 unfolding inCopies
@@ -114,7 +115,7 @@ returns-2 c =
     let v = c .before .before .loop .inv in
     let b : length (inUse g) ≤ g .n = simp length-take (omega arith) in
     let e : getD (inUse g) j noCopyEntry ≡ getD (g .copies) j noCopyEntry = getD-take (g .n) (g .copies) j noCopyEntry (omega arith) in
-    sym (v .4 ∙ rw (drop-more (inUse g) j noCopyEntry (omega arith), e, eq-eqb _ _ (c .if2 .taken)))
+    told-free t _ (sym (v .4 ∙ rw (drop-more (inUse g) j noCopyEntry (omega arith), e, eq-eqb _ _ (c .if2 .taken))))
 
 pub holder-spec : {M : Type 1} → statement M
 holder-spec =
