@@ -1,21 +1,33 @@
 -- What the exported functions answer, and what they leave in the bytes that they are lent.
 use Prim.Native.Nat.{ℕ, _+_, _*_}
-use mathlib.Core.Bool.{Bool, cond}
+use mathlib.Core.Bool.{Bool, _&&_, cond}
 use mathlib.Core.List.{List, [], _∷_}
 use mathlib.Core.Path.{_≡_}
 use lib.ListN.{length, getD}
 use lib.Dec.{eqb}
 use Rattle.tables.specs.declared.Tables.{Tables}
+use Rattle.tables.specs.Lists.{all}
 use Rattle.tables.specs.Numbers.{brokenTables}
 use Rattle.tables.specs.Model.{freshTables, made}
+use Rattle.steps.specs.declared.Place.{Place}
 use Rattle.steps.specs.Stores.{over}
 use Rattle.steps.specs.Steps.{Outcome, refuse, accept, numberOf}
 use Rattle.steps.specs.Effects.{State, Result, left, laidBy}
 use Rattle.steps.specs.Promises.{stateOf, Lent, lent}
 use Rattle.messages.specs.declared.Tally.{Tally}
-use Rattle.messages.specs.Replies.{replyIn}
-use Rattle.messages.specs.Run.{Run, buffer, tally}
-use Rattle.embed.specs.Bytes.{tablesSize, tablesBytes, tablesFrom}
+use Rattle.messages.specs.Replies.{replyIn, isRefusal}
+use Rattle.messages.specs.Run.{Turn, Run, buffer, tally, joinedReplies, Part}
+use Rattle.embed.specs.Bytes.{tablesSize, tablesBytes, tablesFrom, marked}
+
+-- ---- version
+
+-- three numbers in one that a program can compare
+abbrev pub versionNumber : ℕ → ℕ → ℕ → ℕ
+versionNumber major minor patch = 65536 * major + 256 * minor + patch
+
+-- 1.0.0
+abbrev pub version : ℕ
+version = versionNumber 1 0 0
 
 -- ---- tables
 
@@ -23,29 +35,33 @@ use Rattle.embed.specs.Bytes.{tablesSize, tablesBytes, tablesFrom}
 abbrev pub tablesSized : List ℕ → Bool
 tablesSized b = eqb (length b) tablesSize
 
+-- whether they hold tables: each mark is 0 or 1
+abbrev pub tablesIn : List ℕ → Bool
+tablesIn b = tablesSized b && marked b
+
 -- tables that break a rule: P is above 127
 abbrev pub noTables : Tables
 noTables = freshTables 255 0
 
--- the tables in lent bytes; bytes of another length are broken tables
+-- the tables in lent bytes; bytes that hold none are broken tables
 abbrev pub tablesOf : List ℕ → Tables
-tablesOf b = cond (tablesSized b) (tablesFrom b) noTables
+tablesOf b = cond (tablesIn b) (tablesFrom b) noTables
 
--- lent bytes with t put into them; bytes of another length are left alone
+-- lent bytes with t put into them; bytes that hold no tables are left alone
 abbrev pub withTables : List ℕ → Tables → List ℕ
-withTables b t = cond (tablesSized b) (tablesBytes t) b
+withTables b t = cond (tablesIn b) (tablesBytes t) b
 
 -- a number, and the bytes of tables
 pub record Numbered : Type 0 where
   pub number : ℕ
   pub bytes : List ℕ
 
--- fresh tables into lent bytes
+-- fresh tables into lent bytes, whatever they held; bytes of another length are left alone
 abbrev pub freshInto : ℕ → ℕ → List ℕ → Numbered
 freshInto p s b =
     record {
       number = cond (tablesSized b) (made p s .number) brokenTables;
-      bytes = withTables b (made p s .tables);
+      bytes = cond (tablesSized b) (tablesBytes (made p s .tables)) b;
     }
 
 -- ---- the tally
@@ -62,6 +78,16 @@ tallyOf l =
 -- lent numbers with n put into them; others than three are left alone
 abbrev pub withTally : List ℕ → Tally → List ℕ
 withTally l n = cond (tallySized l) (n .messages ∷ n .refusals ∷ n .laid ∷ []) l
+
+-- ---- a read as a place
+
+-- which store a place is in: 0 the fast one, 1 the slow one
+abbrev pub storeNumber : Bool → ℕ
+storeNumber slow = cond slow 1 0
+
+-- the length, the store and the offset in it, in one; 0 where a read is refused
+abbrev pub placeNumber : Place → ℕ
+placeNumber place = place .len + 256 * storeNumber (place .slow) + 65536 * place .start
 
 -- ---- what a message and a run leave
 
@@ -84,8 +110,22 @@ pub record AnswerLent (s : State) (o : Outcome Result) (b : List ℕ) (l : Lent)
   pub tables-out : b′ ≡ leftIn b o
   pub lent-out : l′ ≡ lent (left s o .fast) (left s o .slow) (over (replyIn (length (l .out)) o) (l .out))
 
--- what `reel_run` leaves of the bytes b of the tables, of the stores and the buffer l and of the tally n, after a run w
+-- whether every message was refused, of the turns of a run
+abbrev pub allRefused : List Turn → Bool
+allRefused ts = all (λ (t : Turn). isRefusal (t .outcome)) ts
+
+-- What `reel_run` leaves of the bytes b of the tables, of the stores and the buffer l and of the tally n, after a run w. Where every message
+-- was refused, or the file is empty, every byte of b stays, whatever it was (`refused-run`).
 pub record RunLent (w : Run) (b : List ℕ) (l : Lent) (n : List ℕ) (b′ : List ℕ) (l′ : Lent) (n′ : List ℕ) : Type 0 where
   pub tables-out : b′ ≡ withTables b (w .final .tables)
   pub lent-out : l′ ≡ lent (w .final .fast) (w .final .slow) (buffer (length (l .out)) (w .turns) (l .out))
+  pub tally-out : n′ ≡ withTally n (tally (w .turns) (tallyOf n))
+
+-- What `reel_replies` leaves of them after a part w of a run, the bytes of the buffer that are used and the place reached. `refused-part`
+-- says of it what `refused-run` says of a run.
+pub record RepliesLent (w : Part) (b : List ℕ) (l : Lent) (n : List ℕ) (b′ : List ℕ) (l′ : Lent) (n′ : List ℕ) (used r : ℕ) : Type 0 where
+  pub place-told : r ≡ w .place
+  pub used-told : used ≡ length (joinedReplies (length (l .out)) (w .turns))
+  pub tables-out : b′ ≡ withTables b (w .final .tables)
+  pub lent-out : l′ ≡ lent (w .final .fast) (w .final .slow) (over (joinedReplies (length (l .out)) (w .turns)) (l .out))
   pub tally-out : n′ ≡ withTally n (tally (w .turns) (tallyOf n))
