@@ -91,7 +91,7 @@ all-served room used (t ∷ ts) h =
     rw roomy (ap (λ (us : List Turn). t ∷ us) (all-served room (used + length r) ts (omega (arith, h, length-append r (joinedReplies room ts)))))
 
 -- so one buffer takes all replies of a run that has 35 bytes for each 4 of the file, and 70 more
-pub whole-part : (room : ℕ) (file : List ℕ) (s : State) → 35 * length file + 4 * 70 ≤ 4 * room
+whole-part : (room : ℕ) (file : List ℕ) (s : State) → 35 * length file + 4 * 70 ≤ 4 * room
     → partFrom room file 0 s .turns ≡ run room file s .turns
 unfolding messagesOf
 whole-part room file s h =
@@ -107,6 +107,14 @@ same-turns room s (x ∷ xs) h =
 
 same-joined : (room : ℕ) (ts : List Turn) → 70 ≤ room → joinedReplies room ts ≡ joinedReplies 70 ts
 same-joined room ts h = ap (λ (b : Bool). flatten (map (λ (t : Turn). cond b [] (reply (t .outcome))) ts)) (le-ltb room 70 h)
+
+-- what one large buffer takes are the replies of the run
+pub whole-replies : (room : ℕ) (file : List ℕ) (s : State) → 35 * length file + 4 * 70 ≤ 4 * room
+    → joinedReplies room (partFrom room file 0 s .turns) ≡ joinedReplies 70 (run 70 file s .turns)
+whole-replies room file s h =
+    let wide : 70 ≤ room = omega arith in
+    ap (joinedReplies room) (whole-part room file s h ∙ same-turns room s (messagesOf file) wide)
+    ∙ same-joined room (run 70 file s .turns) wide
 
 -- ---- what a part leaves of the file
 

@@ -1,16 +1,35 @@
--- What the program makes of a call file, as far as its memory shows it.
-use Prim.Native.Nat.{ℕ}
+-- Document 01, "Cases": what the program takes and what it writes.
+use Prim.Native.Nat.{ℕ, _*_, _≤_}
+use mathlib.Core.Path.{_≡_}
 use mathlib.Core.List.{List}
-use lib.ListN.{length}
-use Rattle.messages.specs.declared.Next.{Next}
-use Rattle.messages.specs.declared.Next.the-variants.{Message, Cut, End}
-use Rattle.messages.specs.Messages.{nextAt}
+use lib.ListN.{length, replicate}
+use Rattle.tables.specs.Model.{freshTables}
+use Rattle.steps.specs.Promises.{stateOf}
+use Rattle.messages.specs.Run.{run, joinedReplies}
 
--- how many bytes the first message of l takes; one that is cut short takes all
-abbrev pub takenBy : ℕ → Next → ℕ
-takenBy all (Message start len next) = next
-takenBy all Cut = all
-takenBy all End = all
+-- "A program with P = S = 4"
+abbrev pub frames : ℕ
+frames = 4
 
-abbrev pub firstTakes : List ℕ → ℕ
-firstTakes l = takenBy (length l) (nextAt l 0)
+-- "takes at most 60000 bytes of a call file"
+abbrev pub most : ℕ
+most = 60000
+
+-- the bytes of a buffer that takes all replies to so many: 35 for each 4, and 70 more
+abbrev pub room : ℕ
+room = 525070
+
+-- the stores at the start
+abbrev pub zeros : List ℕ
+zeros = replicate (64 * frames) 0
+
+-- "and writes the replies": those of the run from fresh tables, one behind the other
+abbrev pub output : List ℕ → List ℕ → List ℕ → List ℕ
+output file fast slow = joinedReplies 70 (run 70 file (stateOf (freshTables frames frames) fast slow) .turns)
+
+-- what the program lends: stores that fit, and a buffer for all replies
+pub record Lends (file fast slow out : List ℕ) : Type 0 where
+  pub file-short : length file ≤ most
+  pub fast-fits : length fast ≡ 64 * frames
+  pub slow-fits : length slow ≡ 64 * frames
+  pub out-long : length out ≡ room

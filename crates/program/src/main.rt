@@ -2,65 +2,54 @@
 // to standard output. Everything that matters is in the proved libraries.
 use libc::STDIN_FILENO;
 use libc::STDOUT_FILENO;
-use messages::Next;
-use messages::answer;
-use messages::message_at;
+use messages::Tally;
+use messages::fill;
 use tables::Tables;
 ghost use mathlib.Core.Path.{_≡_};
-ghost use Prim.Native.Nat.{_≤_};
-ghost use lib.ListN.{length};
-ghost use Rattle.tables.specs.Model.{freshTables};
-ghost use Rattle.steps.specs.Promises.{stateOf};
-ghost use Rattle.messages.specs.Run.{messagesOf, leftBy, endOf};
-ghost use Rattle.messages.specs.Promises.{sentAlone};
-ghost use Rattle.program.specs.Served.{firstTakes};
+ghost use lib.ListN.{length, take};
+ghost use Rattle.io.specs.Counts.{Counts};
+ghost use Rattle.program.specs.Served.{most, zeros, output, Lends};
 
-// Answers one message and writes the reply.
-fn reply(tables: Tables, message: &[u8], fast: &mut [u8], slow: &mut [u8], out: &mut [u8]) -> Tables
-    requires { ⌜ 70 ≤ length (now out) ⌝ }
-    ensures { λ r. ⌜ stateOf r (now (fast .exit)) (now (slow .exit))
-        ≡ leftBy (length (now (out .entry))) (stateOf tables (now (fast .entry)) (now (slow .entry))) (sentAlone (now (message .entry))) ⌝ }
+// Reads the call file. What comes after the buffer's 60000 bytes is treated as absent.
+fn read_file(file: &mut [u8]) -> usize
+    requires { ⌜ length (now file) ≡ most ⌝ }
+    ensures { λ r. ⌜ Counts r (now (file .exit)) ⌝ }
 {
-    let a = answer(tables, fast, slow, message, out);
-    let len = a.len;
-    io::write_all(STDOUT_FILENO, &out[..len]);
-    a.tables
+    io::read_full(STDIN_FILENO, file)
 }
 
-// How many bytes the first message takes: all of them, where it is cut short.
-fn first_takes(rest: &[u8]) -> usize
-    ensures { λ r. ⌜ r ≡ firstTakes (now (rest .entry)) ⌝ }
-{
-    match message_at(rest, 0) {
-        Next::Message { next, .. } => next,
-        Next::Cut => rest.len(),
-        Next::End => rest.len(),
-    }
-}
-
-// Answers the messages of the file, one after the other, from fresh tables.
-fn serve(file: &[u8], fast: &mut [u8], slow: &mut [u8], out: &mut [u8]) -> Tables
-    requires { ⌜ 70 ≤ length (now out) ⌝ }
-    ensures { λ r. ⌜ stateOf r (now (fast .exit)) (now (slow .exit))
-        ≡ endOf (length (now (out .entry))) (stateOf (freshTables 4 4) (now (fast .entry)) (now (slow .entry))) (messagesOf (now (file .entry))) ⌝ }
+// Carries out the call file from fresh tables. All replies stand at the front of the buffer, in as many bytes as it
+// answers.
+fn serve(file: &[u8], fast: &mut [u8], slow: &mut [u8], out: &mut [u8]) -> usize
+    requires { ⌜ Lends (now file) (now fast) (now slow) (now out) ⌝ }
+    ensures { λ r. ⌜ Counts r (now (out .exit)) ⌝ }
+    ensures { λ r. ⌜ take r (now (out .exit)) ≡ output (now (file .entry)) (now (fast .entry)) (now (slow .entry)) ⌝ }
 {
     let made = Tables::fresh(4, 4);
-    let mut tables = made.tables;
-    let mut at = 0;
-    while at < file.len() {
-        let rest = &file[at..];
-        tables = reply(tables, rest, fast, slow, out);
-        at += first_takes(rest);
-    }
-    tables
+    let none = Tally {
+        messages: 0,
+        refusals: 0,
+        laid: 0,
+    };
+    let fresh = made.tables;
+    let done = fill(fresh, fast, slow, file, 0, out, none);
+    done.used
+}
+
+// Writes the replies to the file, and nothing else.
+fn write_replies(file: &[u8], replies: &[u8])
+    requires { ⌜ now replies ≡ output (now file) zeros zeros ⌝ }
+{
+    io::write_all(STDOUT_FILENO, replies);
 }
 
 fn main() {
-    // What comes after 60000 bytes is treated as absent.
     let mut file = [0u8; 60000];
     let mut fast = [0u8; 256];
     let mut slow = [0u8; 256];
-    let mut out = [0u8; 70];
-    let n = io::read_full(STDIN_FILENO, &mut file);
-    serve(&file[..n], &mut fast, &mut slow, &mut out);
+    // 35 bytes for each 4 of the file, and 70 more.
+    let mut out = [0u8; 525070];
+    let n = read_file(&mut file);
+    let used = serve(&file[..n], &mut fast, &mut slow, &mut out);
+    write_replies(&file[..n], &out[..used]);
 }

@@ -1,143 +1,71 @@
--- `serve`: what is left of the file makes the run's end from the tables and stores at hand.
-use Prim.Native.Nat.{ℕ, _+_, _-_, _≤_, _<_}
-use mathlib.Core.Path.{_≡_, refl, ap, sym, _∙_}
+-- `serve` meets its contract: one buffer takes all replies of the run.
+use Prim.Native.Nat.{ℕ, _≤_}
+use mathlib.Core.Path.{_≡_, sym, ap, _∙_}
 use mathlib.Core.List.{List}
 use native.Mathlib.Omega.{arith}
-use lib.ListN.{length, take, drop}
+use lib.ListN.{length, take, drop, length-append}
+use lib.Seq.{take-at}
 use borrow.Author.Needs.{needs}
 use Rattle.tables.specs.declared.Tables.{Tables}
 use Rattle.tables.specs.declared.Made.{Made}
-use Rattle.tables.specs.Model.{freshTables}
 use Rattle.steps.specs.Effects.{State}
 use Rattle.steps.specs.Promises.{stateOf}
-use Rattle.messages.specs.Run.{messagesOf, leftBy, endOf}
-use Rattle.messages.specs.Promises.{sentAlone}
-use Rattle.program.specs.Served.{firstTakes}
-use Rattle.program.proofs.TakeLaws.{rest-of, goes-on, one-turn, no-turn}
+use Rattle.messages.specs.declared.Tally.{Tally}
+use Rattle.messages.specs.declared.Filled.{Filled}
+use Rattle.messages.specs.Run.{run, joinedReplies, partFrom}
+use Rattle.messages.specs.Promises.{PartEnded}
+use Rattle.messages.proofs.JoinLaws.{whole-replies}
+use Rattle.program.specs.Served.{Lends}
 use Rattle.program.proofs.serve.Statement.{statement}
 use Rattle.program.proofs.serve.Tie as tie
 
-abbrev Inv-loop : tie.InvT-loop
-Inv-loop file fast₀ slow₀ out₀ tables₀ at₀ fast slow out tables at =
-    (at ≤ length file)
-    × (length out ≡ length out₀)
-    × (length fast ≡ length fast₀)
-    × (length slow ≡ length slow₀)
-    × (endOf (length out₀) (stateOf (freshTables 4 4) fast₀ slow₀) (messagesOf file)
-    ≡ endOf (length out₀) (stateOf tables fast slow) (messagesOf (drop at file)))
+module _ (file fast slow out out′ : List ℕ) (t : Tables) (n : Tally) (s′ : State) (r : Filled)
+    (p : PartEnded (stateOf t fast slow) (partFrom (length out) file 0 (stateOf t fast slow)) n out s′ out′ r) where
+  abbrev j : List ℕ
+  j = joinedReplies (length out) (partFrom (length out) file 0 (stateOf t fast slow) .turns)
 
-abbrev μ-loop : tie.MeasureT-loop
-μ-loop file fast₀ slow₀ out₀ tables₀ at₀ fast slow out tables at = length file - at
+  took : take (r .used) out′ ≡ j
+  took = ap (take (r .used)) (p .buffer-out) ∙ take-at j _ (r .used) (sym (p .used-told))
 
-fresh-requires : tie.Need-fresh-requires Inv-loop μ-loop
+  -- what the call of `fill` leaves stands within the buffer, and is the replies of the run
+  inside : r .used ≤ length out′
+  inside = rw (p .buffer-out) (omega (arith, p .used-told, length-append j (drop (length j) out)))
+
+  counted : r .used ≡ length (take (r .used) out′)
+  counted = p .used-told ∙ sym (ap (λ (l : List ℕ). length l) took)
+
+  written : Lends file fast slow out → take (r .used) out′ ≡ joinedReplies 70 (run 70 file (stateOf t fast slow) .turns)
+  written k = took ∙ whole-replies (length out) file (stateOf t fast slow) (omega (arith, k .file-short, k .out-long))
+
+fresh-requires : tie.Need-fresh-requires
 fresh-requires c κs = search needs
 
-loop-holds : tie.Need-loop-holds Inv-loop μ-loop
-loop-holds c =
-    let a = c .before .before .before .before .before .before .args in (
-      search needs,
-      refl,
-      refl,
-      refl,
-      ap (λ (t : Tables). endOf (length (a .out .now)) (stateOf t (a .fast .now) (a .slow .now)) (messagesOf (a .file .now)))
-          (sym (ap (λ (m : Made). m .tables) (c .before .fresh .ensures))),
-    )
+fill-requires : tie.Need-fill-requires
+fill-requires c κs = search needs
 
-sub-rest : tie.Need-sub-rest Inv-loop μ-loop
-sub-rest c = search needs
-
-part-rest-start : tie.Need-part-rest-start Inv-loop μ-loop
-part-rest-start c = search needs
-
-part-rest-end : tie.Need-part-rest-end Inv-loop μ-loop
-part-rest-end c = search needs
-
-reply-requires : tie.Need-reply-requires Inv-loop μ-loop
-reply-requires c κs = search needs
-
-first-takes-requires : tie.Need-first-takes-requires Inv-loop μ-loop
-first-takes-requires c κs = search needs
-
-add-at : tie.Need-add-at Inv-loop μ-loop
-add-at c =
-    let file = c .before .before .before .before .before .before .before .before .before .before .before .before .before .before .before .before .before .before .before .before .args .file .now in
-    let l = c .before .before .before .before .before .before .before .before .before .before .before .before .before .loop in
-    let took : c .first-takes .result ≡ firstTakes (drop (l .at) file) = c .first-takes .ensures ∙ ap firstTakes (rest-of (l .at) file) in
-    let inside : l .at < length file = search needs in
-    let on = goes-on (l .at) (c .first-takes .result) file inside took in
-    search (needs, on .1)
-
-loop-less : tie.Need-loop-less Inv-loop μ-loop
-loop-less c =
-    let file = c .before .before .before .before .before .before .before .before .before .before .before .before .before .before .before .before .before .before .before .before .args .file .now in
-    let l = c .before .before .before .before .before .before .before .before .before .before .before .before .before .loop in
-    let took : c .first-takes .result ≡ firstTakes (drop (l .at) file) = c .first-takes .ensures ∙ ap firstTakes (rest-of (l .at) file) in
-    let inside : l .at < length file = search needs in
-    let on = goes-on (l .at) (c .first-takes .result) file inside took in
-    omega (arith, on .0, on .1)
-
-loop-again : tie.Need-loop-again Inv-loop μ-loop
-loop-again c =
-    let file = c .before .before .before .before .before .before .before .before .before .before .before .before .before .before .before .before .before .before .before .before .args .file .now in
-    let l = c .before .before .before .before .before .before .before .before .before .before .before .before .before .loop in
-    let i = l .inv in
-    let took : c .first-takes .result ≡ firstTakes (drop (l .at) file) = c .first-takes .ensures ∙ ap firstTakes (rest-of (l .at) file) in
-    let inside : l .at < length file = search needs in
-    let on = goes-on (l .at) (c .first-takes .result) file inside took in
-    let r = c .before .before .before .before .before .before .before .reply in
-    let k = r .kept in
-    let a = c .before .before .before .before .before .before .before .before .before .before .before .before .before .before .before .before .before .before .before .before .args in
-    let room = length (a .out .now) in
-    let s = stateOf (l .tables) (l .fast) (l .slow) in
-    let s′ = stateOf (r .result) (r .last .1 .1 .0) (r .last .1 .1 .1 .0) in
-    let turned : leftBy room s (sentAlone (drop (l .at) file)) ≡ s′ =
-    sym
-    (r .ensures
-    ∙ ap (λ (n : ℕ). leftBy n s (sentAlone (take (length file - l .at) (drop (l .at) file)))) (i .1)
-    ∙ ap (λ (m : List ℕ). leftBy room s (sentAlone m)) (rest-of (l .at) file)) in (
-      on .1,
-      k .1 .1 .1 .1 .0 ∙ i .1,
-      k .1 .1 .0 ∙ i .2,
-      k .1 .1 .1 .0 ∙ i .3,
-      i .4
-          ∙ one-turn room (l .at) s file inside
-          ∙ ap (λ (x : State). endOf room x (messagesOf (drop (l .at + firstTakes (drop (l .at) file)) file))) turned
-          ∙ ap (λ (n : ℕ). endOf room s′ (messagesOf (drop (l .at + n) file))) (sym took),
-    )
-
-same-length : tie.Need-same-length Inv-loop μ-loop
+same-length : tie.Need-same-length
 same-length c = search needs
 
-same-length-2 : tie.Need-same-length-2 Inv-loop μ-loop
+same-length-2 : tie.Need-same-length-2
 same-length-2 c = search needs
 
-same-length-3 : tie.Need-same-length-3 Inv-loop μ-loop
+same-length-3 : tie.Need-same-length-3
 same-length-3 c = search needs
 
-returns : tie.Need-returns Inv-loop μ-loop
+returns : tie.Need-returns
 returns c =
-    let a = c .before .before .before .before .before .before .before .before .args in
-    let l = c .before .loop in
-    sym
-    (l .inv .4 ∙ no-turn (length (a .out .now)) (l .at) (stateOf (l .tables) (l .fast) (l .slow)) (a .file .now) (search needs))
+    let a = c .before .before .before .before .before .before .before .before .before .before .before .before .before .before .before .before .args in
+    let f = c .before .before .before .before .before .before .fill in
+    let m = c .before .before .before .before .before .before .before .before .before .before .before .fresh in (
+      (
+        inside (a .file .now) (a .fast .now) (a .slow .now) (a .out .now) _ (m .result .tables) _ _ _ (f .ensures),
+        counted (a .file .now) (a .fast .now) (a .slow .now) (a .out .now) _ (m .result .tables) _ _ _ (f .ensures),
+      ),
+      written (a .file .now) (a .fast .now) (a .slow .now) (a .out .now) _ (m .result .tables) _ _ _ (f .ensures) (c .before .before .before .before .before .before .before .before .before .before .before .before .before .before .before .before .pre)
+          ∙ ap (λ (x : Made). joinedReplies 70 (run 70 (a .file .now) (stateOf (x .tables) (a .fast .now) (a .slow .now)) .turns)) (m .ensures),
+    )
 
 pub serve-spec : {M : Type 1} → statement M
 serve-spec =
     tie.close
-    (tie.spec
-    Inv-loop
-    μ-loop
-    fresh-requires
-    loop-holds
-    sub-rest
-    part-rest-start
-    part-rest-end
-    reply-requires
-    first-takes-requires
-    add-at
-    loop-less
-    loop-again
-    same-length
-    same-length-2
-    same-length-3
-    returns)
+    (tie.spec fresh-requires fill-requires same-length same-length-2 same-length-3 returns)
