@@ -127,12 +127,56 @@ static void by_run(void) {
   drop_unit(u);
 }
 
+/* The file in parts: the buffer takes two or three replies, and is emptied after each call. */
+static void by_replies(void) {
+  enum { ROOM = REEL_REPLY_SIZE + 10 };
+  struct unit u = fresh_unit();
+  uint8_t *out = (uint8_t *)lend(ROOM), *kept = (uint8_t *)lend(sizeof replies);
+  size_t at = 0, count = 0, used, parts = 0;
+  while (at < sizeof calls) {
+    at = reel_replies(u.tables, REEL_TABLES_SIZE, u.fast, REEL_FRAME_SIZE * P, u.slow, REEL_FRAME_SIZE * S, calls,
+                      sizeof calls, at, out, ROOM, u.tally, REEL_TALLY_SIZE, &used);
+    expect(count + used <= sizeof replies, "replies: not too many");
+    memcpy(kept + count, out, used);
+    count += used;
+    parts++;
+  }
+  expect(at == sizeof calls && count == sizeof replies && memcmp(kept, replies, count) == 0, "replies: every reply");
+  expect(u.tally[REEL_TALLY_MESSAGES] == 6 && u.tally[REEL_TALLY_REFUSALS] == 0 && u.tally[REEL_TALLY_LAID] == 66,
+         "replies: the tally");
+  free(out);
+  free(kept);
+  drop_unit(u);
+  printf("replies: %u bytes in %u parts, every reply as due\n", (unsigned)count, (unsigned)parts);
+}
+
+/* After power-up: the tables are tested, and a page is read where it stands. */
+static void in_place(void) {
+  static const uint8_t slow_copy[] = {0, 5, 1, REEL_KIND_MAKE_COPY, 5, 0, P + 1, 0, 4, 1, REEL_KIND_SET_CURRENT, 5, 1,
+                                      0, 4, 1, REEL_KIND_REMOVE_CURRENT, 5, 0};
+  struct unit u = fresh_unit();
+  uint32_t place;
+  run(u, calls, sizeof calls);
+  expect(reel_rules(u.tables, REEL_TABLES_SIZE, REEL_FRAME_SIZE * P, REEL_FRAME_SIZE * S) == REEL_ACCEPTED, "rules");
+  place = reel_read(u.tables, REEL_TABLES_SIZE, REEL_FRAME_SIZE * P, REEL_FRAME_SIZE * S, 3, 5, 1, 2);
+  expect(reel_read_length(place) == 2 && reel_read_bytes(place, u.fast, u.slow) == u.fast + 1, "read: page 5 on frame 0");
+  expect(memcmp(reel_read_bytes(place, u.fast, u.slow), "\x37", 2) == 0, "read: the bytes");
+  run(u, slow_copy, sizeof slow_copy);
+  place = reel_read(u.tables, REEL_TABLES_SIZE, REEL_FRAME_SIZE * P, REEL_FRAME_SIZE * S, 3, 5, 0, REEL_FRAME_SIZE);
+  expect(reel_read_length(place) == REEL_FRAME_SIZE && reel_read_slow(place), "read: in the slow store");
+  expect(reel_read_bytes(place, u.fast, u.slow) == u.slow + REEL_FRAME_SIZE, "read: page 5 on frame 5");
+  place = reel_read(u.tables, REEL_TABLES_SIZE, REEL_FRAME_SIZE * P, REEL_FRAME_SIZE * S, 4, 5, 0, 1);
+  expect(place == 0, "read: no right");
+  drop_unit(u);
+  printf("in place: the rules hold, page 5 is read in the fast and in the slow store\n");
+}
+
 /* What is wrong is answered by its number, and tables and stores remain as they were. */
 static void refused(void) {
   static const uint8_t look[] = {0, 3, 1, REEL_KIND_LOOK_PAGE, 5};
   static const uint8_t second[] = {0, 4, 1, REEL_KIND_CREATE, 3, 5};
   struct unit u = fresh_unit();
-  uint8_t *before = (uint8_t *)lend(REEL_TABLES_SIZE);
+  uint8_t *before = (uint8_t *)lend(REEL_TABLES_SIZE), *recent;
   run(u, calls, sizeof calls);
   memcpy(before, u.tables, REEL_TABLES_SIZE);
 
@@ -146,6 +190,20 @@ static void refused(void) {
   given = reel_answer(u.tables, REEL_TABLES_SIZE, u.fast, REEL_FRAME_SIZE * P - 1, u.slow, REEL_FRAME_SIZE * S, look,
                       sizeof look, u.out, REEL_REPLY_SIZE);
   expect(reel_answer_number(given) == REEL_MISFIT_STORE, "a store of a wrong length");
+
+  expect(reel_rules(u.tables, REEL_TABLES_SIZE - 1, REEL_FRAME_SIZE * P, REEL_FRAME_SIZE * S) == REEL_BROKEN_TABLES,
+         "rules: tables of a wrong length");
+  expect(reel_rules(u.tables, REEL_TABLES_SIZE, REEL_FRAME_SIZE * S, 0) == REEL_MISFIT_STORE, "rules: a store of a wrong length");
+
+  /* A mark is 0 or 1. */
+  recent = u.tables + REEL_TABLES_PAGES + 5 * REEL_PAGE_SIZE + REEL_PAGE_COPIES + REEL_COPY_RECENT;
+  *recent = 2;
+  expect(reel_rules(u.tables, REEL_TABLES_SIZE, REEL_FRAME_SIZE * P, REEL_FRAME_SIZE * S) == REEL_BROKEN_TABLES,
+         "rules: a mark of 2");
+  expect(reel_answer_number(answer(u, look, sizeof look)) == REEL_BROKEN_TABLES, "a mark of 2");
+  run(u, look, sizeof look);
+  expect(*recent == 2, "broken tables are left alone");
+  *recent = 1;
 
   memset(u.out, FILLER, REEL_REPLY_SIZE);
   given = reel_answer(u.tables, REEL_TABLES_SIZE, u.fast, REEL_FRAME_SIZE * P, u.slow, REEL_FRAME_SIZE * S, look,
@@ -162,8 +220,11 @@ static void refused(void) {
 }
 
 int main(void) {
+  expect(reel_version() == REEL_VERSION, "header and library of one version");
   by_answer();
   by_run();
+  by_replies();
+  in_place();
   refused();
   return 0;
 }

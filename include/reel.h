@@ -33,6 +33,16 @@
 extern "C" {
 #endif
 
+/* ---- the version: major, minor and patch */
+
+#define REEL_VERSION_MAJOR 1
+#define REEL_VERSION_MINOR 0
+#define REEL_VERSION_PATCH 0
+#define REEL_VERSION (65536 * REEL_VERSION_MAJOR + 256 * REEL_VERSION_MINOR + REEL_VERSION_PATCH)
+
+/* The version of the library; that of the header is REEL_VERSION. */
+uint32_t reel_version(void);
+
 /* ---- the unit */
 
 #define REEL_STATIONS 16
@@ -150,6 +160,12 @@ static inline const char *reel_word(unsigned number) {
 uint8_t reel_fresh(uint8_t p, uint8_t s, uint8_t *tables, size_t tables_len);
 
 /*
+ * Tests tables and the lengths of their stores, as after power-up: REEL_ACCEPTED, REEL_BROKEN_TABLES or REEL_MISFIT_STORE.
+ * Where it is REEL_ACCEPTED every function below leaves it so.
+ */
+uint8_t reel_rules(const uint8_t *tables, size_t tables_len, size_t fast_len, size_t slow_len);
+
+/*
  * Answers one message, its two bytes of length first, and lays the reply at the head of out. The table rules are tested
  * first. A refusal leaves tables and stores as they were. The answer is taken apart by the functions below.
  */
@@ -163,6 +179,23 @@ uint32_t reel_answer(uint8_t *tables, size_t tables_len, uint8_t *fast, size_t f
 void reel_run(uint8_t *tables, size_t tables_len, uint8_t *fast, size_t fast_len, uint8_t *slow, size_t slow_len,
               const uint8_t *file, size_t file_len, uint8_t *out, size_t out_len, uint32_t *tally, size_t tally_len);
 
+/*
+ * Answers the messages of a call file from place `at` on, and lays reply after reply into out until the file ends or fewer
+ * than REEL_REPLY_SIZE bytes are left. Gives the place reached, the bytes of out that are used in *used, and counts on in the
+ * tally; the caller takes the replies out and goes on from that place, until it is file_len. The table rules are tested once a
+ * call. If out_len is below REEL_REPLY_SIZE, every message is answered REEL_SHORT_SLIP, nothing is laid and the end is reached.
+ */
+size_t reel_replies(uint8_t *tables, size_t tables_len, uint8_t *fast, size_t fast_len, uint8_t *slow, size_t slow_len,
+                    const uint8_t *file, size_t file_len, size_t at, uint8_t *out, size_t out_len, uint32_t *tally,
+                    size_t tally_len, size_t *used);
+
+/*
+ * Where the bytes of a read stand: in which store, at which offset and how many. 0 where the read would be refused. The bytes
+ * may be read there until the tables or the store are changed. It is taken apart by the functions below.
+ */
+uint32_t reel_read(const uint8_t *tables, size_t tables_len, size_t fast_len, size_t slow_len, uint8_t station, uint8_t page,
+                   uint8_t offset, uint8_t count);
+
 /* ---- an answer of reel_answer, taken apart */
 
 /* The number: REEL_ACCEPTED, or why the message was turned back. */
@@ -173,6 +206,22 @@ static inline size_t reel_answer_length(uint32_t answer) { return answer >> 8 & 
 
 /* The bytes laid into the stores. */
 static inline unsigned reel_answer_laid(uint32_t answer) { return answer >> 16; }
+
+/* ---- a place of reel_read, taken apart */
+
+/* How many bytes; 0 where the read would be refused. */
+static inline size_t reel_read_length(uint32_t place) { return place & 255; }
+
+/* Whether they stand in the slow store. */
+static inline int reel_read_slow(uint32_t place) { return (place >> 8 & 255) != 0; }
+
+/* At which offset of that store. */
+static inline size_t reel_read_offset(uint32_t place) { return place >> 16; }
+
+/* The first of them, in the stores that the place was asked for. */
+static inline const uint8_t *reel_read_bytes(uint32_t place, const uint8_t *fast, const uint8_t *slow) {
+  return (reel_read_slow(place) ? slow : fast) + reel_read_offset(place);
+}
 
 #ifdef __cplusplus
 }
