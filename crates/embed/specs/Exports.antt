@@ -1,6 +1,6 @@
 -- What the exported functions answer, and what they leave in the bytes that they are lent.
 use Prim.Native.Nat.{ℕ, _+_, _*_}
-use mathlib.Core.Bool.{Bool, cond}
+use mathlib.Core.Bool.{Bool, _&&_, cond}
 use mathlib.Core.List.{List, [], _∷_}
 use mathlib.Core.Path.{_≡_}
 use lib.ListN.{length, getD}
@@ -15,7 +15,7 @@ use Rattle.steps.specs.Promises.{stateOf, Lent, lent}
 use Rattle.messages.specs.declared.Tally.{Tally}
 use Rattle.messages.specs.Replies.{replyIn}
 use Rattle.messages.specs.Run.{Run, buffer, tally}
-use Rattle.embed.specs.Bytes.{tablesSize, tablesBytes, tablesFrom}
+use Rattle.embed.specs.Bytes.{tablesSize, tablesBytes, tablesFrom, marked}
 
 -- ---- tables
 
@@ -23,29 +23,33 @@ use Rattle.embed.specs.Bytes.{tablesSize, tablesBytes, tablesFrom}
 abbrev pub tablesSized : List ℕ → Bool
 tablesSized b = eqb (length b) tablesSize
 
+-- whether they hold tables: each mark is 0 or 1
+abbrev pub tablesIn : List ℕ → Bool
+tablesIn b = tablesSized b && marked b
+
 -- tables that break a rule: P is above 127
 abbrev pub noTables : Tables
 noTables = freshTables 255 0
 
--- the tables in lent bytes; bytes of another length are broken tables
+-- the tables in lent bytes; bytes that hold none are broken tables
 abbrev pub tablesOf : List ℕ → Tables
-tablesOf b = cond (tablesSized b) (tablesFrom b) noTables
+tablesOf b = cond (tablesIn b) (tablesFrom b) noTables
 
--- lent bytes with t put into them; bytes of another length are left alone
+-- lent bytes with t put into them; bytes that hold no tables are left alone
 abbrev pub withTables : List ℕ → Tables → List ℕ
-withTables b t = cond (tablesSized b) (tablesBytes t) b
+withTables b t = cond (tablesIn b) (tablesBytes t) b
 
 -- a number, and the bytes of tables
 pub record Numbered : Type 0 where
   pub number : ℕ
   pub bytes : List ℕ
 
--- fresh tables into lent bytes
+-- fresh tables into lent bytes, whatever they held; bytes of another length are left alone
 abbrev pub freshInto : ℕ → ℕ → List ℕ → Numbered
 freshInto p s b =
     record {
       number = cond (tablesSized b) (made p s .number) brokenTables;
-      bytes = withTables b (made p s .tables);
+      bytes = cond (tablesSized b) (tablesBytes (made p s .tables)) b;
     }
 
 -- ---- the tally
