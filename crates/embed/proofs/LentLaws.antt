@@ -1,22 +1,23 @@
 -- Tables in lent bytes: those that are put back are found by the next call, and bytes that hold none are broken tables.
 use Prim.Native.Nat.{ℕ}
-use mathlib.Core.Bool.{Bool, true, false, not, cond}
-use mathlib.Core.List.{List}
-use mathlib.Core.Path.{_≡_, refl, sym}
-use lib.Dec.{eqb}
-use borrow.Author.Tests.{eq-eqb, not-true}
+use mathlib.Core.Bool.{Bool, true, false, cond, false≢true}
+use mathlib.Core.List.{List, [], _∷_}
+use mathlib.Core.Path.{_≡_, refl}
+use borrow.Author.Tests.{eq-eqb}
 use Rattle.tables.specs.declared.Tables.{Tables}
 use Rattle.tables.specs.Model.{freshTables}
-use Rattle.tables.specs.Numbers.{accepted, brokenTables}
+use Rattle.tables.specs.Lists.{all}
+use Rattle.tables.specs.Numbers.{brokenTables}
 use Rattle.tables.specs.Rules.{sound}
-use Rattle.tables.proofs.ListLaws.{and-intro}
+use Rattle.tables.proofs.ListLaws.{and-left, and-right, and-intro}
 use Rattle.tables.proofs.RuleLaws.{sound-of}
 use Rattle.steps.specs.declared.Call.{Call}
-use Rattle.steps.specs.Steps.{Outcome, refuse, accept, numberOf}
+use Rattle.steps.specs.Steps.{Outcome, refuse, accept}
 use Rattle.steps.specs.Effects.{State, Result, step, left}
 use Rattle.messages.specs.Replies.{isRefusal}
+use Rattle.messages.specs.Run.{Sent, Turn, answer, turnsOf, endOf, messagesOf, run}
 use Rattle.embed.specs.Bytes.{tablesSize, tablesBytes, tablesFrom}
-use Rattle.embed.specs.Exports.{tablesIn, noTables, tablesOf, withTables, lentState, leftIn}
+use Rattle.embed.specs.Exports.{tablesIn, noTables, tablesOf, withTables, lentState, leftIn, allRefused}
 use Rattle.embed.proofs.RoundTrip.{bytes-length, bytes-marked, sound-shaped, sound-from-bytes}
 use Rattle.embed.proofs.WayBack.{tables-same}
 
@@ -53,3 +54,23 @@ pub lent-broken : (b fast slow : List ℕ) (c : Call) (bs : List ℕ) → tables
     → step (lentState b fast slow) c bs ≡ refuse brokenTables
 unfolding step
 lent-broken b fast slow c bs z = rw (z, no-tables-broken)
+
+-- ---- refused runs
+
+left-refused : (s : State) (o : Outcome Result) → isRefusal o ≡ true → left s o ≡ s
+left-refused s (refuse n) e = refl
+left-refused s (accept r) e = absurd (false≢true e)
+
+refused-end : (room : ℕ) (s : State) (xs : List Sent) → all (λ (t : Turn). isRefusal (t .outcome)) (turnsOf room s xs) ≡ true
+    → endOf room s xs ≡ s
+unfolding all turnsOf endOf
+refused-end room s [] e = refl
+refused-end room s (x ∷ xs) e =
+    let o = answer room s x in
+    let l = left-refused s o (and-left (isRefusal o) _ e) in
+    rw l (refused-end room s xs (rw l at (and-right (isRefusal o) _ e)))
+
+-- a run of which every message was refused, or whose file is empty, leaves every byte of the tables, whatever they were
+pub refused-run : (room : ℕ) (file b fast slow : List ℕ) → allRefused (run room file (lentState b fast slow)) ≡ true
+    → withTables b (run room file (lentState b fast slow) .final .tables) ≡ b
+refused-run room file b fast slow e = rw (refused-end room (lentState b fast slow) (messagesOf file) e) (put-back-same b)

@@ -6,6 +6,7 @@ use mathlib.Core.Path.{_≡_}
 use lib.ListN.{length, getD}
 use lib.Dec.{eqb}
 use Rattle.tables.specs.declared.Tables.{Tables}
+use Rattle.tables.specs.Lists.{all}
 use Rattle.tables.specs.Numbers.{brokenTables}
 use Rattle.tables.specs.Model.{freshTables, made}
 use Rattle.steps.specs.Stores.{over}
@@ -13,9 +14,19 @@ use Rattle.steps.specs.Steps.{Outcome, refuse, accept, numberOf}
 use Rattle.steps.specs.Effects.{State, Result, left, laidBy}
 use Rattle.steps.specs.Promises.{stateOf, Lent, lent}
 use Rattle.messages.specs.declared.Tally.{Tally}
-use Rattle.messages.specs.Replies.{replyIn}
-use Rattle.messages.specs.Run.{Run, buffer, tally}
+use Rattle.messages.specs.Replies.{replyIn, isRefusal}
+use Rattle.messages.specs.Run.{Turn, Run, buffer, tally}
 use Rattle.embed.specs.Bytes.{tablesSize, tablesBytes, tablesFrom, marked}
+
+-- ---- version
+
+-- three numbers in one that a program can compare
+abbrev pub versionNumber : ℕ → ℕ → ℕ → ℕ
+versionNumber major minor patch = 65536 * major + 256 * minor + patch
+
+-- 1.0.0
+abbrev pub version : ℕ
+version = versionNumber 1 0 0
 
 -- ---- tables
 
@@ -87,6 +98,10 @@ pub record AnswerLent (s : State) (o : Outcome Result) (b : List ℕ) (l : Lent)
   pub told : r ≡ packed (numberOf o) (length (replyIn (length (l .out)) o)) (laidBy o)
   pub tables-out : b′ ≡ leftIn b o
   pub lent-out : l′ ≡ lent (left s o .fast) (left s o .slow) (over (replyIn (length (l .out)) o) (l .out))
+
+-- whether every message of a run was refused
+abbrev pub allRefused : Run → Bool
+allRefused w = all (λ (t : Turn). isRefusal (t .outcome)) (w .turns)
 
 -- what `reel_run` leaves of the bytes b of the tables, of the stores and the buffer l and of the tally n, after a run w
 pub record RunLent (w : Run) (b : List ℕ) (l : Lent) (n : List ℕ) (b′ : List ℕ) (l′ : Lent) (n′ : List ℕ) : Type 0 where

@@ -5,6 +5,7 @@ use messages::Tally;
 use messages::answer;
 use messages::run;
 use steps::BROKEN_TABLES;
+use steps::rules;
 use tables::Copy;
 use tables::Page;
 use tables::Shared;
@@ -15,17 +16,24 @@ ghost use mathlib.Core.List.{flatMap};
 ghost use Prim.Native.Nat.{_+_, _≤_, _<_};
 ghost use lib.ListN.{length, take, drop};
 ghost use lib.Seq.{sets};
-ghost use Rattle.steps.specs.Promises.{lent};
+ghost use Rattle.steps.specs.Promises.{lent, rulesNumber};
 ghost use Rattle.messages.specs.Run.{answer, run};
 ghost use Rattle.messages.specs.Promises.{sentAlone};
 ghost use Rattle.embed.specs.Bytes.{pageSize, tablesSize, markByte, copyBytes, pageBytes, tablesBytes, fromEach, copyFrom, pageFrom, tablesFrom, copyMarked, pageMarked, marked};
-ghost use Rattle.embed.specs.Exports.{tablesIn, noTables, tablesOf, withTables, freshInto, tallyOf, withTally, packed, lentState, AnswerLent, RunLent};
+ghost use Rattle.embed.specs.Exports.{version, tablesIn, noTables, tablesOf, withTables, freshInto, tallyOf, withTally, packed, lentState, AnswerLent, RunLent};
 
 // How many bytes a page takes.
 const PAGE_SIZE: usize = 42;
 
 // How many bytes the tables take.
 const TABLES_SIZE: usize = 2 + 64 * PAGE_SIZE;
+
+// The version of what C and Rust see: these functions, and the tables as bytes.
+const MAJOR: u32 = 1;
+
+const MINOR: u32 = 0;
+
+const PATCH: u32 = 0;
 
 // ---- the tables from bytes
 
@@ -304,6 +312,14 @@ fn packed(number: u8, len: usize, laid: u16) -> u32
 
 // ---- for C and Rust
 
+// 65536 times the major version, 256 times the minor one and the patch, in one.
+#[no_mangle]
+pub extern "C" fn reel_version() -> u32
+    ensures { λ r. ⌜ r ≡ version ⌝ }
+{
+    65536 * MAJOR + 256 * MINOR + PATCH
+}
+
 // Makes fresh tables: 0, or 19 with P = S = 0. A buffer of another length is left alone: 5.
 #[no_mangle]
 pub extern "C" fn reel_fresh(p: u8, s: u8, tables: &mut [u8]) -> u8
@@ -318,8 +334,17 @@ pub extern "C" fn reel_fresh(p: u8, s: u8, tables: &mut [u8]) -> u8
     made.number
 }
 
+// Tests the tables and the lengths of both stores: 0, 5 or 6.
+#[no_mangle]
+pub extern "C" fn reel_rules(tables: &[u8], fast: usize, slow: usize) -> u8
+    ensures { λ r. ⌜ r ≡ rulesNumber (tablesOf (now (tables .entry))) fast slow ⌝ }
+{
+    let t = tables_of(tables);
+    rules(t, fast, slow)
+}
+
 // Answers one message, its length first: the number, 256 times the length of the reply and 65536
-// times the bytes laid, in one. Tables of another length are broken ones, and are left alone.
+// times the bytes laid, in one. Bytes that hold no tables are broken ones, and are left alone.
 #[no_mangle]
 pub extern "C" fn reel_answer(
     tables: &mut [u8],
@@ -341,7 +366,7 @@ pub extern "C" fn reel_answer(
 }
 
 // Runs a call file, and counts on in a tally of three numbers: messages, refusals and bytes laid.
-// Tables of another length are broken ones, and are left alone; so is a tally of another length.
+// Bytes that hold no tables are broken ones, and are left alone; so is a tally of another length.
 #[no_mangle]
 pub extern "C" fn reel_run(
     tables: &mut [u8],
