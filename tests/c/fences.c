@@ -27,7 +27,8 @@ struct unit {
 };
 
 static uint32_t seed = 7;
-static int behind; /* whether the fence stands behind the buffers, or before them */
+static int behind;    /* whether the fence stands behind the buffers, or before them */
+static uint32_t frames; /* so many frames may be named */
 
 static uint32_t any(uint32_t below) {
   seed = seed * 1664525u + 1013904223u;
@@ -85,17 +86,21 @@ static void make_fresh(struct unit *u, uint8_t p, uint8_t s) {
   memset(u->tally.start, 0, u->tally.room);
 }
 
-/* A message, mostly one of the right form with small arguments. */
+/* A message, mostly one of the right form and with arguments that have a chance. */
 static size_t message(uint8_t *to) {
   static const uint8_t lengths[] = {4, 4, 6, 6, 6, 5, 4, 4, 4, 3, 3};
-  size_t kind = any(11), length = lengths[kind], i;
-  if (kind == REEL_KIND_WRITE - 1) length += any(64);
+  static const uint8_t kinds[] = {1, 1, 1, 1, 2, 3, 3, 4, 4, 4, 5, 5, 5, 5, 6, 6, 6, 6, 6, 7, 8, 8, 8, 8, 9, 10, 11};
+  size_t kind = kinds[any(sizeof kinds)], length = lengths[kind - 1], i;
+  if (kind == REEL_KIND_WRITE) length += any(64);
   if (any(50) == 0) length = any(70);
-  for (i = 4; i < length + 2; i++) to[i] = (uint8_t)(any(9) == 0 ? any(256) : any(5));
+  for (i = 4; i < length + 2; i++) to[i] = (uint8_t)(any(20) == 0 ? any(256) : any(3));
   to[0] = 0;
   to[1] = (uint8_t)length;
   if (length > 0) to[2] = any(50) == 0 ? 2 : REEL_MESSAGE_VERSION;
-  if (length > 1) to[3] = (uint8_t)(any(50) == 0 ? any(256) : kind + 1);
+  if (length > 1) to[3] = (uint8_t)(any(50) == 0 ? any(256) : kind);
+  if (kind <= REEL_KIND_WRITE && length > 3 && any(8) != 0) to[4] = 0;
+  if (kind == REEL_KIND_MAKE_COPY && length == 5) to[6] = (uint8_t)any(frames + 1);
+  if (kind == REEL_KIND_READ && length == 6) to[7] = (uint8_t)any(66);
   return length + 2;
 }
 
@@ -130,6 +135,7 @@ static void serve(struct unit one, struct unit whole, struct block lent, uint8_t
   static uint8_t file[FILE_MOST];
   size_t length = 0, i;
   uint32_t *tally = tally_of(one, REEL_TALLY_SIZE);
+  frames = (uint32_t)p + s;
   make_fresh(&one, p, s);
   make_fresh(&whole, p, s);
   for (i = 0; i < MESSAGES; i++) {
