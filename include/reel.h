@@ -95,26 +95,26 @@ enum reel_kind {
 
 /* Why a message is turned back. Versions to come may add numbers. */
 enum reel_number {
-  REEL_ACCEPTED = 0,        /* the message was carried out */
-  REEL_CUT_SHORT = 1,       /* one byte left, or fewer than L after the length */
-  REEL_FOREIGN_VERSION = 2, /* L is 0, or version not 1 */
-  REEL_UNKNOWN_KIND = 3,    /* L is 1, or kind not 1 to 11 */
-  REEL_WRONG_LENGTH = 4,    /* L not as listed for the kind */
-  REEL_BROKEN_TABLES = 5,   /* a table rule fails */
-  REEL_MISFIT_STORE = 6,    /* a store's length is wrong */
-  REEL_OUT_OF_RANGE = 7,    /* station, page, right, frame or offset too large; count 0; offset + count above 64 */
-  REEL_PAGE_STANDS = 8,     /* create on a standing page */
-  REEL_NO_PAGE = 9,         /* the page doesn't stand */
-  REEL_NO_RIGHT = 10,       /* right too low, or not owner */
-  REEL_NOTHING_CURRENT = 11, /* read or write, no CURRENT copy */
-  REEL_NO_COPY = 12,        /* copy number is n or more */
-  REEL_FRAME_HELD = 13,     /* make copy on a frame not free */
-  REEL_EIGHT_COPIES = 14,   /* make copy with n = 8 */
-  REEL_LAST_RECENT = 15,    /* delete of the only MOST RECENT copy */
-  REEL_STALE = 16,          /* set current, not MOST RECENT */
-  REEL_NO_FRAME = 17,       /* set current on a null copy */
-  REEL_SHORT_SLIP = 18,     /* reply buffer below 70 bytes; nothing is written */
-  REEL_TOO_MANY_FRAMES = 19 /* fresh with P or S above 127; returns fresh tables with P = S = 0 */
+  REEL_ACCEPTED = 0,          /* the message was carried out */
+  REEL_CUT_SHORT = 1,         /* one byte left, or fewer than L after the length */
+  REEL_FOREIGN_VERSION = 2,   /* L is 0, or version not 1 */
+  REEL_UNKNOWN_KIND = 3,      /* L is 1, or kind not 1 to 11 */
+  REEL_WRONG_LENGTH = 4,      /* L not as listed for the kind */
+  REEL_BROKEN_TABLES = 5,     /* a table rule fails */
+  REEL_MISFIT_STORE = 6,      /* a store's length is wrong */
+  REEL_OUT_OF_RANGE = 7,      /* station, page, right, frame or offset too large; count 0; offset + count above 64 */
+  REEL_PAGE_STANDS = 8,       /* create on a standing page */
+  REEL_NO_PAGE = 9,           /* the page doesn't stand */
+  REEL_NO_RIGHT = 10,         /* right too low, or not owner */
+  REEL_NOTHING_CURRENT = 11,  /* read or write, no CURRENT copy */
+  REEL_NO_COPY = 12,          /* copy number is n or more */
+  REEL_FRAME_HELD = 13,       /* make copy on a frame not free */
+  REEL_EIGHT_COPIES = 14,     /* make copy with n = 8 */
+  REEL_LAST_RECENT = 15,      /* delete of the only MOST RECENT copy */
+  REEL_STALE = 16,            /* set current, not MOST RECENT */
+  REEL_NO_FRAME = 17,         /* set current on a null copy */
+  REEL_SHORT_SLIP = 18,       /* reply buffer below 70 bytes; nothing is written */
+  REEL_TOO_MANY_FRAMES = 19   /* fresh with P or S above 127; returns fresh tables with P = S = 0 */
 };
 
 /* The word of a number, for a log; an empty one for any other. */
@@ -166,8 +166,9 @@ uint8_t reel_fresh(uint8_t p, uint8_t s, uint8_t *tables, size_t tables_len);
 uint8_t reel_rules(const uint8_t *tables, size_t tables_len, size_t fast_len, size_t slow_len);
 
 /*
- * Answers one message, its two bytes of length first, and lays the reply at the head of out. The table rules are tested
- * first. A refusal leaves tables and stores as they were. The answer is taken apart by the functions below.
+ * Answers one message, its two bytes of length first, and lays the reply at the head of out. Bytes after the message are not
+ * looked at; none at all count as cut short. The table rules are tested at each call. A refusal leaves tables and stores as
+ * they were. The answer is number + 256 * length of the reply + 65536 * bytes laid; functions below take it apart.
  */
 uint32_t reel_answer(uint8_t *tables, size_t tables_len, uint8_t *fast, size_t fast_len, uint8_t *slow, size_t slow_len,
                      const uint8_t *message, size_t message_len, uint8_t *out, size_t out_len);
@@ -180,8 +181,8 @@ void reel_run(uint8_t *tables, size_t tables_len, uint8_t *fast, size_t fast_len
               const uint8_t *file, size_t file_len, uint8_t *out, size_t out_len, uint32_t *tally, size_t tally_len);
 
 /*
- * Where the bytes of a read stand: in which store, at which offset and how many. 0 where the read would be refused. The bytes
- * may be read there until the tables or the store are changed. It is taken apart by the functions below.
+ * Where the bytes of a read stand: number of bytes + 256 * store (0 fast, 1 slow) + 65536 * offset in that store; 0 where the
+ * read would be refused. They may be read there until tables or stores are changed. Functions below take the place apart.
  */
 uint32_t reel_read(const uint8_t *tables, size_t tables_len, size_t fast_len, size_t slow_len, uint8_t station, uint8_t page,
                    uint8_t offset, uint8_t count);
