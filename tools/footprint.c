@@ -77,7 +77,8 @@ static void serve(const char *by, int n, int deep, const char *name, size_t leng
   if (strcmp(by, "reel_answer") == 0)
     reel_answer(unit.tables, sizeof unit.tables, unit.fast, sizeof unit.fast, unit.slow, sizeof unit.slow, file, length,
                 unit.out, sizeof unit.out);
-  printf("%d pages with 8 copies, last page with %d: %s, %s\n", deep, n, name, length == 0 ? "tables tested" : reel_word(unit.out[3]));
+  printf("%d pages with 8 copies, last page with %d: %s, %s\n", deep, n, name,
+         length == 0 ? "tables tested" : reel_word(unit.out[3]));
 }
 
 /* Every call on tables of this shape. */
