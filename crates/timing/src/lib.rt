@@ -42,9 +42,17 @@ fn answers(
                 let a = answer(tables, fast, slow, &file[at..], out);
                 tables = a.tables;
                 tally = tally_after(tally, a.number != 0, a.laid);
-                return Ran { tables, tally };
+                return Ran {
+                    moved: true,
+                    tables,
+                    tally,
+                };
             }
-            Next::End => return Ran { tables, tally },
+            Next::End => return Ran {
+                moved: true,
+                tables,
+                tally,
+            },
         }
     }
 }
