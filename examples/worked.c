@@ -132,6 +132,23 @@ static void by_run(void) {
   printf("run: last reply and tally as due\n");
 }
 
+/* In parts: the buffer takes two replies, and is emptied after each call. */
+static void by_replies(void) {
+  struct unit u = fresh_unit(REEL_REPLY_SIZE + 10);
+  size_t at = 0, said = 0, used, parts = 0;
+  while (at < sizeof calls) {
+    at = reel_replies(u.tables, u.tables_len, u.fast, u.fast_len, u.slow, u.slow_len, calls, sizeof calls, at, u.out,
+                      u.out_len, u.tally, REEL_TALLY_SIZE, &used);
+    expect(said + used <= sizeof replies && memcmp(u.out, replies + said, used) == 0, "replies: each as due");
+    said += used;
+    parts++;
+  }
+  expect(at == sizeof calls && said == sizeof replies, "replies: all of them");
+  expect_tally(u);
+  give_up(u);
+  printf("replies: every reply as due, in %u parts\n", (unsigned)parts);
+}
+
 /* After power-up the tables are tested; a page can be read where it stands. */
 static void in_place(void) {
   /* Page 5 moves to the slow store: copy 0 to frame 5, which becomes CURRENT, and copy 0 is no longer so. */
@@ -201,6 +218,7 @@ int main(void) {
   expect(reel_version() == REEL_VERSION, "header and library are of one version");
   by_answer();
   by_run();
+  by_replies();
   in_place();
   refused();
   return 0;

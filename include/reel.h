@@ -181,6 +181,16 @@ void reel_run(uint8_t *tables, size_t tables_len, uint8_t *fast, size_t fast_len
               const uint8_t *file, size_t file_len, uint8_t *out, size_t out_len, uint32_t *tally, size_t tally_len);
 
 /*
+ * Answers the messages of a call file from place `at` on, and lays reply after reply into out until the file ends or fewer
+ * than REEL_REPLY_SIZE bytes are left. Gives the place reached, the bytes of out that are used in *used, and counts on in the
+ * tally; the caller takes the replies out and goes on from that place, until it is file_len. The table rules are tested once a
+ * call. If out_len is below REEL_REPLY_SIZE, every message is answered REEL_SHORT_SLIP, nothing is laid and the end is reached.
+ */
+size_t reel_replies(uint8_t *tables, size_t tables_len, uint8_t *fast, size_t fast_len, uint8_t *slow, size_t slow_len,
+                    const uint8_t *file, size_t file_len, size_t at, uint8_t *out, size_t out_len, uint32_t *tally,
+                    size_t tally_len, size_t *used);
+
+/*
  * Where the bytes of a read stand: number of bytes + 256 * store (0 fast, 1 slow) + 65536 * offset in that store; 0 where the
  * read would be refused. They may be read there until tables or stores are changed. Functions below take the place apart.
  */

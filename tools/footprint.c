@@ -73,10 +73,14 @@ static void fill(int n, int deep) {
 
 /* One call of the named function on the full tables. */
 static void serve(const char *by, int n, int deep, const char *name, size_t length) {
+  size_t used;
   unit = full;
   if (strcmp(by, "reel_answer") == 0)
     reel_answer(unit.tables, sizeof unit.tables, unit.fast, sizeof unit.fast, unit.slow, sizeof unit.slow, file, length,
                 unit.out, sizeof unit.out);
+  else
+    reel_replies(unit.tables, sizeof unit.tables, unit.fast, sizeof unit.fast, unit.slow, sizeof unit.slow, file, length, 0,
+                 unit.out, sizeof unit.out, unit.tally, REEL_TALLY_SIZE, &used);
   printf("%d pages with 8 copies, last page with %d: %s, %s\n", deep, n, name,
          length == 0 ? "tables tested" : reel_word(unit.out[3]));
 }

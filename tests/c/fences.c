@@ -1,8 +1,8 @@
 /*
  * Lends every buffer flush against memory that may be neither read nor written, before it or behind it, and what is const in
  * memory that may only be read. So the processor stops any access of the library outside what it is lent, which no
- * instrumentation of this file could see. The same file is served message by message and in one run, and all that is left
- * is compared. Messages and sizes follow from a seed.
+ * instrumentation of this file could see. The same file is served message by message, in one run and in parts, and all that
+ * is left is compared. Messages and sizes follow from a seed.
  */
 #define _DEFAULT_SOURCE
 #include <reel.h>
@@ -12,7 +12,7 @@
 #include <string.h>
 #include <sys/mman.h>
 
-enum { PAGE = 4096, MESSAGES = 4000, FILE_MOST = MESSAGES * REEL_MESSAGE_SIZE };
+enum { PAGE = 4096, MESSAGES = 4000, FILE_MOST = MESSAGES * REEL_MESSAGE_SIZE, REPLIES_MOST = MESSAGES * REEL_REPLY_SIZE };
 
 /* Readable memory between two fences. */
 struct block {
@@ -20,9 +20,9 @@ struct block {
   size_t room;
 };
 
-/* What is lent: tables, stores, reply buffer and tally. */
+/* What is lent: tables, stores, reply buffer, tally and the number of bytes used. */
 struct unit {
-  struct block tables, fast, slow, out, tally;
+  struct block tables, fast, slow, out, tally, used;
   size_t fast_len, slow_len;
 };
 
@@ -73,6 +73,7 @@ static struct unit make_unit(void) {
   u.slow = fenced(2 * PAGE);
   u.out = fenced(PAGE);
   u.tally = fenced(PAGE);
+  u.used = fenced(PAGE);
   u.fast_len = u.slow_len = 0;
   return u;
 }
@@ -130,36 +131,47 @@ static void same(struct unit one, struct unit other) {
          "the tally");
 }
 
-/* One file: a message a call, and in one run. */
-static void serve(struct unit one, struct unit whole, struct block lent, uint8_t p, uint8_t s) {
-  static uint8_t file[FILE_MOST];
-  size_t length = 0, i;
+/* One file: a message a call, in one run, and in parts. */
+static void serve(struct unit one, struct unit whole, struct unit parts, struct block lent, uint8_t p, uint8_t s) {
+  static uint8_t file[FILE_MOST], replies[REPLIES_MOST];
+  size_t length = 0, said = 0, at = 0, room = REEL_REPLY_SIZE + any(200), *used = (size_t *)part(parts.used, sizeof(size_t)), i;
   uint32_t *tally = tally_of(one, REEL_TALLY_SIZE);
   frames = (uint32_t)p + s;
   make_fresh(&one, p, s);
   make_fresh(&whole, p, s);
+  make_fresh(&parts, p, s);
   for (i = 0; i < MESSAGES; i++) {
     size_t size = message(file + length);
     uint32_t answered = answer(one, sealed(lent, file + length, size), size);
+    memcpy(replies + said, part(one.out, REEL_REPLY_SIZE), reel_answer_length(answered));
     if (size == 8 && file[length + 2] == REEL_MESSAGE_VERSION && file[length + 3] == REEL_KIND_READ)
       read_alike(one, lent, file + length, answered);
     tally[REEL_TALLY_MESSAGES]++;
     tally[REEL_TALLY_REFUSALS] += reel_answer_number(answered) != REEL_ACCEPTED;
     tally[REEL_TALLY_LAID] += reel_answer_laid(answered);
     length += size;
+    said += reel_answer_length(answered);
   }
   sealed(lent, file, length);
   reel_run(part(whole.tables, REEL_TABLES_SIZE), REEL_TABLES_SIZE, part(whole.fast, whole.fast_len), whole.fast_len,
            part(whole.slow, whole.slow_len), whole.slow_len, part(lent, length), length, part(whole.out, REEL_REPLY_SIZE),
            REEL_REPLY_SIZE, tally_of(whole, REEL_TALLY_SIZE), REEL_TALLY_SIZE);
   same(one, whole);
+  for (i = 0; at < length; i += *used) {
+    at = reel_replies(part(parts.tables, REEL_TABLES_SIZE), REEL_TABLES_SIZE, part(parts.fast, parts.fast_len),
+                      parts.fast_len, part(parts.slow, parts.slow_len), parts.slow_len, part(lent, length), length, at,
+                      part(parts.out, room), room, tally_of(parts, REEL_TALLY_SIZE), REEL_TALLY_SIZE, used);
+    expect(i + *used <= said && memcmp(replies + i, part(parts.out, room), *used) == 0, "the replies in parts");
+  }
+  expect(at == length && i == said, "the whole file in parts");
+  same(one, parts);
 }
 
 /* Buffers of any lengths with any bytes. */
 static void senseless(struct unit u, struct block lent) {
   uint8_t bytes[REEL_MESSAGE_SIZE];
   size_t tables = any(4) == 0 ? any(PAGE) : REEL_TABLES_SIZE, fast = any(2 * PAGE), slow = any(2 * PAGE), room = any(200);
-  size_t size = message(bytes), tally = any(5), i;
+  size_t size = message(bytes), tally = any(5), place = any(80), i;
   uint8_t *t = part(u.tables, tables), *f = part(u.fast, fast), *s = part(u.slow, slow), *out = part(u.out, room);
   const uint8_t *sent;
   if (any(4) == 0) size = any((uint32_t)size);
@@ -175,17 +187,19 @@ static void senseless(struct unit u, struct block lent) {
   sent = sealed(lent, bytes, size);
   reel_answer(t, tables, f, fast, s, slow, sent, size, out, room);
   reel_run(t, tables, f, fast, s, slow, sent, size, out, room, tally_of(u, tally), tally);
+  reel_replies(t, tables, f, fast, s, slow, sent, size, place, out, room, tally_of(u, tally), tally,
+               (size_t *)part(u.used, sizeof(size_t)));
 }
 
 int main(void) {
   static const uint8_t sizes[][2] = {{0, 0}, {4, 4}, {0, 5}, {5, 0}, {3, 127}, {127, 127}};
-  struct unit one = make_unit(), whole = make_unit();
+  struct unit one = make_unit(), whole = make_unit(), parts = make_unit();
   struct block lent = fenced(FILE_MOST);
   size_t i;
   for (behind = 0; behind < 2; behind++) {
-    for (i = 0; i < sizeof sizes / sizeof *sizes; i++) serve(one, whole, lent, sizes[i][0], sizes[i][1]);
+    for (i = 0; i < sizeof sizes / sizeof *sizes; i++) serve(one, whole, parts, lent, sizes[i][0], sizes[i][1]);
     for (i = 0; i < 20000; i++) senseless(one, lent);
   }
-  printf("%u messages twice, %u senseless calls\n", 12u * MESSAGES, 2u * 20000);
+  printf("%u messages three times, %u senseless calls\n", 12u * MESSAGES, 2u * 20000);
   return 0;
 }
