@@ -80,6 +80,11 @@ static void run(struct unit u, const uint8_t *file, size_t length) {
            REEL_TALLY_SIZE);
 }
 
+static size_t part(struct unit u, const uint8_t *file, size_t length, size_t at, size_t *used) {
+  return reel_replies(u.tables, u.tables_len, u.fast, u.fast_len, u.slow, u.slow_len, file, length, at, u.out, u.out_len,
+                      u.tally, REEL_TALLY_SIZE, used);
+}
+
 static unsigned rules(struct unit u) { return reel_rules(u.tables, u.tables_len, u.fast_len, u.slow_len); }
 
 /* The length of the message or reply at p, with its two bytes of length. */
@@ -137,8 +142,7 @@ static void by_replies(void) {
   struct unit u = fresh_unit(REEL_REPLY_SIZE + 10);
   size_t at = 0, said = 0, used, parts = 0;
   while (at < sizeof calls) {
-    at = reel_replies(u.tables, u.tables_len, u.fast, u.fast_len, u.slow, u.slow_len, calls, sizeof calls, at, u.out,
-                      u.out_len, u.tally, REEL_TALLY_SIZE, &used);
+    at = part(u, calls, sizeof calls, at, &used);
     expect(said + used <= sizeof replies && memcmp(u.out, replies + said, used) == 0, "replies: each as due");
     said += used;
     parts++;
@@ -178,6 +182,7 @@ static void refused(void) {
   static const uint8_t look[] = {0, 3, 1, REEL_KIND_LOOK_PAGE, 5};
   struct unit u = fresh_unit(REEL_REPLY_SIZE), wrong;
   uint8_t *before = lend(u.tables_len), *recent;
+  size_t used;
   run(u, calls, sizeof calls);
   memcpy(before, u.tables, u.tables_len);
 
@@ -197,6 +202,8 @@ static void refused(void) {
   wrong.out_len--;
   memset(u.out, FILLER, u.out_len);
   expect(answer(wrong, look, sizeof look) == REEL_SHORT_SLIP, "a short reply buffer: no reply, nothing laid");
+  expect(part(wrong, calls, sizeof calls, 0, &used) == sizeof calls && used == 0, "replies: a short reply buffer");
+  expect(u.tally[REEL_TALLY_REFUSALS] == MESSAGES, "replies: every message refused");
   expect(untouched(u.out, u.out_len), "a short reply buffer is left alone");
 
   /* A mark is 0 or 1. */

@@ -182,9 +182,10 @@ void reel_run(uint8_t *tables, size_t tables_len, uint8_t *fast, size_t fast_len
 
 /*
  * Answers the messages of a call file from place `at` on, and lays reply after reply into out until the file ends or fewer
- * than REEL_REPLY_SIZE bytes are left. Gives the place reached, the bytes of out that are used in *used, and counts on in the
- * tally; the caller takes the replies out and goes on from that place, until it is file_len. The table rules are tested once a
- * call. If out_len is below REEL_REPLY_SIZE, every message is answered REEL_SHORT_SLIP, nothing is laid and the end is reached.
+ * than REEL_REPLY_SIZE bytes are left. Gives the place reached, in *used the bytes of out that are used, and counts on in the
+ * tally. The caller takes the replies out and goes on from that place while it is below file_len. The table rules are tested
+ * once a call. If out_len is below REEL_REPLY_SIZE, every message left is answered REEL_SHORT_SLIP, nothing is laid, and the
+ * place is the file's end.
  */
 size_t reel_replies(uint8_t *tables, size_t tables_len, uint8_t *fast, size_t fast_len, uint8_t *slow, size_t slow_len,
                     const uint8_t *file, size_t file_len, size_t at, uint8_t *out, size_t out_len, uint32_t *tally,
