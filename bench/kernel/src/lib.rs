@@ -1,4 +1,4 @@
-//! The kernel's C functions, the only binding of `libembed.a` in Rust: over lent slices, and behind
+//! The kernel's C functions, the only binding of its library in Rust: over lent slices, and behind
 //! a unit that owns all it lends.
 
 /// How many bytes the tables take. Nothing in Rust looks into them.
@@ -13,7 +13,31 @@ pub const SLIP: usize = 70;
 // A slice passes as pointer and length.
 #[link(name = "embed", kind = "static")]
 extern "C" {
+    fn reel_version() -> u32;
+
     fn reel_fresh(fast: u8, slow: u8, tables: *mut u8, tables_len: usize) -> u8;
+
+    fn reel_rules(
+        tables: *const u8,
+        tables_len: usize,
+        fast: *const u8,
+        fast_len: usize,
+        slow: *const u8,
+        slow_len: usize,
+    ) -> u8;
+
+    fn reel_read(
+        tables: *const u8,
+        tables_len: usize,
+        fast: *const u8,
+        fast_len: usize,
+        slow: *const u8,
+        slow_len: usize,
+        station: u8,
+        page: u8,
+        offset: u8,
+        count: u8,
+    ) -> u32;
 
     fn reel_answer(
         tables: *mut u8,
@@ -42,14 +66,86 @@ extern "C" {
         tally: *mut u32,
         tally_len: usize,
     );
+
+    fn reel_replies(
+        tables: *mut u8,
+        tables_len: usize,
+        fast: *mut u8,
+        fast_len: usize,
+        slow: *mut u8,
+        slow_len: usize,
+        file: *const u8,
+        file_len: usize,
+        at: usize,
+        out: *mut u8,
+        out_len: usize,
+        tally: *mut u32,
+        tally_len: usize,
+        used: *mut usize,
+        used_len: usize,
+    ) -> usize;
 }
 
-// SAFETY, for the three functions below: each pointer comes with its length from a live slice, and
-// the borrow checker keeps the slices lent for writing apart from all others.
+/// A C function with the parameters of `reel_answer`: tables, both stores, the message's or file's
+/// bytes and the reply buffer, each as pointer and length.
+pub type Answering = unsafe extern "C" fn(
+    *mut u8,
+    usize,
+    *mut u8,
+    usize,
+    *mut u8,
+    usize,
+    *const u8,
+    usize,
+    *mut u8,
+    usize,
+) -> u32;
+
+// SAFETY, for all functions below: each pointer comes with its length from a live slice, and the
+// borrow checker keeps the slices lent for writing apart from all others.
+
+/// The version of the library.
+pub fn version() -> u32 {
+    unsafe { reel_version() }
+}
 
 /// Writes fresh tables: 0, or 19; 5 for a buffer of another length than tables have.
 pub fn fresh(fast: u8, slow: u8, tables: &mut [u8]) -> u8 {
     unsafe { reel_fresh(fast, slow, tables.as_mut_ptr(), tables.len()) }
+}
+
+/// Tests tables and stores: 5 where a table rule fails, 6 where a store does not fit, else 0.
+pub fn rules(tables: &[u8], fast: &[u8], slow: &[u8]) -> u8 {
+    unsafe {
+        reel_rules(
+            tables.as_ptr(),
+            tables.len(),
+            fast.as_ptr(),
+            fast.len(),
+            slow.as_ptr(),
+            slow.len(),
+        )
+    }
+}
+
+/// Where the bytes of a read lie: length + 256 * (0 fast, 1 slow) + 65536 * (offset in that store),
+/// or 0 where the read would be refused. The arguments are station, page, offset and count.
+pub fn read(tables: &[u8], fast: &[u8], slow: &[u8], arguments: [u8; 4]) -> u32 {
+    let [station, page, offset, count] = arguments;
+    unsafe {
+        reel_read(
+            tables.as_ptr(),
+            tables.len(),
+            fast.as_ptr(),
+            fast.len(),
+            slow.as_ptr(),
+            slow.len(),
+            station,
+            page,
+            offset,
+            count,
+        )
+    }
 }
 
 /// Answers one message: number + 256 * (length of the reply) + 65536 * (bytes laid).
@@ -60,20 +156,34 @@ pub fn answer(
     message: &[u8],
     out: &mut [u8],
 ) -> u32 {
-    unsafe {
-        reel_answer(
-            tables.as_mut_ptr(),
-            tables.len(),
-            fast.as_mut_ptr(),
-            fast.len(),
-            slow.as_mut_ptr(),
-            slow.len(),
-            message.as_ptr(),
-            message.len(),
-            out.as_mut_ptr(),
-            out.len(),
-        )
-    }
+    unsafe { answer_by(reel_answer, tables, fast, slow, message, out) }
+}
+
+/// What a C function with the parameters of `reel_answer` gives.
+///
+/// # Safety
+///
+/// The function reads and writes nothing but the slices that it is lent, and reads the bytes alone.
+pub unsafe fn answer_by(
+    function: Answering,
+    tables: &mut [u8],
+    fast: &mut [u8],
+    slow: &mut [u8],
+    bytes: &[u8],
+    out: &mut [u8],
+) -> u32 {
+    function(
+        tables.as_mut_ptr(),
+        tables.len(),
+        fast.as_mut_ptr(),
+        fast.len(),
+        slow.as_mut_ptr(),
+        slow.len(),
+        bytes.as_ptr(),
+        bytes.len(),
+        out.as_mut_ptr(),
+        out.len(),
+    )
 }
 
 /// Runs a whole call file; a tally of another length than 3 is left alone.
@@ -103,6 +213,50 @@ pub fn run(
     }
 }
 
+/// What a run that keeps its replies has reached.
+#[derive(Clone, Copy, Debug, PartialEq, Eq)]
+pub struct Reached {
+    /// The place of the file after the last message answered.
+    pub at: usize,
+    /// How many bytes of the reply buffer the replies take.
+    pub used: usize,
+}
+
+/// Runs a call file from a place on, reply after reply, until the file ends or fewer than 70 bytes
+/// of the reply buffer are left. In a buffer below 70 every message is answered 18, to the file's
+/// end. A tally of another length than 3 is left alone.
+pub fn replies(
+    tables: &mut [u8],
+    fast: &mut [u8],
+    slow: &mut [u8],
+    file: &[u8],
+    at: usize,
+    out: &mut [u8],
+    tally: &mut [u32],
+) -> Reached {
+    let mut used = 0;
+    let at = unsafe {
+        reel_replies(
+            tables.as_mut_ptr(),
+            tables.len(),
+            fast.as_mut_ptr(),
+            fast.len(),
+            slow.as_mut_ptr(),
+            slow.len(),
+            file.as_ptr(),
+            file.len(),
+            at,
+            out.as_mut_ptr(),
+            out.len(),
+            tally.as_mut_ptr(),
+            tally.len(),
+            &mut used,
+            1,
+        )
+    };
+    Reached { at, used }
+}
+
 /// A tracking unit: all that a caller lends to the kernel.
 #[derive(Clone)]
 pub struct Unit {
@@ -110,7 +264,7 @@ pub struct Unit {
     pub fast: Vec<u8>,
     pub slow: Vec<u8>,
     pub out: Vec<u8>,
-    /// Messages, refusals and bytes laid, as `run` counts them.
+    /// Messages, refusals and bytes laid, as `run` and `replies` count them.
     pub tally: [u32; 3],
 }
 
@@ -148,6 +302,25 @@ impl Unit {
         }
     }
 
+    /// 0 where the tables keep the rules and the stores fit them, else 5 or 6.
+    pub fn rules(&self) -> u8 {
+        rules(&self.tables, &self.fast, &self.slow)
+    }
+
+    /// The bytes of a read where they lie, in the fast store or in the slow one; None where the
+    /// read would be refused.
+    pub fn read(&self, station: u8, page: u8, offset: u8, count: u8) -> Option<&[u8]> {
+        let arguments = [station, page, offset, count];
+        let place = read(&self.tables, &self.fast, &self.slow, arguments);
+        let [length, store, from @ ..] = place.to_le_bytes();
+        let store = match store {
+            0 => &self.fast,
+            _ => &self.slow,
+        };
+        let from = usize::from(u16::from_le_bytes(from));
+        (length != 0).then(|| &store[from..][..usize::from(length)])
+    }
+
     /// Answers one message, its length first.
     pub fn answer(&mut self, message: &[u8]) -> Answer<'_> {
         let packed = answer(
@@ -165,7 +338,7 @@ impl Unit {
         }
     }
 
-    /// Runs a call file; the rules are tested once.
+    /// Runs a call file; the rules are tested once. The buffer has the last reply.
     pub fn run(&mut self, file: &[u8]) {
         run(
             &mut self.tables,
@@ -176,11 +349,48 @@ impl Unit {
             &mut self.tally,
         );
     }
+
+    /// Runs a call file and keeps its replies: hands them over whenever the reply buffer is full,
+    /// and at the end.
+    pub fn replies(&mut self, file: &[u8], mut keep: impl FnMut(&[u8])) {
+        let mut at = 0;
+        while at < file.len() {
+            let reached = replies(
+                &mut self.tables,
+                &mut self.fast,
+                &mut self.slow,
+                file,
+                at,
+                &mut self.out,
+                &mut self.tally,
+            );
+            keep(&self.out[..reached.used]);
+            at = reached.at;
+        }
+    }
 }
 
 #[cfg(test)]
 mod tests {
     use super::{Answer, Unit};
+
+    /// The worked example of document 01, and its replies.
+    const FILE: [&[u8]; 6] = [
+        &[0, 4, 1, 1, 3, 5],
+        &[0, 5, 1, 6, 5, 0, 0],
+        &[0, 4, 1, 8, 5, 0],
+        &[0, 7, 1, 5, 3, 5, 0, 0x41, 0x37],
+        &[0, 6, 1, 4, 3, 5, 0, 3],
+        &[0, 3, 1, 10, 5],
+    ];
+    const REPLIES: [&[u8]; 6] = [
+        &[0, 4, 1, 0, 0, 0],
+        &[0, 4, 1, 0, 0, 64],
+        &[0, 4, 1, 0, 0, 0],
+        &[0, 4, 1, 0, 0, 2],
+        &[0, 7, 1, 0, 0, 0, 0x41, 0x37, 0],
+        &[0, 8, 1, 0, 0, 0, 1, 0, 1, 1],
+    ];
 
     #[test]
     fn a_look_at_a_new_page() {
@@ -203,5 +413,49 @@ mod tests {
     #[test]
     fn too_many_frames() {
         assert_eq!(Unit::fresh(128, 0).err(), Some(19));
+    }
+
+    #[test]
+    fn every_reply_in_buffers_of_any_length() {
+        for (length, parts) in [(70, 6), (76, 3), (82, 2), (1000, 1)] {
+            let mut unit = Unit::fresh(4, 4).unwrap();
+            unit.out = vec![0xAA; length];
+            let mut kept = Vec::new();
+            unit.replies(&FILE.concat(), |part| kept.push(part.to_vec()));
+            assert_eq!(kept.len(), parts, "in {length} bytes");
+            assert_eq!(kept.concat(), REPLIES.concat());
+            assert_eq!(unit.tally, [6, 0, 66]);
+        }
+        let mut unit = Unit::fresh(4, 4).unwrap();
+        unit.out = vec![0xAA; 69];
+        unit.replies(&FILE.concat(), |part| assert_eq!(part, []));
+        assert_eq!((unit.tally, unit.out), ([6, 6, 0], vec![0xAA; 69]));
+    }
+
+    #[test]
+    fn a_read_where_the_bytes_lie() {
+        let mut unit = Unit::fresh(1, 2).unwrap();
+        for message in FILE {
+            unit.answer(message);
+        }
+        assert_eq!(unit.read(3, 5, 0, 3), Some(&[0x41, 0x37, 0][..]));
+        assert_eq!(unit.read(3, 5, 1, 1).unwrap().as_ptr(), &unit.fast[1]);
+        assert_eq!(unit.read(4, 5, 0, 3), None);
+        // The same bytes on the second slow frame.
+        for message in [&[0, 5, 1, 6, 5, 0, 2][..], &[0, 4, 1, 7, 5, 0], FILE[2]] {
+            assert_eq!(unit.answer(message).number, 0);
+        }
+        assert_eq!(unit.read(3, 5, 1, 63).unwrap().as_ptr(), &unit.slow[65]);
+        assert_eq!(unit.read(3, 5, 0, 2), Some(&[0x41, 0x37][..]));
+    }
+
+    #[test]
+    fn the_test_of_tables_and_stores() {
+        let mut unit = Unit::fresh(4, 4).unwrap();
+        assert_eq!(unit.rules(), 0);
+        unit.slow.pop();
+        assert_eq!(unit.rules(), 6);
+        unit.tables[0] = 128;
+        assert_eq!(unit.rules(), 5);
     }
 }

@@ -6,8 +6,8 @@ use ::model::flat::Demand3;
 use ::model::gen::{self, Moves, Rng};
 use ::model::kernel::{packed, Kernel, Modelled};
 use ::model::model::{
-    self, frame_bytes, Answer, Call, Lent, Page, Reader, Tables, ENTRIES, FRAME, NO_FRAME, RAW,
-    RECORD, STATIONS,
+    self, frame_bytes, Answer, Call, Lent, Page, Reached, Reader, Tables, ENTRIES, FRAME, NO_FRAME,
+    RAW, RECORD, STATIONS,
 };
 
 /// One message answered by the model, to be spoiled.
@@ -29,6 +29,14 @@ enum Flaw {
     Tally(fn(&mut [u32], Answer)),
     /// Spoils fresh tables of too many frames.
     Fresh(fn(&mut [u8]) -> u8),
+    /// Spoils the tables that a run leaves.
+    Run(fn(&mut [u8])),
+    /// Keeps the replies of a file in its own way.
+    Replies(fn(&mut Lent, &[u8], usize, &mut [u32]) -> Reached),
+    /// Gives another number where the tables are tested.
+    Rules(fn(u8) -> u8),
+    /// Gives another place of a read.
+    Read(fn(&Lent, u32) -> u32),
 }
 
 struct Mutant(Flaw);
@@ -63,6 +71,31 @@ impl Kernel for Mutant {
             tally[0] = tally[0].saturating_add(1);
             tally[1] = tally[1].saturating_add((answer.number != 0).into());
             tally[2] = tally[2].saturating_add(answer.laid as u32);
+        }
+        if let Flaw::Run(spoil) = self.0 {
+            spoil(&mut lent.tables);
+        }
+    }
+
+    fn replies(&self, lent: &mut Lent, file: &[u8], at: usize, tally: &mut [u32]) -> Reached {
+        match self.0 {
+            Flaw::Replies(replies) => replies(lent, file, at, tally),
+            _ => Modelled.replies(lent, file, at, tally),
+        }
+    }
+
+    fn rules(&self, lent: &Lent) -> u8 {
+        match self.0 {
+            Flaw::Rules(other) => other(Modelled.rules(lent)),
+            _ => Modelled.rules(lent),
+        }
+    }
+
+    fn read(&self, lent: &Lent, arguments: [u8; 4]) -> u32 {
+        let place = Modelled.read(lent, arguments);
+        match self.0 {
+            Flaw::Read(other) => other(lent, place),
+            _ => place,
         }
     }
 }
@@ -168,8 +201,41 @@ fn records(tables: &mut [u8]) -> std::slice::ChunksMut<'_, u8> {
     tables[2..].chunks_mut(RECORD)
 }
 
+/// Makes marks of 1 of all that are not 0, in tables of any length.
+fn even_marks(tables: &mut [u8]) {
+    if tables.len() == RAW {
+        for record in records(tables) {
+            used(record).for_each(|entry| entry[1..].iter_mut().for_each(|m| *m = (*m).min(1)));
+        }
+    }
+}
+
+/// The replies of a part that goes on while so many bytes of the buffer are left; a message that
+/// finds fewer than 70 is answered 18.
+fn replies_in(least: usize, lent: &mut Lent, file: &[u8], at: usize, tally: &mut [u32]) -> Reached {
+    let mut filled = std::mem::take(&mut lent.out);
+    let (length, mut reached) = (filled.len(), Reached { at, used: 0 });
+    for message in Reader::at(file, at) {
+        if length >= 70 && length - reached.used < least {
+            break;
+        }
+        lent.out = filled.split_off(reached.used);
+        let answer = Modelled.answer(lent, message);
+        filled.append(&mut lent.out);
+        if let [messages, refusals, laid] = tally {
+            *messages = messages.saturating_add(1);
+            *refusals = refusals.saturating_add(u32::from(answer % 256 != 0));
+            *laid = laid.saturating_add(answer / 65536);
+        }
+        reached.at += message.len();
+        reached.used += answer as usize / 256 % 256;
+    }
+    lent.out = filled;
+    reached
+}
+
 /// The wrong kernels.
-const MUTANTS: [(&str, Flaw); 58] = [
+const MUTANTS: [(&str, Flaw); 76] = [
     // The traps of the paper.
     (
         "a new copy takes its source's CURRENT mark",
@@ -704,6 +770,24 @@ const MUTANTS: [(&str, Flaw); 58] = [
             }
         }),
     ),
+    ("any mark but 0 let pass", Flaw::Mend(even_marks)),
+    (
+        "any CURRENT mark but 0 let pass",
+        Flaw::Mend(|tables| {
+            for record in records(tables) {
+                used(record).for_each(|entry| entry[1] = entry[1].min(1));
+            }
+        }),
+    ),
+    (
+        "a refused message puts marks back as 1",
+        Flaw::Answer(|turn| {
+            if turn.answer.number != 0 {
+                even_marks(&mut turn.after.tables);
+            }
+        }),
+    ),
+    ("a run puts marks back as 1", Flaw::Run(even_marks)),
     // Runs, tallies, fresh tables.
     (
         "a cut end passed over",
@@ -746,6 +830,106 @@ const MUTANTS: [(&str, Flaw); 58] = [
             tables[..2].fill(127);
             19
         }),
+    ),
+    // Runs that keep their replies.
+    (
+        "a part stops with 70 bytes left",
+        Flaw::Replies(|lent, file, at, tally| replies_in(71, lent, file, at, tally)),
+    ),
+    (
+        "a part goes on with 69 bytes left",
+        Flaw::Replies(|lent, file, at, tally| replies_in(69, lent, file, at, tally)),
+    ),
+    (
+        "a part begins at the file's start",
+        Flaw::Replies(|lent, file, _, tally| Modelled.replies(lent, file, 0, tally)),
+    ),
+    (
+        "a part tells the place before its last message",
+        Flaw::Replies(|lent, file, at, tally| {
+            let reached = Modelled.replies(lent, file, at, tally);
+            let messages = Reader::at(&file[..reached.at.min(file.len())], at);
+            let last = messages.last().map_or(0, <[u8]>::len);
+            Reached {
+                at: reached.at - last,
+                ..reached
+            }
+        }),
+    ),
+    (
+        "a part beyond the end tells the end",
+        Flaw::Replies(|lent, file, at, tally| {
+            let mut reached = Modelled.replies(lent, file, at, tally);
+            reached.at = reached.at.min(file.len());
+            reached
+        }),
+    ),
+    (
+        "a part counts the whole buffer as used",
+        Flaw::Replies(|lent, file, at, tally| Reached {
+            used: lent.out.len(),
+            ..Modelled.replies(lent, file, at, tally)
+        }),
+    ),
+    (
+        "a part wipes the buffer behind its replies",
+        Flaw::Replies(|lent, file, at, tally| {
+            let reached = Modelled.replies(lent, file, at, tally);
+            lent.out[reached.used..].fill(0);
+            reached
+        }),
+    ),
+    (
+        "a part in a short buffer stops where it began",
+        Flaw::Replies(|lent, file, at, tally| {
+            if lent.out.len() < 70 {
+                return Reached { at, used: 0 };
+            }
+            Modelled.replies(lent, file, at, tally)
+        }),
+    ),
+    (
+        "a part counts anew",
+        Flaw::Replies(|lent, file, at, tally| {
+            if tally.len() == 3 {
+                tally.fill(0);
+            }
+            Modelled.replies(lent, file, at, tally)
+        }),
+    ),
+    (
+        "a part passes over a cut end",
+        Flaw::Replies(|lent, file, at, tally| {
+            let messages = Reader::at(file, at);
+            let cut = messages
+                .last()
+                .filter(|last| Call::decode(last) == Err(model::Refusal::CutShort));
+            let end = file.len() - cut.map_or(0, <[u8]>::len);
+            Modelled.replies(lent, &file[..end], at, tally)
+        }),
+    ),
+    (
+        "a part's replies go to the front",
+        Flaw::Replies(|lent, file, at, tally| {
+            let reached = Modelled.replies(lent, file, at, tally);
+            if reached.used > 6 {
+                lent.out.copy_within(reached.used - 6..reached.used, 0);
+            }
+            reached
+        }),
+    ),
+    // The test of the tables, and the read as a place.
+    (
+        "misfit stores pass the test of the tables",
+        Flaw::Rules(|number| if number == 6 { 0 } else { number }),
+    ),
+    (
+        "the place of a read in the other store",
+        Flaw::Read(|_, place| if place == 0 { 0 } else { place ^ 256 }),
+    ),
+    (
+        "the place of a read refused for a short buffer",
+        Flaw::Read(|lent, place| if lent.out.len() < 70 { 0 } else { place }),
     ),
 ];
 
