@@ -99,12 +99,14 @@ impl Compare<'_> {
         Ok(())
     }
 
-    /// The test of the tables, and the message as a read that needs no reply buffer.
-    fn looks(&self, lent: &Lent, bytes: &[u8]) -> String {
+    /// Now and then the test of the tables, and the message as a read that needs no reply buffer.
+    fn looks(&mut self, lent: &Lent, bytes: &[u8]) -> String {
         let mut difference = String::new();
-        let (given, due) = (self.kernel.rules(lent), Modelled.rules(lent));
-        if given != due {
-            difference += &format!("\n  test of the tables: kernel {given}, model {due}");
+        if self.rng.once_in(8) {
+            let (given, due) = (self.kernel.rules(lent), Modelled.rules(lent));
+            if given != due {
+                difference += &format!("\n  test of the tables: kernel {given}, model {due}");
+            }
         }
         if let [_, _, 1, 4, station, page, offset, count] = *bytes {
             let arguments = [station, page, offset, count];
