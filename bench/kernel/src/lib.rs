@@ -17,14 +17,7 @@ extern "C" {
 
     fn reel_fresh(fast: u8, slow: u8, tables: *mut u8, tables_len: usize) -> u8;
 
-    fn reel_rules(
-        tables: *const u8,
-        tables_len: usize,
-        fast: *const u8,
-        fast_len: usize,
-        slow: *const u8,
-        slow_len: usize,
-    ) -> u8;
+    fn reel_rules(tables: *const u8, tables_len: usize, fast: usize, slow: usize) -> u8;
 
     fn reel_read(
         tables: *const u8,
@@ -104,7 +97,7 @@ pub type Answering = unsafe extern "C" fn(
 // SAFETY, for all functions below: each pointer comes with its length from a live slice, and the
 // borrow checker keeps the slices lent for writing apart from all others.
 
-/// The version of the library.
+/// The version of the library: 65536 * major + 256 * minor + patch.
 pub fn version() -> u32 {
     unsafe { reel_version() }
 }
@@ -114,18 +107,10 @@ pub fn fresh(fast: u8, slow: u8, tables: &mut [u8]) -> u8 {
     unsafe { reel_fresh(fast, slow, tables.as_mut_ptr(), tables.len()) }
 }
 
-/// Tests tables and stores: 5 where a table rule fails, 6 where a store does not fit, else 0.
-pub fn rules(tables: &[u8], fast: &[u8], slow: &[u8]) -> u8 {
-    unsafe {
-        reel_rules(
-            tables.as_ptr(),
-            tables.len(),
-            fast.as_ptr(),
-            fast.len(),
-            slow.as_ptr(),
-            slow.len(),
-        )
-    }
+/// Tests tables with stores of so many bytes: 5 where a table rule fails, 6 where a store does not
+/// fit, else 0.
+pub fn rules(tables: &[u8], fast: usize, slow: usize) -> u8 {
+    unsafe { reel_rules(tables.as_ptr(), tables.len(), fast, slow) }
 }
 
 /// Where the bytes of a read lie: length + 256 * (0 fast, 1 slow) + 65536 * (offset in that store),
@@ -304,7 +289,7 @@ impl Unit {
 
     /// 0 where the tables keep the rules and the stores fit them, else 5 or 6.
     pub fn rules(&self) -> u8 {
-        rules(&self.tables, &self.fast, &self.slow)
+        rules(&self.tables, self.fast.len(), self.slow.len())
     }
 
     /// The bytes of a read where they lie, in the fast store or in the slow one; None where the

@@ -16,26 +16,23 @@ pub struct Case {
     pub replies: &'static [&'static str],
 }
 
-/// The worked example.
-pub const EXAMPLE: Case = Case {
-    name: "the worked example",
-    calls: &[
-        "create 3 5",
-        "copy 5 0 0",
-        "current 5 0",
-        "write 3 5 0 41 37",
-        "read 3 5 0 3",
-        "look-page 5",
-    ],
-    replies: &[
-        DONE,
-        COPIED,
-        DONE,
-        "00 04 01 00 00 02",
-        "00 07 01 00 00 00 41 37 00",
-        "00 08 01 00 00 00 01 00 01 01",
-    ],
-};
+/// The calls of the worked example, and their replies.
+pub const CALLS: [&str; 6] = [
+    "create 3 5",
+    "copy 5 0 0",
+    "current 5 0",
+    "write 3 5 0 41 37",
+    "read 3 5 0 3",
+    "look-page 5",
+];
+pub const REPLIES: [&str; 6] = [
+    DONE,
+    COPIED,
+    DONE,
+    "00 04 01 00 00 02",
+    "00 07 01 00 00 00 41 37 00",
+    "00 08 01 00 00 00 01 00 01 01",
+];
 
 /// Accepted, nothing laid and nothing told.
 const DONE: &str = "00 04 01 00 00 00";
@@ -154,13 +151,7 @@ pub const EXPOSING: [Case; 13] = [
             "delete-copy 5 0",
             "delete-copy 5 1",
         ],
-        replies: &[
-            COPIED,
-            "00 04 01 00 00 01",
-            DONE,
-            "00 04 01 0F 00 00",
-            DONE,
-        ],
+        replies: &[COPIED, "00 04 01 00 00 01", DONE, "00 04 01 0F 00 00", DONE],
     },
     Case {
         name: "a free frame's old bytes taken for zeros",
@@ -219,19 +210,28 @@ pub const EXPOSING: [Case; 13] = [
     },
 ];
 
+/// The bytes of a line.
+pub fn bytes(line: &str) -> Vec<u8> {
+    lines::bytes(line).expect("a line of words")
+}
+
+/// The call file of the worked example.
+pub fn example() -> Vec<u8> {
+    CALLS.map(bytes).concat()
+}
+
 impl Case {
     /// The call file, the worked example before it.
     pub fn file(&self) -> Vec<u8> {
-        let calls = EXAMPLE.calls.iter().chain(self.calls);
-        let bytes = calls.map(|line| lines::bytes(line).expect("a line of words"));
-        bytes.collect::<Vec<_>>().concat()
+        let calls = self.calls.iter().flat_map(|line| bytes(line));
+        example().into_iter().chain(calls).collect()
     }
 
     /// The whole list of its replies.
     pub fn replies(&self) -> Vec<Vec<u8>> {
-        let replies = EXAMPLE.replies.iter().chain(self.replies);
+        let replies = REPLIES.iter().chain(self.replies);
         replies
-            .map(|reply| lines::bytes(&format!("raw {reply}")).expect("hexadecimal bytes"))
+            .map(|reply| bytes(&format!("raw {reply}")))
             .collect()
     }
 }

@@ -111,7 +111,7 @@ impl Kernel for Embedded {
     }
 
     fn rules(&self, lent: &Lent) -> u8 {
-        kernel::rules(&lent.tables, &lent.fast, &lent.slow)
+        kernel::rules(&lent.tables, lent.fast.len(), lent.slow.len())
     }
 
     fn read(&self, lent: &Lent, arguments: [u8; 4]) -> u32 {
