@@ -1,47 +1,76 @@
--- Tables in lent bytes: those that are put back are found by the next call, and bytes of another length are broken tables.
+-- Tables in lent bytes: those that are put back are found by the next call, and bytes that hold none are broken tables.
 use Prim.Native.Nat.{ℕ}
-use mathlib.Core.Bool.{true, false, not, cond}
-use mathlib.Core.List.{List}
-use mathlib.Core.Path.{_≡_, refl, sym}
-use lib.Dec.{eqb}
-use borrow.Author.Tests.{eq-eqb, not-true}
+use mathlib.Core.Bool.{Bool, true, false, cond, false≢true}
+use mathlib.Core.List.{List, [], _∷_}
+use mathlib.Core.Path.{_≡_, refl}
+use borrow.Author.Tests.{eq-eqb}
 use Rattle.tables.specs.declared.Tables.{Tables}
 use Rattle.tables.specs.Model.{freshTables}
-use Rattle.tables.specs.Numbers.{accepted, brokenTables}
+use Rattle.tables.specs.Lists.{all}
+use Rattle.tables.specs.Numbers.{brokenTables}
 use Rattle.tables.specs.Rules.{sound}
+use Rattle.tables.proofs.ListLaws.{and-left, and-right, and-intro}
 use Rattle.tables.proofs.RuleLaws.{sound-of}
 use Rattle.steps.specs.declared.Call.{Call}
-use Rattle.steps.specs.Steps.{Outcome, refuse, accept, numberOf}
+use Rattle.steps.specs.Steps.{Outcome, refuse, accept}
 use Rattle.steps.specs.Effects.{State, Result, step, left}
 use Rattle.messages.specs.Replies.{isRefusal}
-use Rattle.embed.specs.Bytes.{tablesSize, tablesBytes}
-use Rattle.embed.specs.Exports.{tablesSized, noTables, tablesOf, withTables, lentState, leftIn}
-use Rattle.embed.proofs.RoundTrip.{bytes-length, sound-shaped, sound-from-bytes}
+use Rattle.messages.specs.Run.{Sent, Turn, answer, turnsOf, endOf, messagesOf, run}
+use Rattle.embed.specs.Bytes.{tablesSize, tablesBytes, tablesFrom}
+use Rattle.embed.specs.Exports.{tablesIn, noTables, tablesOf, withTables, lentState, leftIn, allRefused}
+use Rattle.embed.proofs.RoundTrip.{bytes-length, bytes-marked, sound-shaped, sound-from-bytes}
+use Rattle.embed.proofs.WayBack.{tables-same}
 
--- the bytes of sound tables are as many as tables take
-sized : (t : Tables) → sound t ≡ true → tablesSized (tablesBytes t) ≡ true
-sized t e = eq-eqb _ tablesSize (bytes-length t (sound-of t e .pages-long) (sound-shaped t e))
+-- the bytes of sound tables hold tables
+laid-in : (t : Tables) → sound t ≡ true → tablesIn (tablesBytes t) ≡ true
+laid-in t e =
+    let n = sound-of t e .pages-long in
+    let h = sound-shaped t e in
+    and-intro (eq-eqb _ tablesSize (bytes-length t n h)) (bytes-marked t n h)
 
 -- the next call finds the tables that this one left
-pub found-again : (b : List ℕ) (t : Tables) → tablesSized b ≡ true → sound t ≡ true → tablesOf (withTables b t) ≡ t
-found-again b t z e = rw (z, sized t e) (sound-from-bytes t e)
+pub found-again : (b : List ℕ) (t : Tables) → tablesIn b ≡ true → sound t ≡ true → tablesOf (withTables b t) ≡ t
+found-again b t z e = rw z (rw (laid-in t e) (sound-from-bytes t e))
 
--- sound tables that no message changed are put back as the bytes they were
-pub put-back-same : (b : List ℕ) (t : Tables) → sound t ≡ true → b ≡ tablesBytes t → withTables b (tablesOf b) ≡ b
-put-back-same b t e q = rw (q, sized t e, sound-from-bytes t e)
+-- the tables that were there, put back, leave every byte, whatever the bytes are
+pub put-back-same : (b : List ℕ) → withTables b (tablesOf b) ≡ b
+put-back-same b = at-most (tablesIn b) refl
+  where
+    at-most : (h : Bool) → tablesIn b ≡ h → cond h (tablesBytes (cond h (tablesFrom b) noTables)) b ≡ b
+    at-most true e = tables-same b e
+    at-most false e = refl
 
--- told by the number, as the code does
-pub left-in : (b : List ℕ) (s : State) (o : Outcome Result) → isRefusal o ≡ not (eqb (numberOf o) 0)
-    → cond (eqb (numberOf o) accepted) (withTables b (left s o .tables)) b ≡ leftIn b o
-left-in b s (refuse n) e = rw (not-true (eqb n 0) (sym e))
-left-in b s (accept r) e = refl
+-- what a message leaves of the tables, put back: a refusal leaves every byte
+pub left-in : (b fast slow : List ℕ) (o : Outcome Result) → withTables b (left (lentState b fast slow) o .tables) ≡ leftIn b o
+left-in b fast slow (refuse n) = put-back-same b
+left-in b fast slow (accept r) = refl
 
 no-tables-broken : sound noTables ≡ false
 unfolding sound freshTables
 no-tables-broken = refl
 
--- a call on bytes of another length is refused with 5
-pub lent-broken : (b fast slow : List ℕ) (c : Call) (bs : List ℕ) → tablesSized b ≡ false
+-- a call on bytes that hold no tables is refused with 5
+pub lent-broken : (b fast slow : List ℕ) (c : Call) (bs : List ℕ) → tablesIn b ≡ false
     → step (lentState b fast slow) c bs ≡ refuse brokenTables
 unfolding step
 lent-broken b fast slow c bs z = rw (z, no-tables-broken)
+
+-- ---- refused runs
+
+left-refused : (s : State) (o : Outcome Result) → isRefusal o ≡ true → left s o ≡ s
+left-refused s (refuse n) e = refl
+left-refused s (accept r) e = absurd (false≢true e)
+
+refused-end : (room : ℕ) (s : State) (xs : List Sent) → all (λ (t : Turn). isRefusal (t .outcome)) (turnsOf room s xs) ≡ true
+    → endOf room s xs ≡ s
+unfolding all turnsOf endOf
+refused-end room s [] e = refl
+refused-end room s (x ∷ xs) e =
+    let o = answer room s x in
+    let l = left-refused s o (and-left (isRefusal o) _ e) in
+    rw l (refused-end room s xs (rw l at (and-right (isRefusal o) _ e)))
+
+-- a run of which every message was refused, or whose file is empty, leaves every byte of the tables, whatever they were
+pub refused-run : (room : ℕ) (file b fast slow : List ℕ) → allRefused (run room file (lentState b fast slow)) ≡ true
+    → withTables b (run room file (lentState b fast slow) .final .tables) ≡ b
+refused-run room file b fast slow e = rw (refused-end room (lentState b fast slow) (messagesOf file) e) (put-back-same b)

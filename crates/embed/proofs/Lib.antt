@@ -1,4 +1,5 @@
 pub mod LayLaws
 pub mod FromLaws
 pub mod RoundTrip
+pub mod WayBack
 pub mod LentLaws

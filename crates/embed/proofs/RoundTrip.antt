@@ -1,4 +1,4 @@
--- Tables laid out take tablesSize bytes, and read back they are the same tables.
+-- Tables laid out take tablesSize bytes with each mark 0 or 1, and read back they are the same tables.
 use Prim.Native.Nat.{ℕ, zero, suc, _+_, _*_, _<_, suc-le-suc, zero-le}
 use mathlib.Core.Bool.{Bool, true, false}
 use mathlib.Core.Path.{_≡_, refl, sym, ap₂, _∙_}
@@ -15,20 +15,21 @@ use Rattle.tables.specs.declared.Tables.{Tables}
 use Rattle.tables.specs.Lists.{all}
 use Rattle.tables.specs.Model.{frames, pageAt, noCopyEntry, noPageRecord}
 use Rattle.tables.specs.Rules.{shaped, pageRule, sound}
-use Rattle.tables.proofs.ListLaws.{and-left, and-right, all-at, all-of}
+use Rattle.tables.proofs.ListLaws.{and-left, and-right, and-intro, all-at, all-of}
 use Rattle.tables.proofs.RuleLaws.{sound-of}
-use Rattle.embed.specs.Bytes.{pageSize, tablesSize, markByte, markFrom, copyBytes, pageBytes, tablesBytes, fromEach, copyFrom, pageFrom, tablesFrom}
+use Rattle.embed.specs.Bytes.{pageSize, tablesSize, markByte, markFrom, isMark, copyBytes, pageBytes, tablesBytes, fromEach, copyFrom, pageFrom, tablesFrom, eachIs, copyMarked, pageMarked, marked}
 
 -- ---- values of one size in a row
 
--- x takes `size` bytes, and is read back from them whatever follows
-pub record Kept {A : Type 0} (size : ℕ) (to : A → List ℕ) (from : List ℕ → A) (x : A) : Type 0 where
+-- x takes `size` bytes, and they pass a test and x is read back from them whatever follows
+pub record Kept {A : Type 0} (size : ℕ) (to : A → List ℕ) (from : List ℕ → A) (test : List ℕ → Bool) (x : A) : Type 0 where
   pub long : length (to x) ≡ size
   pub back : (rest : List ℕ) → from (to x ++ rest) ≡ x
+  pub passed : (rest : List ℕ) → test (to x ++ rest) ≡ true
 
-module _ {A : Type 0} (size : ℕ) (to : A → List ℕ) (from : List ℕ → A) (d : A) where
+module _ {A : Type 0} (size : ℕ) (to : A → List ℕ) (from : List ℕ → A) (test : List ℕ → Bool) (d : A) where
   -- their length
-  pub row-length : (l : List A) → ((i : ℕ) → i < length l → Kept size to from (getD l i d)) → length (flatMap to l) ≡ size * length l
+  pub row-length : (l : List A) → ((i : ℕ) → i < length l → Kept size to from test (getD l i d)) → length (flatMap to l) ≡ size * length l
   unfolding flatMap
   row-length [] k = sym (mul-zero size)
   row-length (x ∷ xs) k =
@@ -36,7 +37,7 @@ module _ {A : Type 0} (size : ℕ) (to : A → List ℕ) (from : List ℕ → A)
       (omega arith)
 
   -- read back, whatever follows
-  pub row-back : (l : List A) (rest : List ℕ) → ((i : ℕ) → i < length l → Kept size to from (getD l i d))
+  pub row-back : (l : List A) (rest : List ℕ) → ((i : ℕ) → i < length l → Kept size to from test (getD l i d))
       → fromEach (length l) size from (flatMap to l ++ rest) ≡ l
   unfolding flatMap fromEach
   row-back [] rest k = refl
@@ -46,18 +47,38 @@ module _ {A : Type 0} (size : ℕ) (to : A → List ℕ) (from : List ℕ → A)
       rw (append-assoc (to x) (flatMap to xs) rest, drop-at (to x) more size (h .long))
       (ap₂ (λ (y : A) (ys : List A). y ∷ ys) (h .back more) (row-back xs rest (λ i j. k (suc i) (suc-le-suc j))))
 
+  -- the test passed at each
+  pub row-passed : (l : List A) (rest : List ℕ) → ((i : ℕ) → i < length l → Kept size to from test (getD l i d))
+      → eachIs (length l) size test (flatMap to l ++ rest) ≡ true
+  unfolding flatMap eachIs
+  row-passed [] rest k = refl
+  row-passed (x ∷ xs) rest k =
+      let h = k zero (suc-le-suc zero-le) in
+      let more = flatMap to xs ++ rest in
+      rw (append-assoc (to x) (flatMap to xs) rest, drop-at (to x) more size (h .long))
+      (and-intro (h .passed more) (row-passed xs rest (λ i j. k (suc i) (suc-le-suc j))))
+
 -- ---- an entry, a page, the tables
 
 mark-back : (b : Bool) → markFrom (markByte b) ≡ b
 mark-back true = refl
 mark-back false = refl
 
-copy-kept : (c : Copy) → Kept 3 copyBytes copyFrom c
-copy-kept c = record { long = refl; back = λ rest. rw (mark-back (c .current), mark-back (c .recent)) }
+mark-passed : (b : Bool) → isMark (markByte b) ≡ true
+mark-passed true = refl
+mark-passed false = refl
+
+copy-kept : (c : Copy) → Kept 3 copyBytes copyFrom copyMarked c
+copy-kept c =
+    record {
+      long = refl;
+      back = λ rest. rw (mark-back (c .current), mark-back (c .recent));
+      passed = λ rest. and-intro (mark-passed (c .current)) (mark-passed (c .recent));
+    }
 
 module _ (g : Page) (rights-long : length (g .rights) ≡ 16) (copies-long : length (g .copies) ≡ 8) where
   pub copies-length : length (flatMap copyBytes (g .copies)) ≡ 24
-  copies-length = row-length 3 copyBytes copyFrom noCopyEntry (g .copies) (λ i h. copy-kept _) ∙ rw copies-long
+  copies-length = row-length 3 copyBytes copyFrom copyMarked noCopyEntry (g .copies) (λ i h. copy-kept _) ∙ rw copies-long
 
   pub page-length : length (pageBytes g) ≡ pageSize
   unfolding pageBytes
@@ -76,32 +97,47 @@ module _ (g : Page) (rights-long : length (g .rights) ≡ 16) (copies-long : len
       let cs = flatMap copyBytes (g .copies) in
       let end = g .owner ∷ g .n ∷ rest in
       let e : pageBytes g ++ rest ≡ g .rights ++ (cs ++ end) = simp append-assoc in
-      let back = row-back 3 copyBytes copyFrom noCopyEntry (g .copies) end (λ i h. copy-kept _) in
+      let back = row-back 3 copyBytes copyFrom copyMarked noCopyEntry (g .copies) end (λ i h. copy-kept _) in
       let copies : fromEach 8 3 copyFrom (cs ++ end) ≡ g .copies = rw copies-long at back in
       let r = take-at (g .rights) (cs ++ end) 16 rights-long in
       let d = drop-at (g .rights) (cs ++ end) 16 rights-long in
       rw (e, r, d, copies, behind end 0, behind end 1)
 
-page-kept : (g : Page) → shaped g ≡ true → Kept pageSize pageBytes pageFrom g
+  page-passed : (rest : List ℕ) → pageMarked (pageBytes g ++ rest) ≡ true
+  unfolding pageBytes pageMarked
+  page-passed rest =
+      let cs = flatMap copyBytes (g .copies) in
+      let end = g .owner ∷ g .n ∷ rest in
+      let e : pageBytes g ++ rest ≡ g .rights ++ (cs ++ end) = simp append-assoc in
+      let passed = row-passed 3 copyBytes copyFrom copyMarked noCopyEntry (g .copies) end (λ i h. copy-kept _) in
+      rw (e, drop-at (g .rights) (cs ++ end) 16 rights-long) (rw copies-long at passed)
+
+page-kept : (g : Page) → shaped g ≡ true → Kept pageSize pageBytes pageFrom pageMarked g
 page-kept g e =
     let r = eqb-true (length (g .rights)) 16 (and-left _ _ e) in
     let c = eqb-true (length (g .copies)) 8 (and-right (eqb (length (g .rights)) 16) _ e) in
-    record { long = page-length g r c; back = page-back g r c }
+    record { long = page-length g r c; back = page-back g r c; passed = page-passed g r c }
 
 module _ (t : Tables) (pages-long : length (t .pages) ≡ 64) (pages-shaped : all shaped (t .pages) ≡ true) where
-  pages-kept : (p : ℕ) → p < length (t .pages) → Kept pageSize pageBytes pageFrom (getD (t .pages) p noPageRecord)
+  pages-kept : (p : ℕ) → p < length (t .pages) → Kept pageSize pageBytes pageFrom pageMarked (getD (t .pages) p noPageRecord)
   pages-kept p h = page-kept _ (all-at shaped (t .pages) p noPageRecord pages-shaped h)
 
   pub bytes-length : length (tablesBytes t) ≡ tablesSize
   unfolding tablesBytes
-  bytes-length = omega (arith, row-length pageSize pageBytes pageFrom noPageRecord (t .pages) pages-kept)
+  bytes-length = omega (arith, row-length pageSize pageBytes pageFrom pageMarked noPageRecord (t .pages) pages-kept)
 
   pub from-bytes : tablesFrom (tablesBytes t) ≡ t
   unfolding tablesBytes tablesFrom
   from-bytes =
-      let e = row-back pageSize pageBytes pageFrom noPageRecord (t .pages) [] pages-kept in
+      let e = row-back pageSize pageBytes pageFrom pageMarked noPageRecord (t .pages) [] pages-kept in
       let pages : fromEach 64 pageSize pageFrom (flatMap pageBytes (t .pages)) ≡ t .pages = rw (pages-long, append-nil) at e in
       rw pages
+
+  pub bytes-marked : marked (tablesBytes t) ≡ true
+  unfolding tablesBytes marked
+  bytes-marked =
+      let e = row-passed pageSize pageBytes pageFrom pageMarked noPageRecord (t .pages) [] pages-kept in
+      rw (pages-long, append-nil) at e
 
 rule-shaped : (limit : ℕ) (g : Page) → pageRule limit g ≡ true → shaped g ≡ true
 unfolding pageRule

@@ -1,9 +1,9 @@
 -- The tables as bytes: P, S, then each page, which is the sixteen rights, the eight entries of three bytes, the owner and n.
 use Prim.Native.Nat.{ℕ, zero, suc, _+_, _*_}
-use mathlib.Core.Bool.{Bool, not, cond}
+use mathlib.Core.Bool.{Bool, true, not, _&&_, cond}
 use mathlib.Core.List.{List, [], _∷_, _++_, flatMap}
 use lib.ListN.{getD, take, drop}
-use lib.Dec.{eqb}
+use lib.Dec.{eqb, ltb}
 use Rattle.tables.specs.declared.Copy.{Copy}
 use Rattle.tables.specs.declared.Page.{Page}
 use Rattle.tables.specs.declared.Tables.{Tables}
@@ -35,7 +35,6 @@ tablesBytes t = t .shared .p ∷ t .shared .s ∷ flatMap pageBytes (t .pages)
 
 -- ---- read back
 
--- any byte but 0 is a mark
 abbrev pub markFrom : ℕ → Bool
 markFrom b = not (eqb b 0)
 
@@ -52,3 +51,24 @@ pageFrom b = record { rights = take 16 b; copies = fromEach 8 3 copyFrom (drop 1
 
 unfoldable pub tablesFrom : List ℕ → Tables
 tablesFrom b = record { shared = sized (getD b 0 0) (getD b 1 0); pages = fromEach 64 pageSize pageFrom (drop 2 b) }
+
+-- ---- the marks
+
+-- "CURRENT and MOST RECENT as 0 or 1"
+abbrev pub isMark : ℕ → Bool
+isMark b = ltb b 2
+
+-- whether a test holds at each of k places, `size` bytes apart
+unfoldable pub eachIs : ℕ → ℕ → (List ℕ → Bool) → List ℕ → Bool
+eachIs zero size test bytes = true
+eachIs (suc k) size test bytes = test bytes && eachIs k size test (drop size bytes)
+
+abbrev pub copyMarked : List ℕ → Bool
+copyMarked b = isMark (getD b 1 0) && isMark (getD b 2 0)
+
+unfoldable pub pageMarked : List ℕ → Bool
+pageMarked b = eachIs 8 3 copyMarked (drop 16 b)
+
+-- whether both marks of each entry of every page are 0 or 1
+unfoldable pub marked : List ℕ → Bool
+marked b = eachIs 64 pageSize pageMarked (drop 2 b)

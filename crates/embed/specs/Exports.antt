@@ -1,11 +1,12 @@
 -- What the exported functions answer, and what they leave in the bytes that they are lent.
 use Prim.Native.Nat.{ℕ, _+_, _*_}
-use mathlib.Core.Bool.{Bool, cond}
+use mathlib.Core.Bool.{Bool, _&&_, cond}
 use mathlib.Core.List.{List, [], _∷_}
 use mathlib.Core.Path.{_≡_}
 use lib.ListN.{length, getD}
 use lib.Dec.{eqb}
 use Rattle.tables.specs.declared.Tables.{Tables}
+use Rattle.tables.specs.Lists.{all}
 use Rattle.tables.specs.Numbers.{brokenTables}
 use Rattle.tables.specs.Model.{freshTables, made}
 use Rattle.steps.specs.Stores.{over}
@@ -13,9 +14,19 @@ use Rattle.steps.specs.Steps.{Outcome, refuse, accept, numberOf}
 use Rattle.steps.specs.Effects.{State, Result, left, laidBy}
 use Rattle.steps.specs.Promises.{stateOf, Lent, lent}
 use Rattle.messages.specs.declared.Tally.{Tally}
-use Rattle.messages.specs.Replies.{replyIn}
-use Rattle.messages.specs.Run.{Run, buffer, tally}
-use Rattle.embed.specs.Bytes.{tablesSize, tablesBytes, tablesFrom}
+use Rattle.messages.specs.Replies.{replyIn, isRefusal}
+use Rattle.messages.specs.Run.{Turn, Run, buffer, tally}
+use Rattle.embed.specs.Bytes.{tablesSize, tablesBytes, tablesFrom, marked}
+
+-- ---- version
+
+-- three numbers in one that a program can compare
+abbrev pub versionNumber : ℕ → ℕ → ℕ → ℕ
+versionNumber major minor patch = 65536 * major + 256 * minor + patch
+
+-- 1.0.0
+abbrev pub version : ℕ
+version = versionNumber 1 0 0
 
 -- ---- tables
 
@@ -23,29 +34,33 @@ use Rattle.embed.specs.Bytes.{tablesSize, tablesBytes, tablesFrom}
 abbrev pub tablesSized : List ℕ → Bool
 tablesSized b = eqb (length b) tablesSize
 
+-- whether they hold tables: each mark is 0 or 1
+abbrev pub tablesIn : List ℕ → Bool
+tablesIn b = tablesSized b && marked b
+
 -- tables that break a rule: P is above 127
 abbrev pub noTables : Tables
 noTables = freshTables 255 0
 
--- the tables in lent bytes; bytes of another length are broken tables
+-- the tables in lent bytes; bytes that hold none are broken tables
 abbrev pub tablesOf : List ℕ → Tables
-tablesOf b = cond (tablesSized b) (tablesFrom b) noTables
+tablesOf b = cond (tablesIn b) (tablesFrom b) noTables
 
--- lent bytes with t put into them; bytes of another length are left alone
+-- lent bytes with t put into them; bytes that hold no tables are left alone
 abbrev pub withTables : List ℕ → Tables → List ℕ
-withTables b t = cond (tablesSized b) (tablesBytes t) b
+withTables b t = cond (tablesIn b) (tablesBytes t) b
 
 -- a number, and the bytes of tables
 pub record Numbered : Type 0 where
   pub number : ℕ
   pub bytes : List ℕ
 
--- fresh tables into lent bytes
+-- fresh tables into lent bytes, whatever they held; bytes of another length are left alone
 abbrev pub freshInto : ℕ → ℕ → List ℕ → Numbered
 freshInto p s b =
     record {
       number = cond (tablesSized b) (made p s .number) brokenTables;
-      bytes = withTables b (made p s .tables);
+      bytes = cond (tablesSized b) (tablesBytes (made p s .tables)) b;
     }
 
 -- ---- the tally
@@ -83,6 +98,10 @@ pub record AnswerLent (s : State) (o : Outcome Result) (b : List ℕ) (l : Lent)
   pub told : r ≡ packed (numberOf o) (length (replyIn (length (l .out)) o)) (laidBy o)
   pub tables-out : b′ ≡ leftIn b o
   pub lent-out : l′ ≡ lent (left s o .fast) (left s o .slow) (over (replyIn (length (l .out)) o) (l .out))
+
+-- whether every message of a run was refused
+abbrev pub allRefused : Run → Bool
+allRefused w = all (λ (t : Turn). isRefusal (t .outcome)) (w .turns)
 
 -- what `reel_run` leaves of the bytes b of the tables, of the stores and the buffer l and of the tally n, after a run w
 pub record RunLent (w : Run) (b : List ℕ) (l : Lent) (n : List ℕ) (b′ : List ℕ) (l′ : Lent) (n′ : List ℕ) : Type 0 where

@@ -4,31 +4,36 @@
 use messages::Tally;
 use messages::answer;
 use messages::run;
-use steps::ACCEPTED;
 use steps::BROKEN_TABLES;
+use steps::rules;
 use tables::Copy;
 use tables::Page;
 use tables::Shared;
 use tables::Tables;
 ghost use mathlib.Core.Path.{_≡_};
-ghost use mathlib.Core.Bool.{cond};
+ghost use mathlib.Core.Bool.{true, cond};
 ghost use mathlib.Core.List.{flatMap};
 ghost use Prim.Native.Nat.{_+_, _≤_, _<_};
 ghost use lib.ListN.{length, take, drop};
 ghost use lib.Seq.{sets};
-ghost use lib.Dec.{eqb};
-ghost use Rattle.tables.specs.Numbers.{accepted};
-ghost use Rattle.steps.specs.Promises.{lent};
+ghost use Rattle.steps.specs.Promises.{lent, rulesNumber};
 ghost use Rattle.messages.specs.Run.{answer, run};
 ghost use Rattle.messages.specs.Promises.{sentAlone};
-ghost use Rattle.embed.specs.Bytes.{pageSize, tablesSize, markByte, copyBytes, pageBytes, tablesBytes, fromEach, copyFrom, pageFrom, tablesFrom};
-ghost use Rattle.embed.specs.Exports.{noTables, tablesOf, withTables, freshInto, tallyOf, withTally, packed, lentState, AnswerLent, RunLent};
+ghost use Rattle.embed.specs.Bytes.{pageSize, tablesSize, markByte, copyBytes, pageBytes, tablesBytes, fromEach, copyFrom, pageFrom, tablesFrom, copyMarked, pageMarked, marked};
+ghost use Rattle.embed.specs.Exports.{version, tablesIn, noTables, tablesOf, withTables, freshInto, tallyOf, withTally, packed, lentState, AnswerLent, RunLent};
 
 // How many bytes a page takes.
 const PAGE_SIZE: usize = 42;
 
 // How many bytes the tables take.
 const TABLES_SIZE: usize = 2 + 64 * PAGE_SIZE;
+
+// The version of what C and Rust see: these functions, and the tables as bytes.
+const MAJOR: u32 = 1;
+
+const MINOR: u32 = 0;
+
+const PATCH: u32 = 0;
 
 // ---- the tables from bytes
 
@@ -104,6 +109,44 @@ fn tables_from(bytes: &[u8]) -> Tables
         },
         pages: pages,
     }
+}
+
+// ---- the marks
+
+fn copy_marked(bytes: &[u8], at: usize) -> bool
+    requires { ⌜ at + 3 ≤ length (now bytes) ⌝ }
+    ensures { λ r. ⌜ r ≡ copyMarked (drop at (now (bytes .entry))) ⌝ }
+{
+    (bytes[at + 1] < 2) & (bytes[at + 2] < 2)
+}
+
+// No branch within a page: its sixteen marks are nearly always right.
+fn page_marked(bytes: &[u8], at: usize) -> bool
+    requires { ⌜ at + pageSize ≤ length (now bytes) ⌝ }
+    ensures { λ r. ⌜ r ≡ pageMarked (drop at (now (bytes .entry))) ⌝ }
+{
+    let mut ok = true;
+    let mut i: usize = 0;
+    while i < 8 {
+        let c = copy_marked(bytes, at + 16 + 3 * i);
+        ok = ok & c;
+        i += 1;
+    }
+    ok
+}
+
+fn marked(bytes: &[u8]) -> bool
+    requires { ⌜ length (now bytes) ≡ tablesSize ⌝ }
+    ensures { λ r. ⌜ r ≡ marked (now (bytes .entry)) ⌝ }
+{
+    let mut i: usize = 0;
+    while i < 64 {
+        if !page_marked(bytes, 2 + PAGE_SIZE * i) {
+            return false;
+        }
+        i += 1;
+    }
+    true
 }
 
 // ---- the tables into bytes
@@ -185,31 +228,51 @@ fn no_tables() -> Tables
     t
 }
 
-pub fn tables_of(bytes: &[u8]) -> Tables
-    ensures { λ r. ⌜ r ≡ tablesOf (now (bytes .entry)) ⌝ }
+// Whether lent bytes hold tables: as many as tables take, with each mark 0 or 1.
+pub fn holds_tables(bytes: &[u8]) -> bool
+    ensures { λ r. ⌜ r ≡ tablesIn (now (bytes .entry)) ⌝ }
 {
     if bytes.len() == TABLES_SIZE {
+        marked(bytes)
+    } else {
+        false
+    }
+}
+
+// The tables in lent bytes, of which is told whether they hold any.
+fn tables_held(held: bool, bytes: &[u8]) -> Tables
+    requires { ⌜ held ≡ tablesIn (now bytes) ⌝ }
+    ensures { λ r. ⌜ r ≡ tablesOf (now (bytes .entry)) ⌝ }
+{
+    if held {
         tables_from(bytes)
     } else {
         no_tables()
     }
 }
 
-pub fn put_back(tables: Tables, bytes: &mut [u8])
-    ensures { λ _. ⌜ now (bytes .exit) ≡ withTables (now (bytes .entry)) tables ⌝ }
+pub fn tables_of(bytes: &[u8]) -> Tables
+    ensures { λ r. ⌜ r ≡ tablesOf (now (bytes .entry)) ⌝ }
 {
-    if bytes.len() == TABLES_SIZE {
+    let held = holds_tables(bytes);
+    tables_held(held, bytes)
+}
+
+// Lays tables into lent bytes where that is wanted.
+fn put_where(wanted: bool, tables: Tables, bytes: &mut [u8])
+    requires { ⌜ (wanted ≡ true → length (now bytes) ≡ tablesSize) ⌝ }
+    ensures { λ _. ⌜ now (bytes .exit) ≡ cond wanted (tablesBytes tables) (now (bytes .entry)) ⌝ }
+{
+    if wanted {
         put_tables(tables, bytes);
     }
 }
 
-// A refusal leaves every byte as it was, also a mark that is neither 0 nor 1.
-fn put_accepted(number: u8, tables: Tables, bytes: &mut [u8])
-    ensures { λ _. ⌜ now (bytes .exit) ≡ cond (eqb number accepted) (withTables (now (bytes .entry)) tables) (now (bytes .entry)) ⌝ }
+pub fn put_back(tables: Tables, bytes: &mut [u8])
+    ensures { λ _. ⌜ now (bytes .exit) ≡ withTables (now (bytes .entry)) tables ⌝ }
 {
-    if number == ACCEPTED {
-        put_back(tables, bytes);
-    }
+    let held = holds_tables(&bytes[..]);
+    put_where(held, tables, bytes);
 }
 
 fn tally_of(numbers: &[u32]) -> Tally
@@ -249,6 +312,14 @@ fn packed(number: u8, len: usize, laid: u16) -> u32
 
 // ---- for C and Rust
 
+// 65536 times the major version, 256 times the minor one and the patch, in one.
+#[no_mangle]
+pub extern "C" fn reel_version() -> u32
+    ensures { λ r. ⌜ r ≡ version ⌝ }
+{
+    65536 * MAJOR + 256 * MINOR + PATCH
+}
+
 // Makes fresh tables: 0, or 19 with P = S = 0. A buffer of another length is left alone: 5.
 #[no_mangle]
 pub extern "C" fn reel_fresh(p: u8, s: u8, tables: &mut [u8]) -> u8
@@ -263,8 +334,17 @@ pub extern "C" fn reel_fresh(p: u8, s: u8, tables: &mut [u8]) -> u8
     made.number
 }
 
+// Tests the tables and the lengths of both stores: 0, 5 or 6.
+#[no_mangle]
+pub extern "C" fn reel_rules(tables: &[u8], fast: usize, slow: usize) -> u8
+    ensures { λ r. ⌜ r ≡ rulesNumber (tablesOf (now (tables .entry))) fast slow ⌝ }
+{
+    let t = tables_of(tables);
+    rules(t, fast, slow)
+}
+
 // Answers one message, its length first: the number, 256 times the length of the reply and 65536
-// times the bytes laid, in one. Tables of another length are broken ones, and are left alone.
+// times the bytes laid, in one. Bytes that hold no tables are broken ones, and are left alone.
 #[no_mangle]
 pub extern "C" fn reel_answer(
     tables: &mut [u8],
@@ -278,14 +358,15 @@ pub extern "C" fn reel_answer(
         (now (tables .entry)) (lent (now (fast .entry)) (now (slow .entry)) (now (out .entry)))
         (now (tables .exit)) (lent (now (fast .exit)) (now (slow .exit)) (now (out .exit))) r ⌝ }
 {
-    let before = tables_of(&tables[..]);
+    let held = holds_tables(&tables[..]);
+    let before = tables_held(held, &tables[..]);
     let a = answer(before, fast, slow, message, out);
-    put_accepted(a.number, a.tables, tables);
+    put_where(held, a.tables, tables);
     packed(a.number, a.len, a.laid)
 }
 
 // Runs a call file, and counts on in a tally of three numbers: messages, refusals and bytes laid.
-// Tables of another length are broken ones, and are left alone; so is a tally of another length.
+// Bytes that hold no tables are broken ones, and are left alone; so is a tally of another length.
 #[no_mangle]
 pub extern "C" fn reel_run(
     tables: &mut [u8],
@@ -300,9 +381,10 @@ pub extern "C" fn reel_run(
         (now (tables .entry)) (lent (now (fast .entry)) (now (slow .entry)) (now (out .entry))) (now (tally .entry))
         (now (tables .exit)) (lent (now (fast .exit)) (now (slow .exit)) (now (out .exit))) (now (tally .exit)) ⌝ }
 {
-    let before = tables_of(&tables[..]);
+    let held = holds_tables(&tables[..]);
+    let before = tables_held(held, &tables[..]);
     let counted = tally_of(&tally[..]);
     let ran = run(before, fast, slow, file, out, counted);
-    put_back(ran.tables, tables);
+    put_where(held, ran.tables, tables);
     put_tally(ran.tally, tally);
 }

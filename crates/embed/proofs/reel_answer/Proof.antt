@@ -1,5 +1,5 @@
--- `reel_answer` answers on the tables in the lent bytes, and puts them back where it accepts.
-use mathlib.Core.Path.{ap, _∙_}
+-- `reel_answer` answers on the tables in the lent bytes, and puts them back.
+use mathlib.Core.Path.{sym, ap, _∙_}
 use native.Mathlib.Omega.{arith}
 use lib.ListN.{length}
 use borrow.Author.Needs.{needs}
@@ -8,25 +8,32 @@ use Rattle.steps.specs.Promises.{stateOf}
 use Rattle.messages.specs.Promises.{sentAlone}
 use Rattle.messages.specs.Run.{answer}
 use Rattle.embed.specs.Exports.{lentState}
-use Rattle.messages.proofs.TurnLaws.{answer-told, reply-short}
+use Rattle.messages.proofs.TurnLaws.{reply-short}
+use Rattle.embed.proofs.WayBack.{in-sized}
 use Rattle.embed.proofs.LentLaws.{left-in}
 use Rattle.embed.proofs.reel_answer.Statement.{statement}
 use Rattle.embed.proofs.reel_answer.Tie as tie
 
-tables-of-requires : tie.Need-tables-of-requires
-tables-of-requires c κs = search needs
+holds-tables-requires : tie.Need-holds-tables-requires
+holds-tables-requires c κs = search needs
+
+tables-held-requires : tie.Need-tables-held-requires
+tables-held-requires c κs = search needs
 
 answer-requires : tie.Need-answer-requires
 answer-requires c κs = search needs
 
-put-accepted-requires : tie.Need-put-accepted-requires
-put-accepted-requires c κs = search needs
+put-where-requires : tie.Need-put-where-requires
+put-where-requires c κs =
+    let h = c .before .before .before .before .before .before .before .before .before .before .before .before .before in
+    let a = h .before .before .before .before .before .before .before .args in
+    λ e. in-sized (a .tables .now) (sym (h .holds-tables .ensures) ∙ e)
 
 packed-requires : tie.Need-packed-requires
 packed-requires c κs =
     let d = c .before .before .before .before .before .before .before .before .before .before in
-    let a = d .before .before .before .before .before .before .before .before .before .before .before .args in
-    let t = d .before .before .before .before .tables-of .result in
+    let a = d .before .before .before .before .before .before .before .before .before .before .before .before .before .args in
+    let t = d .before .before .before .before .tables-held .result in
     let s = stateOf t (a .fast .now) (a .slow .now) in
     omega (arith, d .answer .ensures .len-told, reply-short (length (a .out .now)) s (sentAlone (a .message .now)))
 
@@ -45,15 +52,16 @@ same-length-4 c = search needs
 returns : tie.Need-returns
 returns c =
     let d = c .before .before .before .before .before .before .before .before .before .before .before in
-    let a = d .before .before .before .before .before .before .before .before .before .before .before .args in
-    let q = rw (d .before .before .before .before .tables-of .ensures) at (d .answer .ensures) in
-    let room = length (a .out .now) in
-    let s = lentState (a .tables .now) (a .fast .now) (a .slow .now) in
-    let x = sentAlone (a .message .now) in
+    let h = d .before .before .before .before .before .before in
+    let a = h .before .before .before .before .before .before .before .args in
+    let q = rw (d .before .before .before .before .tables-held .ensures) at (d .answer .ensures) in
+    let b = a .tables .now in
+    let s = lentState b (a .fast .now) (a .slow .now) in
+    let o = answer (length (a .out .now)) s (sentAlone (a .message .now)) in
     record {
       told = c .packed .ensures ∙ rw (q .number-told, q .len-told, q .laid-told);
-      tables-out = c .before .before .before .put-accepted .ensures
-          ∙ rw (q .number-told, ap (λ (s : State). s .tables) (q .state-out)) (left-in (a .tables .now) s (answer room s x) (answer-told room s x));
+      tables-out = c .before .before .before .put-where .ensures
+          ∙ rw (h .holds-tables .ensures, ap (λ (s : State). s .tables) (q .state-out)) (left-in b (a .fast .now) (a .slow .now) o);
       lent-out = rw (ap (λ (s : State). s .fast) (q .state-out), ap (λ (s : State). s .slow) (q .state-out), q .reply-out);
     }
 
@@ -61,9 +69,10 @@ pub reel-answer-spec : {M : Type 1} → statement M
 reel-answer-spec =
     tie.close
     (tie.spec
-    tables-of-requires
+    holds-tables-requires
+    tables-held-requires
     answer-requires
-    put-accepted-requires
+    put-where-requires
     packed-requires
     same-length
     same-length-2

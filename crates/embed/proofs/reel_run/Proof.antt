@@ -1,12 +1,16 @@
 -- `reel_run` runs on the tables in the lent bytes, and puts them and the tally back.
-use mathlib.Core.Path.{ap, _∙_}
+use mathlib.Core.Path.{sym, ap, _∙_}
 use borrow.Author.Needs.{needs}
 use Rattle.steps.specs.Effects.{State}
+use Rattle.embed.proofs.WayBack.{in-sized}
 use Rattle.embed.proofs.reel_run.Statement.{statement}
 use Rattle.embed.proofs.reel_run.Tie as tie
 
-tables-of-requires : tie.Need-tables-of-requires
-tables-of-requires c κs = search needs
+holds-tables-requires : tie.Need-holds-tables-requires
+holds-tables-requires c κs = search needs
+
+tables-held-requires : tie.Need-tables-held-requires
+tables-held-requires c κs = search needs
 
 tally-of-requires : tie.Need-tally-of-requires
 tally-of-requires c κs = search needs
@@ -14,8 +18,11 @@ tally-of-requires c κs = search needs
 run-requires : tie.Need-run-requires
 run-requires c κs = search needs
 
-put-back-requires : tie.Need-put-back-requires
-put-back-requires c κs = search needs
+put-where-requires : tie.Need-put-where-requires
+put-where-requires c κs =
+    let h = c .before .before .before .before .before .before .before .before .before .before .before .before .before .before .before in
+    let a = h .before .before .before .before .before .before .before .before .args in
+    λ e. in-sized (a .tables .now) (sym (h .holds-tables .ensures) ∙ e)
 
 put-tally-requires : tie.Need-put-tally-requires
 put-tally-requires c κs = search needs
@@ -39,9 +46,11 @@ returns : tie.Need-returns
 returns c =
     let d = c .before .before .before .before .before .before .before .before .before .before .before .before .before .before in
     let n = d .before .before .before .before in
-    let q = rw (n .before .before .tables-of .ensures, n .tally-of .ensures) at (d .run .ensures) in
+    let h = n .before .before .before .before in
+    let q = rw (n .before .before .tables-held .ensures, n .tally-of .ensures) at (d .run .ensures) in
     record {
-      tables-out = c .before .before .before .before .before .before .put-back .ensures ∙ rw (ap (λ (s : State). s .tables) (q .state-out));
+      tables-out = c .before .before .before .before .before .before .put-where .ensures
+          ∙ rw (h .holds-tables .ensures, ap (λ (s : State). s .tables) (q .state-out));
       lent-out = rw (ap (λ (s : State). s .fast) (q .state-out), ap (λ (s : State). s .slow) (q .state-out), q .buffer-out);
       tally-out = c .before .before .put-tally .ensures ∙ rw (q .tally-out);
     }
@@ -50,10 +59,11 @@ pub reel-run-spec : {M : Type 1} → statement M
 reel-run-spec =
     tie.close
     (tie.spec
-    tables-of-requires
+    holds-tables-requires
+    tables-held-requires
     tally-of-requires
     run-requires
-    put-back-requires
+    put-where-requires
     put-tally-requires
     same-length
     same-length-2
