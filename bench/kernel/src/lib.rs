@@ -22,10 +22,8 @@ extern "C" {
     fn reel_read(
         tables: *const u8,
         tables_len: usize,
-        fast: *const u8,
-        fast_len: usize,
-        slow: *const u8,
-        slow_len: usize,
+        fast: usize,
+        slow: usize,
         station: u8,
         page: u8,
         offset: u8,
@@ -113,24 +111,13 @@ pub fn rules(tables: &[u8], fast: usize, slow: usize) -> u8 {
     unsafe { reel_rules(tables.as_ptr(), tables.len(), fast, slow) }
 }
 
-/// Where the bytes of a read lie: length + 256 * (0 fast, 1 slow) + 65536 * (offset in that store),
-/// or 0 where the read would be refused. The arguments are station, page, offset and count.
-pub fn read(tables: &[u8], fast: &[u8], slow: &[u8], arguments: [u8; 4]) -> u32 {
+/// Where the bytes of a read lie in stores of so many bytes: length + 256 * (0 fast, 1 slow) +
+/// 65536 * (offset in that store), or 0 where the read would be refused. The arguments are station,
+/// page, offset and count.
+pub fn read(tables: &[u8], fast: usize, slow: usize, arguments: [u8; 4]) -> u32 {
     let [station, page, offset, count] = arguments;
-    unsafe {
-        reel_read(
-            tables.as_ptr(),
-            tables.len(),
-            fast.as_ptr(),
-            fast.len(),
-            slow.as_ptr(),
-            slow.len(),
-            station,
-            page,
-            offset,
-            count,
-        )
-    }
+    let (at, length) = (tables.as_ptr(), tables.len());
+    unsafe { reel_read(at, length, fast, slow, station, page, offset, count) }
 }
 
 /// Answers one message: number + 256 * (length of the reply) + 65536 * (bytes laid).
@@ -296,7 +283,7 @@ impl Unit {
     /// read would be refused.
     pub fn read(&self, station: u8, page: u8, offset: u8, count: u8) -> Option<&[u8]> {
         let arguments = [station, page, offset, count];
-        let place = read(&self.tables, &self.fast, &self.slow, arguments);
+        let place = read(&self.tables, self.fast.len(), self.slow.len(), arguments);
         let [length, store, from @ ..] = place.to_le_bytes();
         let store = match store {
             0 => &self.fast,

@@ -115,6 +115,6 @@ impl Kernel for Embedded {
     }
 
     fn read(&self, lent: &Lent, arguments: [u8; 4]) -> u32 {
-        kernel::read(&lent.tables, &lent.fast, &lent.slow, arguments)
+        kernel::read(&lent.tables, lent.fast.len(), lent.slow.len(), arguments)
     }
 }

@@ -7,7 +7,7 @@ use ::model::cases::{
 use ::model::gen::{self, Rng, DAMAGES};
 use ::model::kernel::{Embedded, Kernel, Modelled};
 use ::model::model::{
-    self, frame_bytes, program, Call, Lent, Reader, Tables, KINDS, PROGRAM_INPUT, RAW, SLIP,
+    self, frame_bytes, program, Lent, Reader, Tables, KINDS, PROGRAM_INPUT, RAW, SLIP,
 };
 use reel::words::hex;
 

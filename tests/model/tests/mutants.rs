@@ -1,13 +1,14 @@
 //! The harness tried on itself: `compare` must catch every one of these wrong kernels, each the
 //! model with one flaw.
 
+use ::model::cases::{in_parts, EXPOSING};
 use ::model::compare::compare;
 use ::model::flat::Demand3;
 use ::model::gen::{self, Moves, Rng};
 use ::model::kernel::{packed, Kernel, Modelled};
 use ::model::model::{
     self, frame_bytes, Answer, Call, Lent, Page, Reached, Reader, Tables, ENTRIES, FRAME, NO_FRAME,
-    RAW, RECORD, STATIONS,
+    RAW, RECORD, SLIP, STATIONS,
 };
 
 /// One message answered by the model, to be spoiled.
@@ -31,6 +32,8 @@ enum Flaw {
     Fresh(fn(&mut [u8]) -> u8),
     /// Spoils the tables that a run leaves.
     Run(fn(&mut [u8])),
+    /// Keeps replies while so many bytes of the buffer are left.
+    Least(usize),
     /// Keeps the replies of a file in its own way.
     Replies(fn(&mut Lent, &[u8], usize, &mut [u32]) -> Reached),
     /// Gives another number where the tables are tested.
@@ -55,22 +58,9 @@ impl Kernel for Mutant {
     }
 
     fn run(&self, lent: &mut Lent, file: &[u8], tally: &mut [u32]) {
-        let taken = match self.0 {
-            Flaw::File(taken) => taken(file),
-            _ => file.len(),
-        };
-        for message in Reader::new(&file[..taken]) {
+        for message in Reader::new(self.taken(file)) {
             let answer = self.turn(lent, message);
-            if tally.len() != 3 {
-                continue;
-            }
-            if let Flaw::Tally(count) = self.0 {
-                count(tally, answer);
-                continue;
-            }
-            tally[0] = tally[0].saturating_add(1);
-            tally[1] = tally[1].saturating_add((answer.number != 0).into());
-            tally[2] = tally[2].saturating_add(answer.laid as u32);
+            self.count(tally, answer);
         }
         if let Flaw::Run(spoil) = self.0 {
             spoil(&mut lent.tables);
@@ -80,7 +70,8 @@ impl Kernel for Mutant {
     fn replies(&self, lent: &mut Lent, file: &[u8], at: usize, tally: &mut [u32]) -> Reached {
         match self.0 {
             Flaw::Replies(replies) => replies(lent, file, at, tally),
-            _ => Modelled.replies(lent, file, at, tally),
+            Flaw::Least(least) => self.part(least, lent, file, at, tally),
+            _ => self.part(SLIP, lent, file, at, tally),
         }
     }
 
@@ -101,6 +92,52 @@ impl Kernel for Mutant {
 }
 
 impl Mutant {
+    fn taken<'a>(&self, file: &'a [u8]) -> &'a [u8] {
+        match self.0 {
+            Flaw::File(taken) => &file[..taken(file)],
+            _ => file,
+        }
+    }
+
+    fn count(&self, tally: &mut [u32], answer: Answer) {
+        match (&self.0, tally) {
+            (Flaw::Tally(count), tally) if tally.len() == 3 => count(tally, answer),
+            (_, [messages, refusals, laid]) => {
+                *messages = messages.saturating_add(1);
+                *refusals = refusals.saturating_add((answer.number != 0).into());
+                *laid = laid.saturating_add(answer.laid as u32);
+            }
+            _ => {}
+        }
+    }
+
+    /// A part that goes on while so many bytes of the buffer are left; a message that finds fewer
+    /// than 70 is answered 18.
+    fn part(
+        &self,
+        least: usize,
+        lent: &mut Lent,
+        file: &[u8],
+        at: usize,
+        tally: &mut [u32],
+    ) -> Reached {
+        let mut filled = std::mem::take(&mut lent.out);
+        let (length, mut reached) = (filled.len(), Reached { at, used: 0 });
+        for message in Reader::at(self.taken(file), at) {
+            if length >= SLIP && length - reached.used < least {
+                break;
+            }
+            lent.out = filled.split_off(reached.used);
+            let answer = self.turn(lent, message);
+            filled.append(&mut lent.out);
+            self.count(tally, answer);
+            reached.at += message.len();
+            reached.used += answer.length;
+        }
+        lent.out = filled;
+        reached
+    }
+
     fn turn(&self, lent: &mut Lent, message: &[u8]) -> Answer {
         let before = lent.clone();
         match self.0 {
@@ -210,32 +247,8 @@ fn even_marks(tables: &mut [u8]) {
     }
 }
 
-/// The replies of a part that goes on while so many bytes of the buffer are left; a message that
-/// finds fewer than 70 is answered 18.
-fn replies_in(least: usize, lent: &mut Lent, file: &[u8], at: usize, tally: &mut [u32]) -> Reached {
-    let mut filled = std::mem::take(&mut lent.out);
-    let (length, mut reached) = (filled.len(), Reached { at, used: 0 });
-    for message in Reader::at(file, at) {
-        if length >= 70 && length - reached.used < least {
-            break;
-        }
-        lent.out = filled.split_off(reached.used);
-        let answer = Modelled.answer(lent, message);
-        filled.append(&mut lent.out);
-        if let [messages, refusals, laid] = tally {
-            *messages = messages.saturating_add(1);
-            *refusals = refusals.saturating_add(u32::from(answer % 256 != 0));
-            *laid = laid.saturating_add(answer / 65536);
-        }
-        reached.at += message.len();
-        reached.used += answer as usize / 256 % 256;
-    }
-    lent.out = filled;
-    reached
-}
-
 /// The wrong kernels.
-const MUTANTS: [(&str, Flaw); 76] = [
+const MUTANTS: [(&str, Flaw); 77] = [
     // The traps of the paper.
     (
         "a new copy takes its source's CURRENT mark",
@@ -282,6 +295,27 @@ const MUTANTS: [(&str, Flaw); 76] = [
                 let only_current = page.current_frames().len() == 1;
                 if page.copies[usize::from(copy)].current && only_current {
                     turn.refuse(15);
+                }
+            }
+        }),
+    ),
+    (
+        "last recent deleted where it is not current",
+        Flaw::Answer(|turn| {
+            if let (Some(Call::DeleteCopy { page, copy }), 15) =
+                (turn.call.clone(), turn.answer.number)
+            {
+                let tables = Tables::from_raw(&turn.before.tables).expect("lawful tables");
+                let copies = &tables.pages[usize::from(page)]
+                    .as_ref()
+                    .expect("a page")
+                    .copies;
+                if copies.len() > 1 && !copies[usize::from(copy)].current {
+                    turn.change_page(page.into(), |page| {
+                        page.copies.remove(copy.into());
+                    });
+                    turn.reply(&[0, 4, 1, 0, 0, 0]);
+                    turn.answer.number = 0;
                 }
             }
         }),
@@ -339,6 +373,7 @@ const MUTANTS: [(&str, Flaw); 76] = [
         Flaw::Answer(|turn| {
             if turn.answer.laid == 64 {
                 turn.answer.laid = 63;
+                turn.reply(&[0, 4, 1, 0, 0, 63]);
             }
         }),
     ),
@@ -832,14 +867,8 @@ const MUTANTS: [(&str, Flaw); 76] = [
         }),
     ),
     // Runs that keep their replies.
-    (
-        "a part stops with 70 bytes left",
-        Flaw::Replies(|lent, file, at, tally| replies_in(71, lent, file, at, tally)),
-    ),
-    (
-        "a part goes on with 69 bytes left",
-        Flaw::Replies(|lent, file, at, tally| replies_in(69, lent, file, at, tally)),
-    ),
+    ("a part stops with 70 bytes left", Flaw::Least(71)),
+    ("a part goes on with 69 bytes left", Flaw::Least(69)),
     (
         "a part begins at the file's start",
         Flaw::Replies(|lent, file, _, tally| Modelled.replies(lent, file, 0, tally)),
@@ -965,6 +994,17 @@ fn missed(
 fn every_mutant_is_caught() {
     let missed = missed(|_| true, |mutant| compare(mutant, SEED, MESSAGES).map(drop));
     assert_eq!(missed, Vec::<&str>::new());
+}
+
+/// Each trap and each impostor of document 01 gets a reply of its file wrong.
+#[test]
+fn traps_and_impostors_are_exposed() {
+    for case in &EXPOSING {
+        let flaw = MUTANTS.into_iter().find(|(name, _)| *name == case.name);
+        let (_, flaw) = flaw.unwrap_or_else(|| panic!("no mutant: {}", case.name));
+        let served = in_parts(&Mutant(flaw), &case.file(), 1000);
+        assert_ne!(served.replies, case.replies(), "{}", case.name);
+    }
 }
 
 /// Runs from fresh tables on which demand 3 alone looks.
