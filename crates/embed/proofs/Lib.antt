@@ -3,3 +3,4 @@ pub mod FromLaws
 pub mod RoundTrip
 pub mod WayBack
 pub mod LentLaws
+pub mod PlaceLaws

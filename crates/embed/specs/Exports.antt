@@ -9,6 +9,7 @@ use Rattle.tables.specs.declared.Tables.{Tables}
 use Rattle.tables.specs.Lists.{all}
 use Rattle.tables.specs.Numbers.{brokenTables}
 use Rattle.tables.specs.Model.{freshTables, made}
+use Rattle.steps.specs.declared.Place.{Place}
 use Rattle.steps.specs.Stores.{over}
 use Rattle.steps.specs.Steps.{Outcome, refuse, accept, numberOf}
 use Rattle.steps.specs.Effects.{State, Result, left, laidBy}
@@ -77,6 +78,16 @@ tallyOf l =
 -- lent numbers with n put into them; others than three are left alone
 abbrev pub withTally : List ℕ → Tally → List ℕ
 withTally l n = cond (tallySized l) (n .messages ∷ n .refusals ∷ n .laid ∷ []) l
+
+-- ---- a read as a place
+
+-- which store a place is in: 0 the fast one, 1 the slow one
+abbrev pub storeNumber : Bool → ℕ
+storeNumber slow = cond slow 1 0
+
+-- the length, the store and the offset in it, in one; 0 where a read is refused
+abbrev pub placeNumber : Place → ℕ
+placeNumber place = place .len + 256 * storeNumber (place .slow) + 65536 * place .start
 
 -- ---- what a message and a run leave
 

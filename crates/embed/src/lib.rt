@@ -5,6 +5,8 @@ use messages::Tally;
 use messages::answer;
 use messages::run;
 use steps::BROKEN_TABLES;
+use steps::Place;
+use steps::read_place;
 use steps::rules;
 use tables::Copy;
 use tables::Page;
@@ -16,11 +18,13 @@ ghost use mathlib.Core.List.{flatMap};
 ghost use Prim.Native.Nat.{_+_, _≤_, _<_};
 ghost use lib.ListN.{length, take, drop};
 ghost use lib.Seq.{sets};
+ghost use Rattle.steps.specs.Effects.{readCall, readPlace};
 ghost use Rattle.steps.specs.Promises.{lent, rulesNumber};
 ghost use Rattle.messages.specs.Run.{answer, run};
 ghost use Rattle.messages.specs.Promises.{sentAlone};
 ghost use Rattle.embed.specs.Bytes.{pageSize, tablesSize, markByte, copyBytes, pageBytes, tablesBytes, fromEach, copyFrom, pageFrom, tablesFrom, copyMarked, pageMarked, marked};
-ghost use Rattle.embed.specs.Exports.{version, tablesIn, noTables, tablesOf, withTables, freshInto, tallyOf, withTally, packed, lentState, AnswerLent, RunLent};
+ghost use Rattle.embed.specs.Private.{Small};
+ghost use Rattle.embed.specs.Exports.{version, tablesIn, noTables, tablesOf, withTables, freshInto, tallyOf, withTally, storeNumber, placeNumber, packed, lentState, AnswerLent, RunLent};
 
 // How many bytes a page takes.
 const PAGE_SIZE: usize = 42;
@@ -310,6 +314,19 @@ fn packed(number: u8, len: usize, laid: u16) -> u32
     number as u32 + 256 * len as u32 + 65536 * laid as u32
 }
 
+fn store_number(slow: bool) -> u32
+    ensures { λ r. ⌜ r ≡ storeNumber slow ⌝ }
+{
+    if slow { 1 } else { 0 }
+}
+
+fn place_number(place: Place) -> u32
+    requires { ⌜ Small place ⌝ }
+    ensures { λ r. ⌜ r ≡ placeNumber place ⌝ }
+{
+    place.len as u32 + 256 * store_number(place.slow) + 65536 * place.start as u32
+}
+
 // ---- for C and Rust
 
 // 65536 times the major version, 256 times the minor one and the patch, in one.
@@ -341,6 +358,25 @@ pub extern "C" fn reel_rules(tables: &[u8], fast: usize, slow: usize) -> u8
 {
     let t = tables_of(tables);
     rules(t, fast, slow)
+}
+
+// A read as a place: its length, 256 times its store (0 fast, 1 slow) and 65536 times the offset in
+// that store, in one; 0 where it is refused.
+#[no_mangle]
+pub extern "C" fn reel_read(
+    tables: &[u8],
+    fast: usize,
+    slow: usize,
+    station: u8,
+    page: u8,
+    offset: u8,
+    count: u8,
+) -> u32
+    ensures { λ r. ⌜ r ≡ placeNumber (readPlace (tablesOf (now (tables .entry))) fast slow (readCall station page offset count)) ⌝ }
+{
+    let t = tables_of(tables);
+    let place = read_place(t, fast, slow, station, page, offset, count);
+    place_number(place)
 }
 
 // Answers one message, its length first: the number, 256 times the length of the reply and 65536

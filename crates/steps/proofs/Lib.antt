@@ -13,3 +13,4 @@ pub mod Blocks
 pub mod CarryLaws
 pub mod DecideLaws
 pub mod StepLaws
+pub mod PlaceLaws

@@ -1,9 +1,9 @@
 -- What the step layer gives to the layers above. In order: tables and stores that keep the rules; what 5 and 6 come to; a plan carried
--- out; what a step leaves and replies; a decision carried out is the step; a read.
-use Prim.Native.Nat.{ℕ, _+_, _/_, _%_, _*_, _≤_, _<_, zero-le}
+-- out; what a step leaves and replies; a decision carried out is the step.
+use Prim.Native.Nat.{ℕ, _+_, _%_, _*_, _≤_, _<_, zero-le}
 use mathlib.Core.Path.{_≡_, refl, sym, ap, _∙_, subst}
 use mathlib.Core.Bool.{Bool, true, false, not, cond}
-use mathlib.Core.List.{List, [], _++_}
+use mathlib.Core.List.{List, _++_}
 use native.Mathlib.Omega.{arith}
 use lib.ListN.{length, take, drop, length-append, length-drop}
 use lib.Seq.{length-take-le, take-append-seam, drop-append-seam}
@@ -18,21 +18,20 @@ use Rattle.tables.specs.Changes.{after}
 use Rattle.tables.proofs.ListLaws.{and-intro, and-left, and-right}
 use Rattle.tables.proofs.RuleLaws.{StandingPage, copy-at, sound-of, standing-at}
 use Rattle.tables.proofs.ChangeSound.{sound-after}
-use Rattle.steps.specs.declared.Kind.the-variants.{Read}
 use Rattle.steps.specs.declared.Call.{Call}
 use Rattle.steps.specs.declared.Work.{Work}
 use Rattle.steps.specs.declared.Work.the-variants.{Nothing, Clear, Duplicate, Spread, Show, ShowPage, ShowHolder}
 use Rattle.steps.specs.declared.Decision.{Decision}
-use Rattle.steps.specs.Stores.{fits, part, block, held, zeros, over}
-use Rattle.steps.specs.Steps.{Outcome, refuse, accept, test, mapped, Plan, copyAt, firstCurrent, viewOf, decide, decideAny, numberOf}
+use Rattle.steps.specs.Stores.{fits, block, held, zeros, over}
+use Rattle.steps.specs.Steps.{Outcome, refuse, accept, test, mapped, Plan, copyAt, decide, decideAny, numberOf}
 use Rattle.steps.specs.Effects.{laidIn, shownOf, State, joined, Result, carriedOut, step, left, laidBy, dataOf}
 use Rattle.steps.specs.Promises.{stateOf, rulesNumber, decisionOf, Lent, lent, workWithin, within, carried, Stepped}
-use Rattle.steps.specs.Private.{Room, tablesAfter, Decides}
+use Rattle.steps.specs.Private.{tablesAfter, Decides}
 use Rattle.steps.proofs.JudgeLaws.{decides-any}
 use Rattle.steps.proofs.StoreLaws.{length-part}
 use Rattle.steps.proofs.Blocks.{length-lay, length-write}
 use Rattle.steps.proofs.CarryLaws.{framesIn, lent-same}
-use Rattle.steps.proofs.DecideLaws.{IfAccepted, if-refused, if-accepted, past, then-keeps, PlanOk, decide-ok, read-shows}
+use Rattle.steps.proofs.DecideLaws.{IfAccepted, if-refused, if-accepted, past, then-keeps, PlanOk, decide-ok}
 
 -- ---- tables and stores that keep the rules
 
@@ -292,45 +291,3 @@ stepped s c bs out d k t′ x′ y′ out′ e w =
   where
     same : {t t″ : Tables} {x x″ y y″ : List ℕ} → t ≡ t″ → x ≡ x″ → y ≡ y″ → stateOf t x y ≡ stateOf t″ x″ y″
     same p q r = cc
-
--- ---- a read
-
-module _ (s : State) (c : Call) (bs : List ℕ) (d : Decision)
-    (is : d ≡ decisionOf (s .tables) c (decideAny (s .tables) (length (s .fast)) (length (s .slow)) c (length bs))) where
-  q : Decides (s .tables) c (decideAny (s .tables) (length (s .fast)) (length (s .slow)) c (length bs)) d
-  q = decides-any (s .tables) c (length (s .fast)) (length (s .slow)) (length bs) d is
-
-  -- what is shown of a frame lies within it, and is the data of the step
-  pub shown-part : (f o : ℕ) → d .work ≡ Show f o
-      → Room (s .fast) (s .slow) (length (s .fast) / 64) f × (o + d .len ≤ 64) × (dataOf (step s c bs) ≡ part (block (joined s) f) o (d .len))
-  unfolding step shownOf
-  shown-part f o e = go _ (sure s c bs) q
-    where
-      go : (p : Outcome Plan) → IfAccepted (Sure s c bs) p → Decides (s .tables) c p d
-          → Room (s .fast) (s .slow) (length (s .fast) / 64) f × (o + d .len ≤ 64)
-          × (dataOf (mapped (carriedOut s c bs) p) ≡ part (block (joined s) f) o (d .len))
-      go (refuse n) k p =
-          let w : Show f o ≡ Nothing = sym e ∙ p .work-told in
-          absurd (let z : _≡_ {A = ℕ} 0 1 = cc in omega arith)
-      go (accept plan) (if-accepted u) p =
-          let w : plan .work ≡ Show f o = sym (p .work-told) ∙ e in
-          let i = rw w at (u .plan-ok .inside) in
-          let l = fit-lengths (s .tables) (length (s .fast)) (length (s .slow)) (u .good .stores-fit) in
-          let h = ltb-true f (frames (s .tables)) (and-left (ltb f (frames (s .tables))) _ i) in (
-            record { split = omega arith; there = omega arith },
-            rw (p .len-told) (leb-true (o + plan .len) 64 (and-right (ltb f (frames (s .tables))) _ i)),
-            rw (w, p .len-told),
-          )
-
-  -- a read that shows nothing has no data
-  pub none-read : c .kind ≡ Read → ((f o : ℕ) → d .work ≡ Show f o → ⊥) → dataOf (step s c bs) ≡ []
-  unfolding step
-  none-read kind none =
-      go _ (past (not (sound (s .tables))) _ refl (λ _. past (not (fits (s .tables) (length (s .fast)) (length (s .slow)))) _ refl (λ _.
-      read-shows (viewOf (s .tables) c) c (length bs) kind))) q
-    where
-      go : (p : Outcome Plan)
-          → IfAccepted (λ (plan : Plan). plan .work ≡ Show (firstCurrent (inUse (pageAt (s .tables) (c .page)))) (c .offset)) p
-          → Decides (s .tables) c p d → dataOf (mapped (carriedOut s c bs) p) ≡ []
-      go (refuse n) k p = refl
-      go (accept plan) (if-accepted w) p = absurd (none _ _ (p .work-told ∙ w))

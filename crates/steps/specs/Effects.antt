@@ -1,17 +1,21 @@
 -- Document 01, "The steps": what was decided, carried out on the two stores and the reply.
-use Prim.Native.Nat.{ℕ, _+_}
-use mathlib.Core.Bool.{Bool, true, false}
+use Prim.Native.Nat.{ℕ, _+_, _-_, _*_}
+use mathlib.Core.Bool.{Bool, true, false, cond}
 use mathlib.Core.List.{List, [], _∷_, _++_}
 use lib.ListN.{length, take, drop}
+use lib.Dec.{ltb}
 use Rattle.tables.specs.declared.Copy.{Copy}
 use Rattle.tables.specs.declared.Page.{Page}
 use Rattle.tables.specs.declared.Tables.{Tables}
 use Rattle.tables.specs.Model.{inUse, pageAt}
 use Rattle.tables.specs.Search.{shown}
 use Rattle.tables.specs.Changes.{edited, after}
+use Rattle.steps.specs.declared.Kind.the-variants.{Read}
 use Rattle.steps.specs.declared.Call.{Call}
+use Rattle.steps.specs.declared.Place.{Place}
 use Rattle.steps.specs.declared.Work.{Work}
 use Rattle.steps.specs.declared.Work.the-variants.{Nothing, Clear, Duplicate, Spread, Show, ShowPage, ShowHolder}
+use Rattle.steps.specs.Kinds.{callOf}
 use Rattle.steps.specs.Stores.{part, block, lay, zeros, layCurrent}
 use Rattle.steps.specs.Steps.{Outcome, refuse, accept, mapped, Plan, pageFor, decideAny}
 
@@ -87,3 +91,38 @@ laidBy (accept r) = r .laid
 abbrev pub dataOf : Outcome Result → List ℕ
 dataOf (refuse n) = []
 dataOf (accept r) = r .data-out
+
+-- ---- a read as a part of a store
+
+-- "read (station, page, offset, count)"
+abbrev pub readCall : ℕ → ℕ → ℕ → ℕ → Call
+readCall station page offset count = callOf Read (station ∷ page ∷ offset ∷ count ∷ [])
+
+-- Where frame f has so many bytes from an offset on, with p fast frames: "Frame f is the f-th block of 64 bytes, slow frames counted on
+-- from P."
+abbrev pub framePlace : ℕ → ℕ → ℕ → ℕ → Place
+framePlace p f offset len =
+    cond (ltb f p) (record { slow = false; start = 64 * f + offset; len = len }) (record { slow = true; start = 64 * (f - p) + offset; len = len })
+
+abbrev pub noPlace : Place
+noPlace = record { slow = false; start = 0; len = 0 }
+
+-- where a work has the bytes of a frame that it shows
+abbrev pub shownAt : ℕ → Work → ℕ → Place
+shownAt p Nothing len = noPlace
+shownAt p (Clear f) len = noPlace
+shownAt p (Duplicate from to) len = noPlace
+shownAt p (Spread offset) len = noPlace
+shownAt p (Show f offset) len = framePlace p f offset len
+shownAt p ShowPage len = noPlace
+shownAt p (ShowHolder h) len = noPlace
+
+-- "it is empty where the read would be refused"
+abbrev pub placeOf : ℕ → Outcome Plan → Place
+placeOf p (refuse n) = noPlace
+placeOf p (accept plan) = shownAt p (plan .work) (plan .len)
+
+-- "A read can also be had as a part of the fast store or of the slow one, the very bytes of that copy": where they are, with stores of these
+-- lengths
+abbrev pub readPlace : Tables → ℕ → ℕ → Call → Place
+readPlace t fast slow c = placeOf (t .shared .p) (decideAny t fast slow c 0)

@@ -1,9 +1,9 @@
 -- What the private functions of this layer ask of each other and promise. For the proofs alone: no exported contract names it.
 use Prim.Native.Nat.{ℕ, _+_, _-_, _*_, _%_, _≤_, _<_}
-use mathlib.Core.Bool.{Bool, true, false, not, _&&_, _||_, cond}
+use mathlib.Core.Bool.{Bool, false, not, _&&_, _||_, cond}
 use mathlib.Core.List.{List}
 use mathlib.Core.Path.{_≡_}
-use lib.ListN.{length, take, drop, getD}
+use lib.ListN.{length, take, drop}
 use lib.Dec.{ltb, eqb}
 use Rattle.tables.specs.declared.Page.{Page}
 use Rattle.tables.specs.declared.Shared.{Shared}
@@ -16,10 +16,10 @@ use Rattle.tables.specs.Search.{inPages}
 use Rattle.tables.specs.Changes.{changed, edited, after}
 use Rattle.tables.specs.Keep.{unchanged}
 use Rattle.steps.specs.declared.Call.{Call}
-use Rattle.steps.specs.declared.View.{View}
 use Rattle.steps.specs.declared.Work.the-variants.{Nothing}
 use Rattle.steps.specs.declared.Verdict.{Verdict}
 use Rattle.steps.specs.declared.Decision.{Decision}
+use Rattle.steps.specs.declared.Place.{Place}
 use Rattle.steps.specs.Kinds.{frame, has}
 use Rattle.steps.specs.Calls.{nameOutside, frameOutside, spanOutside}
 use Rattle.steps.specs.Steps.{Outcome, refuse, accept, Plan, test, copyAt, currents, firstCurrent, numbered, decideOn, pageFor, numberOf}
@@ -31,6 +31,10 @@ use Rattle.steps.specs.Promises.{laidOf, lenOf, workOf, settled}
 pub record Room (fast slow : List ℕ) (p f : ℕ) : Type 0 where
   pub split : length fast ≡ 64 * p
   pub there : 64 * f + 64 ≤ length fast + length slow
+
+-- a place lies within its store
+abbrev pub PlaceIn : Place → List ℕ → List ℕ → Type 0
+PlaceIn place fast slow = place .start + place .len ≤ length (cond (place .slow) slow fast)
 
 -- ---- number 7
 

@@ -22,8 +22,9 @@ use Rattle.steps.specs.declared.Work.{Work}
 use Rattle.steps.specs.declared.Work.the-variants.{Nothing, Clear, Duplicate, Spread, Show, ShowPage, ShowHolder}
 use Rattle.steps.specs.declared.Decision.{Decision}
 use Rattle.steps.specs.declared.Done.{Done}
+use Rattle.steps.specs.declared.Place.{Place}
 use Rattle.steps.specs.Kinds.{kindOf, leastLength, mostLength, callOf}
-use Rattle.steps.specs.Stores.{fits, over}
+use Rattle.steps.specs.Stores.{fits, part, over}
 use Rattle.steps.specs.Steps.{Outcome, refuse, accept, Plan, numberOf}
 use Rattle.steps.specs.Effects.{laidIn, shownOf, State, Result, left, laidBy, dataOf}
 
@@ -133,3 +134,19 @@ pub record Stepped (s : State) (o : Outcome Result) (out : List ℕ) (s′ : Sta
   pub len-told : r .len ≡ length (dataOf o)
   pub state-out : s′ ≡ left s o
   pub data-out : out′ ≡ over (dataOf o) out
+
+-- ---- a read as a part of a store
+
+-- the bytes at a place in one of two stores
+abbrev pub bytesAt : Place → List ℕ → List ℕ → List ℕ
+bytesAt place fast slow = part (cond (place .slow) slow fast) (place .start) (place .len)
+
+-- where a reference to them points, if those to the stores point at `fast` and `slow`: a block of memory and an offset in it
+abbrev pub pointerAt : Place → ℕ × ℕ → ℕ × ℕ → ℕ × ℕ
+pointerAt place fast slow = cond (place .slow) (slow .0, place .start + slow .1) (fast .0, place .start + fast .1)
+
+-- what `read` gives of a call that comes to o and has its bytes at a place: `bytes`, at `pointer`
+pub record ReadPart (o : Outcome Result) (place : Place) (fast slow pointer : ℕ × ℕ) (bytes : List ℕ) : Type 0 where
+  pub bytes-told : bytes ≡ dataOf o
+  pub len-told : length bytes ≡ place .len
+  pub pointer-told : pointer ≡ pointerAt place fast slow

@@ -3,6 +3,7 @@ use crate::Call;
 use crate::Decision;
 use crate::Done;
 use crate::Kind;
+use crate::Place;
 use crate::Work;
 use crate::judgement::judge_any;
 use crate::judgement::settle;
@@ -10,21 +11,22 @@ use crate::looks::show_holder;
 use crate::looks::show_page;
 use crate::stores::clear_frame;
 use crate::stores::copy_frame;
-use crate::stores::frame_part;
+use crate::stores::frame_place;
 use crate::stores::lay_current;
+use crate::stores::part_at;
 use crate::stores::put;
 use tables::Page;
 use tables::Tables;
 ghost use mathlib.Core.Path.{_≡_};
-ghost use mathlib.Core.List.{[], _∷_};
+ghost use mathlib.Core.List.{[]};
 ghost use Prim.Native.Nat.{_+_};
 ghost use lib.Dec.{leb};
+ghost use lib.ListN.{length};
+ghost use denote.Ref.{ptr};
 ghost use Rattle.tables.specs.Lists.{all};
 ghost use Rattle.tables.specs.Model.{inUse};
-ghost use Rattle.steps.specs.declared.Kind.the-variants.{Read};
-ghost use Rattle.steps.specs.Kinds.{callOf};
-ghost use Rattle.steps.specs.Effects.{step, dataOf};
-ghost use Rattle.steps.specs.Promises.{stateOf, lent, currentWithin, carried, Stepped};
+ghost use Rattle.steps.specs.Effects.{step, readCall, readPlace};
+ghost use Rattle.steps.specs.Promises.{stateOf, lent, currentWithin, carried, Stepped, ReadPart};
 
 // Whether so many bytes from an offset on lie within a page.
 fn span_within(offset: u8, count: usize) -> bool
@@ -90,7 +92,8 @@ pub fn carry(d: Decision, bytes: &[u8], fast: &mut [u8], slow: &mut [u8], out: &
         Work::Show { frame, offset } => {
             let f = frame as usize;
             if (f < limit) & span_within(offset, len) {
-                let part = frame_part(&fast[..], &slow[..], p, f, offset as usize, len);
+                let place = frame_place(p, frame, offset, len);
+                let part = part_at(&fast[..], &slow[..], place);
                 put(out, 0, part);
             }
         }
@@ -126,17 +129,17 @@ pub fn step(
     }
 }
 
-// A read on any tables and stores, as a part of one store or the other; none where it is refused.
-pub fn read<'a>(
+// Where the bytes of a read are, on any tables and for stores of these lengths; nowhere if it is refused.
+pub fn read_place(
     tables: Tables,
-    fast: &'a [u8],
-    slow: &'a [u8],
+    fast: usize,
+    slow: usize,
     station: u8,
     page: u8,
     offset: u8,
     count: u8,
-) -> &'a [u8]
-    ensures { λ r. ⌜ now r ≡ dataOf (step (stateOf tables (now (fast .entry)) (now (slow .entry))) (callOf Read (station ∷ page ∷ offset ∷ count ∷ [])) []) ⌝ }
+) -> Place
+    ensures { λ r. ⌜ r ≡ readPlace tables fast slow (readCall station page offset count) ⌝ }
 {
     let call = Call {
         kind: Kind::Read,
@@ -149,18 +152,34 @@ pub fn read<'a>(
         copy: 0,
         frame: 0,
     };
-    let d = judge_any(tables, call, 0, fast.len(), slow.len());
+    let d = judge_any(tables, call, 0, fast, slow);
+    let p = tables.shared.p as usize;
     let work = d.work;
-    let p = fast.len() / 64;
     match work {
-        Work::Show { frame, offset } => frame_part(
-            fast,
-            slow,
-            p,
-            frame as usize,
-            offset as usize,
-            d.len,
-        ),
-        _ => &fast[..0],
+        Work::Show { frame, offset } => frame_place(p, frame, offset, d.len),
+        _ => Place {
+            slow: false,
+            start: 0,
+            len: 0,
+        },
     }
+}
+
+// A read on any tables and stores, as a part of one store or the other: the part that `read_place` tells. None where it is
+// refused.
+pub fn read<'a>(
+    tables: Tables,
+    fast: &'a [u8],
+    slow: &'a [u8],
+    station: u8,
+    page: u8,
+    offset: u8,
+    count: u8,
+) -> &'a [u8]
+    ensures { λ r. ⌜ ReadPart (step (stateOf tables (now (fast .entry)) (now (slow .entry))) (readCall station page offset count) [])
+        (readPlace tables (length (now (fast .entry))) (length (now (slow .entry))) (readCall station page offset count))
+        (ptr (fast .entry)) (ptr (slow .entry)) (ptr r) (now r) ⌝ }
+{
+    let place = read_place(tables, fast.len(), slow.len(), station, page, offset, count);
+    part_at(fast, slow, place)
 }

@@ -12,6 +12,7 @@ mod stores;
 
 pub use effects::carry;
 pub use effects::read;
+pub use effects::read_place;
 pub use effects::step;
 pub use judgement::judge;
 pub use judgement::judge_any;
@@ -134,6 +135,13 @@ pub struct Decision {
     pub change: Change,
     pub before: Page,
     pub work: Work,
+}
+
+// A part of the fast store or of the slow one: so many bytes of it from `start` on.
+pub struct Place {
+    pub slow: bool,
+    pub start: usize,
+    pub len: usize,
 }
 
 // What a call on tables and stores leaves.

@@ -1,4 +1,5 @@
 // The two lent stores: frame f is in the fast one where f is below p, and else in the slow one.
+use crate::Place;
 use tables::Copy;
 use tables::Page;
 ghost use mathlib.Core.Path.{_≡_};
@@ -6,9 +7,12 @@ ghost use mathlib.Core.Bool.{true};
 ghost use mathlib.Core.List.{[], _∷_, _++_};
 ghost use Prim.Native.Nat.{ℕ, _+_, _<_, _≤_};
 ghost use lib.ListN.{length, getD};
+ghost use denote.Ref.{ptr};
 ghost use Rattle.tables.specs.Model.{noCopyEntry, inUse};
 ghost use Rattle.steps.specs.Stores.{part, splice, block, lay, zeros, layCurrent};
-ghost use Rattle.steps.specs.Private.{Room};
+ghost use Rattle.steps.specs.Effects.{framePlace};
+ghost use Rattle.steps.specs.Promises.{bytesAt, pointerAt};
+ghost use Rattle.steps.specs.Private.{Room, PlaceIn};
 
 // Lays all of src into dst from index at on.
 pub(crate) fn put(dst: &mut [u8], at: usize, src: &[u8])
@@ -77,25 +81,39 @@ pub(crate) fn copy_frame(fast: &mut [u8], slow: &mut [u8], p: usize, from: usize
     lay_frame(fast, slow, p, to, 0, &b);
 }
 
-// Bytes of a frame, as a part of the store that has them.
-pub(crate) fn frame_part<'a>(
-    fast: &'a [u8],
-    slow: &'a [u8],
-    p: usize,
-    frame: usize,
-    offset: usize,
-    count: usize,
-) -> &'a [u8]
-    requires { ⌜ Room (now fast) (now slow) p frame ⌝ }
-    requires { ⌜ offset + count ≤ 64 ⌝ }
-    ensures { λ r. ⌜ now r ≡ part (block (now (fast .entry) ++ now (slow .entry)) frame) offset count ⌝ }
+// Where the bytes of a frame are from an offset on.
+pub(crate) fn frame_place(p: usize, frame: u8, offset: u8, len: usize) -> Place
+    ensures { λ r. ⌜ r ≡ framePlace p frame offset len ⌝ }
 {
-    if frame < p {
-        let a = 64 * frame + offset;
-        &fast[a..a + count]
+    let f = frame as usize;
+    let o = offset as usize;
+    if f < p {
+        Place {
+            slow: false,
+            start: 64 * f + o,
+            len,
+        }
     } else {
-        let a = 64 * (frame - p) + offset;
-        &slow[a..a + count]
+        Place {
+            slow: true,
+            start: 64 * (f - p) + o,
+            len,
+        }
+    }
+}
+
+// The part of a store that a place names.
+pub(crate) fn part_at<'a>(fast: &'a [u8], slow: &'a [u8], place: Place) -> &'a [u8]
+    requires { ⌜ PlaceIn place (now fast) (now slow) ⌝ }
+    ensures { λ r. ⌜ now r ≡ bytesAt place (now (fast .entry)) (now (slow .entry)) ⌝ }
+    ensures { λ r. ⌜ ptr r ≡ pointerAt place (ptr (fast .entry)) (ptr (slow .entry)) ⌝ }
+{
+    let start = place.start;
+    let end = start + place.len;
+    if place.slow {
+        &slow[start..end]
+    } else {
+        &fast[start..end]
     }
 }
 

@@ -11,6 +11,7 @@ use Rattle.steps.specs.declared.Work.the-variants.{Nothing, ShowPage}
 use Rattle.steps.specs.Stores.{block, over}
 use Rattle.steps.specs.Effects.{laidIn, shownOf}
 use Rattle.steps.proofs.StoreLaws.{length-part-le, splice-front}
+use Rattle.steps.proofs.PlaceLaws.{frame-in, frame-bytes}
 use Rattle.steps.proofs.CarryLaws.{framesIn, carried-unfit, out-long, room-at, room-spread, carried-outside, carried-by}
 use borrow.Author.Needs.{needs}
 use Rattle.steps.proofs.effects.carry.Statement.{statement}
@@ -81,22 +82,30 @@ cast-f-2 c = search needs
 span-within-requires-2 : tie.Need-span-within-requires-2
 span-within-requires-2 c κs = search needs
 
-cast-frame-part : tie.Need-cast-frame-part
-cast-frame-part c = search needs
+frame-place-requires : tie.Need-frame-place-requires
+frame-place-requires c κs = search needs
 
-frame-part-requires : tie.Need-frame-part-requires
-frame-part-requires c κs =
-    let a = c .before .before .before .before .before .before .before .before .before .before .before .before .before .args in
-    let h = c .before .before .if5 .taken in
-    (room-at (a .fast .now) (a .out .now) (c .before .before .before .before .before .before .before .if1 .left) (a .slow .now) _ (ltb-true _ _ (and-left _ _ h)), leb-true _ 64 (sym (c .before .before .before .span-within2 .ensures) ∙ and-right (ltb (c .before .before .before .before .before .work4 .given .0 .0) (framesIn (a .fast .now) (a .slow .now))) _ h))
+part-at-requires : tie.Need-part-at-requires
+part-at-requires c κs =
+    let a = c .before .before .before .before .before .before .before .before .before .before .before .before .before .before .args in
+    let h = c .before .before .before .if5 .taken in
+    let w = c .before .before .before .before .before .before .work4 .given .0 in
+    frame-in (a .fast .now) (a .slow .now) _ (w .0) (w .1 .0) (a .d .len)
+    (room-at (a .fast .now) (a .out .now) (c .before .before .before .before .before .before .before .before .if1 .left) (a .slow .now) _ (ltb-true _ _ (and-left _ _ h)))
+    (leb-true _ 64 (sym (c .before .before .before .before .span-within2 .ensures) ∙ and-right (ltb (w .0) (framesIn (a .fast .now) (a .slow .now))) _ h))
+    _ (c .before .before .frame-place .ensures)
 
 put-requires : tie.Need-put-requires
 put-requires c κs =
-    let a = c .before .before .before .before .before .before .before .before .before .before .before .before .before .before .before .args in
-    let w = c .before .before .before .before .before .before .before .work4 .given .0 in
-    let k = out-long (a .fast .now) (a .out .now) (c .before .before .before .before .before .before .before .before .before .if1 .left) in
-    let h = leb-true (w .1 .0 + a .d .len) 64 (sym (c .before .before .before .before .before .span-within2 .ensures) ∙ and-right (ltb (w .0) (framesIn (a .fast .now) (a .slow .now))) _ (c .before .before .before .before .if5 .taken)) in
-    let l = ap length (c .before .frame-part .ensures) in
+    let a = c .before .before .before .before .before .before .before .before .before .before .before .before .before .before .before .before .args in
+    let w = c .before .before .before .before .before .before .before .before .work4 .given .0 in
+    let fit = c .before .before .before .before .before .before .before .before .before .before .if1 .left in
+    let h = c .before .before .before .before .before .if5 .taken in
+    let k = out-long (a .fast .now) (a .out .now) fit in
+    let span = leb-true (w .1 .0 + a .d .len) 64 (sym (c .before .before .before .before .before .before .span-within2 .ensures) ∙ and-right (ltb (w .0) (framesIn (a .fast .now) (a .slow .now))) _ h) in
+    let l = ap length (c .before .part-at .ensures .0
+    ∙ frame-bytes (a .fast .now) (a .slow .now) _ (w .0) (w .1 .0) (a .d .len)
+    (room-at (a .fast .now) (a .out .now) fit (a .slow .now) _ (ltb-true _ _ (and-left _ _ h))) span _ (c .before .before .before .before .frame-place .ensures)) in
     omega (arith, length-part-le (block (a .fast .now ++ a .slow .now) (w .0)) (w .1 .0) (a .d .len))
 
 enum-told-2 : tie.Need-enum-told-2
@@ -178,9 +187,16 @@ same-length-9 c = search needs
 returns-9 : tie.Need-returns-9
 unfolding laidIn shownOf
 returns-9 c =
-    let a = c .before .before .before .before .before .before .before .before .before .before .before .before .before .before .before .before .before .before .args in
-    carried-by _ _ _ _ _ (c .before .before .before .before .before .before .before .before .before .before .before .before .if1 .left) _ (c .before .before .before .before .before .before .before .before .before .before .work4 .given .1) (rw (c .before .before .before .before .before .before .before .before .span-within2 .ensures) at (c .before .before .before .before .before .before .before .if5 .taken)) _ _ _ refl refl
-    (c .before .before .put .ensures ∙ splice-front (a .out .now) _ ∙ ap (λ (b : List ℕ). over b (a .out .now)) (c .before .before .before .before .frame-part .ensures))
+    let a = c .before .before .before .before .before .before .before .before .before .before .before .before .before .before .before .before .before .before .before .args in
+    let w = c .before .before .before .before .before .before .before .before .before .before .before .work4 .given .0 in
+    let fit = c .before .before .before .before .before .before .before .before .before .before .before .before .before .if1 .left in
+    let h = c .before .before .before .before .before .before .before .before .if5 .taken in
+    let span = leb-true (w .1 .0 + a .d .len) 64 (sym (c .before .before .before .before .before .before .before .before .before .span-within2 .ensures) ∙ and-right (ltb (w .0) (framesIn (a .fast .now) (a .slow .now))) _ h) in
+    carried-by _ _ _ _ _ fit _ (c .before .before .before .before .before .before .before .before .before .before .before .work4 .given .1) (rw (c .before .before .before .before .before .before .before .before .before .span-within2 .ensures) at h) _ _ _ refl refl
+    (c .before .before .put .ensures ∙ splice-front (a .out .now) _ ∙ ap (λ (b : List ℕ). over b (a .out .now))
+    (c .before .before .before .before .part-at .ensures .0
+    ∙ frame-bytes (a .fast .now) (a .slow .now) _ (w .0) (w .1 .0) (a .d .len)
+    (room-at (a .fast .now) (a .out .now) fit (a .slow .now) _ (ltb-true _ _ (and-left _ _ h))) span _ (c .before .before .before .before .before .before .before .frame-place .ensures)))
 
 returns-10 : tie.Need-returns-10
 returns-10 c = carried-outside _ _ _ _ _ (c .before .before .before .before .before .if1 .left) _ (c .before .before .before .work4 .given .1) (rw (c .before .span-within2 .ensures) at (c .if5 .left))
@@ -221,8 +237,8 @@ carry-spec =
     enum-known-work-4
     cast-f-2
     span-within-requires-2
-    cast-frame-part
-    frame-part-requires
+    frame-place-requires
+    part-at-requires
     put-requires
     enum-told-2
     show-page-requires
