@@ -1,8 +1,9 @@
 //! The kernel beside plain Rust, on the same calls.
 //!
-//! `bench` prints every figure. `bench WORK SIDE`, with WORK run, answer or sound and SIDE kernel,
-//! unchecked or checked, does that work once on that side, for a count of instructions, and
-//! `bench WORK count` prints how many messages or tests it has.
+//! `bench` prints every figure. `bench WORK SIDE`, with SIDE kernel, unchecked or checked, does that
+//! work once on that side, for a count of instructions, and `bench WORK count` prints how many
+//! messages, tests or calls it has. WORK is run, answer or sound; on the kernel's side alone kept or
+//! parts, a run with its replies, and refused, look, grant or empty, the C call by itself.
 
 mod timing;
 
@@ -10,15 +11,24 @@ use bench::calls::{Calls, Counts};
 use bench::peer::Peer;
 use bench::{FAST, MIX, SLOW};
 use kernel::Unit;
+use std::hint::black_box;
 use std::time::Instant;
 
 const TESTS: u32 = 5_000;
+/// How often a call is made by itself.
+const CALLS: usize = 1_000;
+/// A reply buffer that is emptied between the parts of a run.
+const PART: usize = 4096;
 
 /// Who answers a call file, and how.
 #[derive(Clone, Copy)]
 enum Side {
     /// The kernel: the rules are tested once.
     Run,
+    /// The kernel: the same, with every reply kept in one buffer.
+    Kept,
+    /// The kernel: the same, part by part in a buffer that is emptied between.
+    Parts,
     /// The kernel: each message by itself, the rules tested at each.
     Answers,
     /// Plain Rust without any test of the rules.
@@ -70,24 +80,35 @@ impl Work {
         Work::of(start, calls)
     }
 
-    fn unit(&self) -> Unit {
+    /// The kernel with a reply buffer of this length.
+    fn unit(&self, room: usize) -> Unit {
         let mut unit = Unit::fresh(FAST, SLOW).expect("fresh tables");
         unit.tables = self.start.tables.bytes();
         unit.fast.clone_from(&self.start.fast);
         unit.slow.clone_from(&self.start.slow);
+        unit.out = vec![0; room];
         unit
     }
 
-    /// Both sides leave the same: every reply, the tables, the stores, the tally and the count.
+    fn sides(&self) -> Sides {
+        Sides {
+            last: self.unit(kernel::SLIP),
+            kept: self.unit(kernel::SLIP * self.counts.messages),
+            parts: self.unit(PART),
+            peer: self.start.clone(),
+        }
+    }
+
+    /// All sides leave the same: every reply, the tables, the stores, the tally and the count.
     fn check(&self) {
-        let (mut one, mut run, mut each) = (self.unit(), self.unit(), self.unit());
+        let (mut one, mut run, mut each) = (self.unit(70), self.unit(70), self.unit(70));
         let (mut unchecked, mut checked) = (self.start.clone(), self.start.clone());
         let mut single = self.start.clone();
-        let mut rest = &self.file[..];
+        let (mut rest, mut replies) = (&self.file[..], Vec::<u8>::new());
         while !rest.is_empty() {
             let (message, after) =
                 rest.split_at(2 + usize::from(rest[0]) * 256 + usize::from(rest[1]));
-            one.answer(message);
+            replies.extend(one.answer(message).reply);
             single.message::<true>(Some(&message[2..]));
             assert!(one.out == single.out, "replies differ");
             rest = after;
@@ -101,9 +122,25 @@ impl Work {
             "tallies differ"
         );
         assert_eq!(count, run.tally[0], "counts differ");
+        let Sides {
+            mut kept,
+            mut parts,
+            ..
+        } = self.sides();
+        for unit in [&mut kept, &mut parts] {
+            let mut joined = Vec::<u8>::new();
+            unit.replies(&self.file, |part| joined.extend(part));
+            assert!(joined == replies, "kept replies differ");
+            assert!(unit.tally == run.tally, "tallies differ");
+        }
         for unit in [&one, &run, &each] {
+            assert!(
+                unit.out == unchecked.out && unit.out == checked.out,
+                "last replies differ"
+            );
+        }
+        for unit in [&one, &run, &each, &kept, &parts] {
             for peer in [&unchecked, &checked] {
-                assert!(unit.out == peer.out, "last replies differ");
                 assert!(unit.tables == peer.tables.bytes(), "tables differ");
                 assert!(
                     unit.fast == peer.fast && unit.slow == peer.slow,
@@ -115,16 +152,16 @@ impl Work {
 
     /// The times of each side, round by round.
     fn times<const N: usize>(&self, rounds: usize, sides: [Side; N]) -> [Vec<f64>; N] {
-        let (mut unit, mut peer) = (self.unit(), self.start.clone());
-        let bytes = unit.tables.clone();
+        let mut on = self.sides();
+        let bytes = self.start.tables.bytes();
         let mut times = [const { vec![] }; N];
         for _ in 0..rounds {
             for (side, times) in sides.iter().zip(&mut times) {
-                unit.tables.copy_from_slice(&bytes);
-                peer.tables.clone_from(&self.start.tables);
-                times.push(time(self.counts.messages, || {
-                    side.answer(&mut unit, &mut peer, &self.file)
-                }));
+                for unit in [&mut on.last, &mut on.kept, &mut on.parts] {
+                    unit.tables.copy_from_slice(&bytes);
+                }
+                on.peer.tables.clone_from(&self.start.tables);
+                times.push(time(self.counts.messages, || on.answer(*side, &self.file)));
             }
         }
         times
@@ -140,15 +177,70 @@ impl Work {
     }
 }
 
-impl Side {
-    fn answer(self, unit: &mut Unit, peer: &mut Peer, file: &[u8]) {
-        match self {
-            Side::Run => unit.run(file),
+/// The kernel with reply buffers of three lengths, and the peer.
+struct Sides {
+    last: Unit,
+    kept: Unit,
+    parts: Unit,
+    peer: Peer,
+}
+
+impl Sides {
+    fn answer(&mut self, side: Side, file: &[u8]) {
+        match side {
+            Side::Run => self.last.run(file),
+            Side::Kept => self.kept.replies(file, |part| {
+                black_box(part);
+            }),
+            Side::Parts => self.parts.replies(file, |part| {
+                black_box(part);
+            }),
             Side::Answers => {
-                timing::answers(unit, file);
+                timing::answers(&mut self.last, file);
             }
-            Side::Unchecked => peer.run_by_rust::<false>(file),
-            Side::Checked => peer.run_by_rust::<true>(file),
+            Side::Unchecked => self.peer.run_by_rust::<false>(file),
+            Side::Checked => self.peer.run_by_rust::<true>(file),
+        }
+    }
+}
+
+/// A call of the C function by itself, on full tables.
+#[derive(Clone, Copy)]
+enum Call {
+    /// A message of two bytes, which is refused before the tables are looked at.
+    Refused,
+    /// An accepted look, which changes nothing.
+    Look,
+    /// An accepted grant, after which the tables are put back.
+    Grant,
+    /// A run over an empty file.
+    Empty,
+}
+
+impl Call {
+    const ALL: [(Call, &str); 4] = [
+        (Call::Refused, "reel_answer, a refused message of two bytes"),
+        (Call::Look, "reel_answer, a look at a page"),
+        (Call::Grant, "reel_answer, a grant, tables put back"),
+        (Call::Empty, "reel_run, an empty file"),
+    ];
+
+    /// Calls it again and again.
+    fn repeat(self, unit: &mut Unit, owner: u8) {
+        for i in 0..CALLS {
+            let number = match self {
+                Call::Refused => unit.answer(&[0, 0]).number,
+                Call::Look => unit.answer(&[0, 3, 1, 10, (i % 64) as u8]).number,
+                Call::Grant => {
+                    let right = (i % 3) as u8;
+                    unit.answer(&[0, 6, 1, 3, owner, 0, 7, right]).number
+                }
+                Call::Empty => {
+                    unit.run(&[]);
+                    0
+                }
+            };
+            assert_eq!(number, if matches!(self, Call::Refused) { 2 } else { 0 });
         }
     }
 }
@@ -171,12 +263,12 @@ fn median_ratio(a: &[f64], b: &[f64]) -> f64 {
     ratios[ratios.len() / 2]
 }
 
-fn line(what: &str, kernel: &[f64], rust: &[f64]) {
-    let (k, r) = (best(kernel), best(rust));
+fn line(what: &str, kernel: &[f64], other: &str, others: &[f64]) {
+    let (k, o) = (best(kernel), best(others));
     println!(
-        "{what:<42} kernel {k:7.1} ns  Rust {r:7.1} ns  ratio {:.2}, median {:.2}",
-        k / r,
-        median_ratio(kernel, rust)
+        "{what:<44} kernel {k:7.1} ns  {other} {o:7.1} ns  ratio {:.2}, median {:.2}",
+        k / o,
+        median_ratio(kernel, others)
     );
 }
 
@@ -186,14 +278,32 @@ fn report() {
     full.check();
     println!("(a) a shift from fresh tables, {}", shift.describe());
     let [run, unchecked, checked] = shift.times(100, [Side::Run, Side::Unchecked, Side::Checked]);
-    line("run, Rust without the test of the rules", &run, &unchecked);
-    line("run, Rust with the test at each message", &run, &checked);
+    line(
+        "run, Rust without the test of the rules",
+        &run,
+        "Rust",
+        &unchecked,
+    );
+    line(
+        "run, Rust with the test at each message",
+        &run,
+        "Rust",
+        &checked,
+    );
+    let [kept, parts, run] = shift.times(100, [Side::Kept, Side::Parts, Side::Run]);
+    line("every reply kept in one buffer", &kept, "run", &run);
+    line(
+        "every reply kept, 4096 bytes at a time",
+        &parts,
+        "run",
+        &run,
+    );
 
     println!("(b) single messages on full tables, {}", full.describe());
     let [answers, checked] = full.times(400, [Side::Answers, Side::Checked]);
-    line("answer, Rust with the test", &answers, &checked);
+    line("answer, Rust with the test", &answers, "Rust", &checked);
 
-    let (unit, mut peer) = (full.unit(), full.start.clone());
+    let (unit, mut peer) = (full.unit(70), full.start.clone());
     let (mut kernel, mut rust) = (vec![], vec![]);
     for _ in 0..200 {
         kernel.push(time(TESTS as usize, || {
@@ -203,7 +313,15 @@ fn report() {
             assert_eq!(peer.sound_by_rust(TESTS), TESTS)
         }));
     }
-    line("the test of the rules alone", &kernel, &rust);
+    line("the test of the rules alone", &kernel, "Rust", &rust);
+    for (call, what) in Call::ALL {
+        let mut unit = full.unit(70);
+        let owner = full.start.tables.pages[0].owner;
+        let times: Vec<f64> = (0..200)
+            .map(|_| time(CALLS, || call.repeat(&mut unit, owner)))
+            .collect();
+        println!("{what:<44} kernel {:7.1} ns a call", best(&times));
+    }
 
     println!("(c) accepted calls by pages and copies a page, best times in nanoseconds a message");
     println!("pages copies | run: kernel  Rust without the test  ratio | answer: kernel  Rust with the test  ratio");
@@ -228,21 +346,32 @@ fn report() {
 /// One piece of work, once.
 fn once(work: &str, side: &str) {
     let given = match work {
-        "run" => Work::shift(),
+        "run" | "kept" | "parts" => Work::shift(),
         _ => Work::full(),
     };
-    let (mut unit, mut peer) = (given.unit(), given.start.clone());
-    let side = match (work, side) {
-        ("sound", "count") => return println!("{TESTS}"),
-        (_, "count") => return println!("{}", given.counts.messages),
-        ("sound", "kernel") => return assert_eq!(timing::sound(&unit, TESTS), TESTS),
-        ("sound", _) => return assert_eq!(peer.sound_by_rust(TESTS), TESTS),
-        ("run", "kernel") => Side::Run,
-        (_, "kernel") => Side::Answers,
-        (_, "unchecked") => Side::Unchecked,
-        _ => Side::Checked,
+    let call = match work {
+        "refused" => Some(Call::Refused),
+        "look" => Some(Call::Look),
+        "grant" => Some(Call::Grant),
+        "empty" => Some(Call::Empty),
+        _ => None,
     };
-    side.answer(&mut unit, &mut peer, &given.file);
+    let mut sides = given.sides();
+    let owner = given.start.tables.pages[0].owner;
+    match (work, side, call) {
+        ("sound", "count", _) => println!("{TESTS}"),
+        (_, "count", Some(_)) => println!("{CALLS}"),
+        (_, "count", None) => println!("{}", given.counts.messages),
+        (_, _, Some(call)) => call.repeat(&mut sides.last, owner),
+        ("sound", "kernel", _) => assert_eq!(timing::sound(&sides.last, TESTS), TESTS),
+        ("sound", _, _) => assert_eq!(sides.peer.sound_by_rust(TESTS), TESTS),
+        ("run", "kernel", _) => sides.answer(Side::Run, &given.file),
+        ("kept", _, _) => sides.answer(Side::Kept, &given.file),
+        ("parts", _, _) => sides.answer(Side::Parts, &given.file),
+        (_, "kernel", _) => sides.answer(Side::Answers, &given.file),
+        (_, "unchecked", _) => sides.answer(Side::Unchecked, &given.file),
+        _ => sides.answer(Side::Checked, &given.file),
+    }
 }
 
 fn main() {
