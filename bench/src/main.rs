@@ -90,6 +90,10 @@ impl Work {
         unit
     }
 
+    fn calls(&self) -> [Call; 4] {
+        Call::all(self.start.tables.pages[0].owner)
+    }
+
     fn sides(&self) -> Sides {
         Sides {
             last: self.unit(kernel::SLIP),
@@ -204,43 +208,58 @@ impl Sides {
     }
 }
 
-/// A call of the C function by itself, on full tables.
-#[derive(Clone, Copy)]
-enum Call {
-    /// A message of two bytes, which is refused before the tables are looked at.
-    Refused,
-    /// An accepted look, which changes nothing.
-    Look,
-    /// An accepted grant, after which the tables are put back.
-    Grant,
-    /// A run over an empty file.
-    Empty,
+/// A call of a C function by itself, on full tables.
+struct Call {
+    name: &'static str,
+    what: &'static str,
+    /// The messages that take turns, one a call; none for a run over an empty file.
+    messages: Vec<Vec<u8>>,
+    /// The number that they get.
+    number: u8,
 }
 
 impl Call {
-    const ALL: [(Call, &str); 4] = [
-        (Call::Refused, "reel_answer, a refused message of two bytes"),
-        (Call::Look, "reel_answer, a look at a page"),
-        (Call::Grant, "reel_answer, a grant, tables put back"),
-        (Call::Empty, "reel_run, an empty file"),
-    ];
+    /// The calls on tables whose page 0 has this owner.
+    fn all(owner: u8) -> [Call; 4] {
+        let grant = |right| vec![0, 6, 1, 3, owner, 0, (owner + 1) % 16, right];
+        [
+            Call {
+                name: "refused",
+                what: "reel_answer, a refused message of two bytes",
+                messages: vec![vec![0, 0]],
+                number: 2,
+            },
+            Call {
+                name: "look",
+                what: "reel_answer, a look at a page",
+                messages: vec![vec![0, 3, 1, 10, 0]],
+                number: 0,
+            },
+            Call {
+                name: "grant",
+                what: "reel_answer, a grant that changes the tables",
+                messages: vec![grant(1), grant(2)],
+                number: 0,
+            },
+            Call {
+                name: "empty",
+                what: "reel_run, an empty file",
+                messages: vec![],
+                number: 0,
+            },
+        ]
+    }
 
     /// Calls it again and again.
-    fn repeat(self, unit: &mut Unit, owner: u8) {
+    fn repeat(&self, unit: &mut Unit) {
         for i in 0..CALLS {
-            let number = match self {
-                Call::Refused => unit.answer(&[0, 0]).number,
-                Call::Look => unit.answer(&[0, 3, 1, 10, (i % 64) as u8]).number,
-                Call::Grant => {
-                    let right = (i % 3) as u8;
-                    unit.answer(&[0, 6, 1, 3, owner, 0, 7, right]).number
+            match &self.messages[..] {
+                [] => unit.run(&[]),
+                turns => {
+                    let answer = unit.answer(&turns[i % turns.len()]);
+                    assert_eq!(answer.number, self.number, "{}", self.what);
                 }
-                Call::Empty => {
-                    unit.run(&[]);
-                    0
-                }
-            };
-            assert_eq!(number, if matches!(self, Call::Refused) { 2 } else { 0 });
+            }
         }
     }
 }
@@ -314,13 +333,11 @@ fn report() {
         }));
     }
     line("the test of the rules alone", &kernel, "Rust", &rust);
-    for (call, what) in Call::ALL {
+    for call in full.calls() {
         let mut unit = full.unit(70);
-        let owner = full.start.tables.pages[0].owner;
-        let times: Vec<f64> = (0..200)
-            .map(|_| time(CALLS, || call.repeat(&mut unit, owner)))
-            .collect();
-        println!("{what:<44} kernel {:7.1} ns a call", best(&times));
+        let rounds = (0..200).map(|_| time(CALLS, || call.repeat(&mut unit)));
+        let times: Vec<f64> = rounds.collect();
+        println!("{:<44} kernel {:7.1} ns a call", call.what, best(&times));
     }
 
     println!("(c) accepted calls by pages and copies a page, best times in nanoseconds a message");
@@ -349,29 +366,26 @@ fn once(work: &str, side: &str) {
         "run" | "kept" | "parts" => Work::shift(),
         _ => Work::full(),
     };
-    let call = match work {
-        "refused" => Some(Call::Refused),
-        "look" => Some(Call::Look),
-        "grant" => Some(Call::Grant),
-        "empty" => Some(Call::Empty),
-        _ => None,
-    };
     let mut sides = given.sides();
-    let owner = given.start.tables.pages[0].owner;
-    match (work, side, call) {
-        ("sound", "count", _) => println!("{TESTS}"),
-        (_, "count", Some(_)) => println!("{CALLS}"),
-        (_, "count", None) => println!("{}", given.counts.messages),
-        (_, _, Some(call)) => call.repeat(&mut sides.last, owner),
-        ("sound", "kernel", _) => assert_eq!(timing::sound(&sides.last, TESTS), TESTS),
-        ("sound", _, _) => assert_eq!(sides.peer.sound_by_rust(TESTS), TESTS),
-        ("run", "kernel", _) => sides.answer(Side::Run, &given.file),
-        ("kept", _, _) => sides.answer(Side::Kept, &given.file),
-        ("parts", _, _) => sides.answer(Side::Parts, &given.file),
-        (_, "kernel", _) => sides.answer(Side::Answers, &given.file),
-        (_, "unchecked", _) => sides.answer(Side::Unchecked, &given.file),
-        _ => sides.answer(Side::Checked, &given.file),
+    if let Some(call) = given.calls().iter().find(|call| call.name == work) {
+        return match side {
+            "count" => println!("{CALLS}"),
+            _ => call.repeat(&mut sides.last),
+        };
     }
+    let side = match (work, side) {
+        ("sound", "count") => return println!("{TESTS}"),
+        (_, "count") => return println!("{}", given.counts.messages),
+        ("sound", "kernel") => return assert_eq!(timing::sound(&sides.last, TESTS), TESTS),
+        ("sound", _) => return assert_eq!(sides.peer.sound_by_rust(TESTS), TESTS),
+        ("kept", _) => Side::Kept,
+        ("parts", _) => Side::Parts,
+        ("run", "kernel") => Side::Run,
+        (_, "kernel") => Side::Answers,
+        (_, "unchecked") => Side::Unchecked,
+        _ => Side::Checked,
+    };
+    sides.answer(side, &given.file);
 }
 
 fn main() {
