@@ -389,7 +389,7 @@ mod tests {
 
     #[test]
     fn every_reply_in_buffers_of_any_length() {
-        for (length, parts) in [(70, 6), (76, 3), (82, 2), (1000, 1)] {
+        for (length, parts) in [(70, 6), (76, 4), (82, 3), (1000, 1)] {
             let mut unit = Unit::fresh(4, 4).unwrap();
             unit.out = vec![0xAA; length];
             let mut kept = Vec::new();
