@@ -225,25 +225,25 @@ impl Call {
         [
             Call {
                 name: "refused",
-                what: "reel_answer, a refused message of two bytes",
+                what: "`reel_answer`, a refused message of two bytes",
                 messages: vec![vec![0, 0]],
                 number: 2,
             },
             Call {
                 name: "look",
-                what: "reel_answer, a look at a page",
+                what: "`reel_answer`, a look at a page",
                 messages: vec![vec![0, 3, 1, 10, 0]],
                 number: 0,
             },
             Call {
                 name: "grant",
-                what: "reel_answer, a grant that changes the tables",
+                what: "`reel_answer`, a grant that changes the tables",
                 messages: vec![grant(1), grant(2)],
                 number: 0,
             },
             Call {
                 name: "empty",
-                what: "reel_run, an empty file",
+                what: "`reel_run`, an empty file",
                 messages: vec![],
                 number: 0,
             },
@@ -282,66 +282,69 @@ fn median_ratio(a: &[f64], b: &[f64]) -> f64 {
     ratios[ratios.len() / 2]
 }
 
-fn line(what: &str, kernel: &[f64], other: &str, others: &[f64]) {
-    let (k, o) = (best(kernel), best(others));
-    println!(
-        "{what:<44} kernel {k:7.1} ns  {other} {o:7.1} ns  ratio {:.2}, median {:.2}",
-        k / o,
-        median_ratio(kernel, others)
-    );
+/// A row of the table of times.
+fn row(what: &str, kernel: &[f64], other: &[f64]) {
+    let (k, o) = (best(kernel), best(other));
+    let (ratio, median) = (k / o, median_ratio(kernel, other));
+    println!("| {what} | {k:.1} | {o:.1} | {ratio:.2} | {median:.2} |");
 }
 
+/// Prints the tables of docs/SPEED.md that have times.
 fn report() {
     let (shift, full) = (Work::shift(), Work::full());
     shift.check();
     full.check();
     println!("(a) a shift from fresh tables, {}", shift.describe());
-    let [run, unchecked, checked] = shift.times(100, [Side::Run, Side::Unchecked, Side::Checked]);
-    line(
-        "run, Rust without the test of the rules",
-        &run,
-        "Rust",
-        &unchecked,
-    );
-    line(
-        "run, Rust with the test at each message",
-        &run,
-        "Rust",
-        &checked,
-    );
-    let [kept, parts, run] = shift.times(100, [Side::Kept, Side::Parts, Side::Run]);
-    line("every reply kept in one buffer", &kept, "run", &run);
-    line(
-        "every reply kept, 4096 bytes at a time",
-        &parts,
-        "run",
-        &run,
-    );
-
     println!("(b) single messages on full tables, {}", full.describe());
-    let [answers, checked] = full.times(400, [Side::Answers, Side::Checked]);
-    line("answer, Rust with the test", &answers, "Rust", &checked);
 
-    let (unit, mut peer) = (full.unit(70), full.start.clone());
-    let (mut kernel, mut rust) = (vec![], vec![]);
-    for _ in 0..200 {
-        kernel.push(time(TESTS as usize, || {
-            assert_eq!(timing::sound(&unit, TESTS), TESTS)
-        }));
-        rust.push(time(TESTS as usize, || {
-            assert_eq!(peer.sound_by_rust(TESTS), TESTS)
-        }));
-    }
-    line("the test of the rules alone", &kernel, "Rust", &rust);
+    println!("\n| Nanoseconds a message or test | kernel | beside it | ratio | median |");
+    println!("|---|---|---|---|---|");
+    let [run, unchecked, checked] = shift.times(100, [Side::Run, Side::Unchecked, Side::Checked]);
+    let without = "(a) run; Rust without any test of the rules";
+    row(without, &run, &unchecked);
+    let with = "(a) run; Rust with the test before every message";
+    row(with, &run, &checked);
+    let [kept, parts, run] = shift.times(100, [Side::Kept, Side::Parts, Side::Run]);
+    let whole = "(a) every reply kept in one buffer; run";
+    row(whole, &kept, &run);
+    let emptied = "(a) every reply kept, 4096 bytes at a time; run";
+    row(emptied, &parts, &run);
+    let [answers, checked] = full.times(400, [Side::Answers, Side::Checked]);
+    let single = "(b) answer; Rust with the test before the message";
+    row(single, &answers, &checked);
+    let (kernel, rust) = tests(&full);
+    row("the test of the rules alone; Rust", &kernel, &rust);
+
+    println!("\n| The C call by itself, on full tables | nanoseconds |");
+    println!("|---|---|");
     for call in full.calls() {
         let mut unit = full.unit(70);
         let rounds = (0..200).map(|_| time(CALLS, || call.repeat(&mut unit)));
         let times: Vec<f64> = rounds.collect();
-        println!("{:<44} kernel {:7.1} ns a call", call.what, best(&times));
+        println!("| {} | {:.1} |", call.what, best(&times));
     }
+    by_size();
+}
 
-    println!("(c) accepted calls by pages and copies a page, best times in nanoseconds a message");
-    println!("pages copies | run: kernel  Rust without the test  ratio | answer: kernel  Rust with the test  ratio");
+/// The times of the test of the rules, by the kernel and by Rust.
+fn tests(full: &Work) -> (Vec<f64>, Vec<f64>) {
+    let (unit, mut peer) = (full.unit(70), full.start.clone());
+    let rounds = (0..200).map(|_| {
+        let kernel = time(TESTS as usize, || {
+            assert_eq!(timing::sound(&unit, TESTS), TESTS)
+        });
+        let rust = time(TESTS as usize, || {
+            assert_eq!(peer.sound_by_rust(TESTS), TESTS)
+        });
+        (kernel, rust)
+    });
+    rounds.unzip()
+}
+
+/// (c) Accepted calls by pages and copies a page.
+fn by_size() {
+    println!("\n| pages | copies | run | Rust without the test | ratio | answer | Rust with the test | ratio |");
+    println!("|---|---|---|---|---|---|---|---|");
     for pages in [1, 8, 32, 64] {
         for copies in [1, 2, 4, 8] {
             if u16::from(pages) * u16::from(copies) >= u16::from(FAST + SLOW) {
@@ -352,7 +355,7 @@ fn report() {
             let sides = [Side::Run, Side::Unchecked, Side::Answers, Side::Checked];
             let [run, unchecked, answers, checked] = work.times(150, sides).map(|t| best(&t));
             println!(
-                "{pages:5} {copies:6} | {run:11.1} {unchecked:22.1} {:6.2} | {answers:14.1} {checked:19.1} {:6.2}",
+                "| {pages} | {copies} | {run:.1} | {unchecked:.1} | {:.2} | {answers:.1} | {checked:.1} | {:.2} |",
                 run / unchecked,
                 answers / checked
             );
