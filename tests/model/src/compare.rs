@@ -430,8 +430,19 @@ impl Compare<'_> {
 
     /// The replies of a trial's file part by part, and from some place on.
     fn whole_replies(&mut self, trial: &Trial) -> Result<(), String> {
-        let whole = trial.replies.len() + SLIP;
-        let room = self.rng.pick(&[69, 70, 71, 139, 140, 210, 1000, whole]);
+        let length = trial.replies.len();
+        let lengths = [
+            69,
+            70,
+            71,
+            139,
+            140,
+            210,
+            1000,
+            length.max(SLIP),
+            length + SLIP,
+        ];
+        let room = self.rng.pick(&lengths);
         let (end, replies) = self.parts(&trial.start, &trial.file, room)?;
         if room >= SLIP && trial.start.out.len() >= SLIP {
             if is_changed(&trial.lent, &end) {
