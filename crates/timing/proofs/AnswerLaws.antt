@@ -20,7 +20,7 @@ use Rattle.messages.specs.Private.{yielded}
 use Rattle.messages.specs.Promises.{sentBy, sentAlone, Replied, RunEnded}
 use Rattle.messages.proofs.ReaderLaws.{reader-yields, message-at}
 use Rattle.messages.proofs.TurnLaws.{answer-told}
-use Rattle.messages.proofs.RunLaws.{Rest, rest-message, rest-cut, rest-none}
+use Rattle.timing.proofs.RestLaws.{Rest, rest-message, rest-cut, rest-none}
 
 -- ---- the first message of what is left of the file
 

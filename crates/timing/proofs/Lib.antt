@@ -1,2 +1,3 @@
+pub mod RestLaws
 pub mod AnswerLaws
 pub mod SoundLaws

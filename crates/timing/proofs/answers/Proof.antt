@@ -6,7 +6,7 @@ use lib.ListN.{length}
 use borrow.Author.Needs.{needs}
 use Rattle.steps.specs.Promises.{stateOf}
 use Rattle.messages.proofs.ReaderLaws.{message-at}
-use Rattle.messages.proofs.RunLaws.{rest-all}
+use Rattle.timing.proofs.RestLaws.{rest-all}
 use Rattle.timing.proofs.AnswerLaws.{Going, going-on, going-cut, going-none}
 use Rattle.timing.proofs.answers.Statement.{statement}
 use Rattle.timing.proofs.answers.Tie as tie
