@@ -1,0 +1,207 @@
+/*
+ * The worked example of document 01 through every function of reel.h, each reply compared, and what the functions answer where
+ * something is wrong. After `bash tools/build`:
+ *
+ *   gcc -std=c99 -I target/reel examples/worked.c target/reel/libreel.a -o target/worked && target/worked
+ */
+#include <reel.h>
+
+#include <stdio.h>
+#include <stdlib.h>
+#include <string.h>
+
+enum { P = 4, S = 4, FILLER = 0xA5 };
+
+static const uint8_t calls[] = {
+    0, 4, 1, REEL_KIND_CREATE, 3, 5,               /* station 3, page 5 */
+    0, 5, 1, REEL_KIND_MAKE_COPY, 5, 0, 0,         /* page 5, copy 0, to frame 0 */
+    0, 4, 1, REEL_KIND_SET_CURRENT, 5, 0,          /* page 5, copy 0 */
+    0, 7, 1, REEL_KIND_WRITE, 3, 5, 0, 0x41, 0x37, /* station 3, page 5, offset 0, two bytes */
+    0, 6, 1, REEL_KIND_READ, 3, 5, 0, 3,           /* station 3, page 5, offset 0, count 3 */
+    0, 3, 1, REEL_KIND_LOOK_PAGE, 5,               /* page 5 */
+};
+static const uint8_t replies[] = {
+    0, 4, 1, REEL_ACCEPTED, 0, 0,                /* created */
+    0, 4, 1, REEL_ACCEPTED, 0, 64,               /* 64 laid */
+    0, 4, 1, REEL_ACCEPTED, 0, 0,                /* current */
+    0, 4, 1, REEL_ACCEPTED, 0, 2,                /* 2 laid */
+    0, 7, 1, REEL_ACCEPTED, 0, 0, 0x41, 0x37, 0, /* three bytes */
+    0, 8, 1, REEL_ACCEPTED, 0, 0, 1, 0, 1, 1,    /* one copy on frame 0, CURRENT and MOST RECENT */
+};
+enum { MESSAGES = 6, LAID = 66, LAST_REPLY = 10 };
+
+/* All that a unit lends to the kernel. Here each buffer is a block of its own; arrays serve as well. */
+struct unit {
+  uint8_t *tables, *fast, *slow, *out;
+  size_t tables_len, fast_len, slow_len, out_len;
+  uint32_t *tally;
+};
+
+static void expect(int holds, const char *what) {
+  if (!holds) {
+    printf("FAILED: %s\n", what);
+    exit(1);
+  }
+}
+
+static uint8_t *lend(size_t length) {
+  uint8_t *block = (uint8_t *)malloc(length);
+  expect(block != NULL, "memory");
+  memset(block, FILLER, length);
+  return block;
+}
+
+static struct unit fresh_unit(size_t out_len) {
+  struct unit u;
+  u.tables = lend(u.tables_len = REEL_TABLES_SIZE);
+  u.fast = lend(u.fast_len = REEL_FRAME_SIZE * P);
+  u.slow = lend(u.slow_len = REEL_FRAME_SIZE * S);
+  u.out = lend(u.out_len = out_len);
+  u.tally = (uint32_t *)calloc(REEL_TALLY_SIZE, sizeof(uint32_t));
+  expect(u.tally != NULL, "memory");
+  expect(reel_fresh(P, S, u.tables, u.tables_len) == REEL_ACCEPTED, "fresh tables");
+  return u;
+}
+
+static void give_up(struct unit u) {
+  free(u.tables);
+  free(u.fast);
+  free(u.slow);
+  free(u.out);
+  free(u.tally);
+}
+
+static uint32_t answer(struct unit u, const uint8_t *message, size_t length) {
+  return reel_answer(u.tables, u.tables_len, u.fast, u.fast_len, u.slow, u.slow_len, message, length, u.out, u.out_len);
+}
+
+static void run(struct unit u, const uint8_t *file, size_t length) {
+  reel_run(u.tables, u.tables_len, u.fast, u.fast_len, u.slow, u.slow_len, file, length, u.out, u.out_len, u.tally,
+           REEL_TALLY_SIZE);
+}
+
+static unsigned rules(struct unit u) { return reel_rules(u.tables, u.tables_len, u.fast_len, u.slow_len); }
+
+/* The length of the message or reply at p, with its two bytes of length. */
+static size_t whole(const uint8_t *p) { return 2 + 256 * (size_t)p[0] + p[1]; }
+
+/* Whether the bytes at p are still as they were lent. */
+static int untouched(const uint8_t *p, size_t length) {
+  while (length > 0 && *p == FILLER) {
+    p++;
+    length--;
+  }
+  return length == 0;
+}
+
+static void expect_tally(struct unit u) {
+  expect(u.tally[REEL_TALLY_MESSAGES] == MESSAGES && u.tally[REEL_TALLY_REFUSALS] == 0 && u.tally[REEL_TALLY_LAID] == LAID,
+         "the tally");
+}
+
+/* Message by message. */
+static void by_answer(void) {
+  struct unit u = fresh_unit(REEL_REPLY_SIZE);
+  size_t at = 0, said = 0, laid = 0;
+  while (at < sizeof calls) {
+    uint32_t given;
+    size_t length;
+    memset(u.out, FILLER, u.out_len);
+    given = answer(u, calls + at, whole(calls + at));
+    length = reel_answer_length(given);
+    expect(reel_answer_number(given) == REEL_ACCEPTED, reel_word(reel_answer_number(given)));
+    expect(length == whole(replies + said) && memcmp(u.out, replies + said, length) == 0, "answer: the reply");
+    expect(untouched(u.out + length, u.out_len - length), "answer: bytes past the reply");
+    at += whole(calls + at);
+    said += length;
+    laid += reel_answer_laid(given);
+  }
+  expect(said == sizeof replies && laid == LAID, "answer: all replies, all bytes laid");
+  give_up(u);
+  printf("answer: every reply as due\n");
+}
+
+/* The whole file in one call; the last reply is left. */
+static void by_run(void) {
+  struct unit u = fresh_unit(REEL_REPLY_SIZE);
+  run(u, calls, sizeof calls);
+  expect(memcmp(u.out, replies + sizeof replies - LAST_REPLY, LAST_REPLY) == 0, "run: the last reply");
+  expect(untouched(u.out + LAST_REPLY, u.out_len - LAST_REPLY), "run: bytes past the longest reply");
+  expect_tally(u);
+  give_up(u);
+  printf("run: last reply and tally as due\n");
+}
+
+/* After power-up the tables are tested; a page can be read where it stands. */
+static void in_place(void) {
+  /* Page 5 moves to the slow store: copy 0 to frame 5, which becomes CURRENT, and copy 0 is no longer so. */
+  static const uint8_t moves[] = {0, 5, 1, REEL_KIND_MAKE_COPY, 5, 0, 5, 0, 4, 1, REEL_KIND_SET_CURRENT, 5, 1,
+                                  0, 4, 1, REEL_KIND_REMOVE_CURRENT, 5, 0};
+  struct unit u = fresh_unit(REEL_REPLY_SIZE);
+  uint32_t place;
+  run(u, calls, sizeof calls);
+  expect(rules(u) == REEL_ACCEPTED, "the rules hold");
+
+  place = reel_read(u.tables, u.tables_len, u.fast_len, u.slow_len, 3, 5, 1, 2); /* station, page, offset, count */
+  expect(reel_read_length(place) == 2 && reel_read_bytes(place, u.fast, u.slow) == u.fast + 1, "a place on frame 0");
+  expect(*reel_read_bytes(place, u.fast, u.slow) == 0x37, "its bytes");
+
+  run(u, moves, sizeof moves);
+  place = reel_read(u.tables, u.tables_len, u.fast_len, u.slow_len, 3, 5, 1, 2);
+  expect(reel_read_bytes(place, u.fast, u.slow) == u.slow + REEL_FRAME_SIZE * (5 - P) + 1, "a place on frame 5");
+  expect(*reel_read_bytes(place, u.fast, u.slow) == 0x37, "its bytes");
+
+  expect(reel_read(u.tables, u.tables_len, u.fast_len, u.slow_len, 4, 5, 1, 2) == 0, "station 4 has no right");
+  give_up(u);
+  printf("in place: the rules hold, page 5 is read in the fast store and in the slow one\n");
+}
+
+/* What is wrong is answered by its number; tables and stores remain as they were. */
+static void refused(void) {
+  static const uint8_t look[] = {0, 3, 1, REEL_KIND_LOOK_PAGE, 5};
+  struct unit u = fresh_unit(REEL_REPLY_SIZE), wrong;
+  uint8_t *before = lend(u.tables_len), *recent;
+  run(u, calls, sizeof calls);
+  memcpy(before, u.tables, u.tables_len);
+
+  expect(reel_answer_number(answer(u, calls, whole(calls))) == REEL_PAGE_STANDS, "page 5 is created again");
+  expect(whole(u.out) == REEL_REPLY_HEAD && u.out[3] == REEL_PAGE_STANDS, "the reply of a refusal");
+  expect(reel_answer_number(answer(u, look, sizeof look - 1)) == REEL_CUT_SHORT, "a message cut short");
+
+  wrong = u;
+  wrong.tables_len--;
+  expect(rules(wrong) == REEL_BROKEN_TABLES, "rules: tables of a wrong length");
+  expect(reel_answer_number(answer(wrong, look, sizeof look)) == REEL_BROKEN_TABLES, "tables of a wrong length");
+  wrong = u;
+  wrong.fast_len--;
+  expect(rules(wrong) == REEL_MISFIT_STORE, "rules: a store of a wrong length");
+  expect(reel_answer_number(answer(wrong, look, sizeof look)) == REEL_MISFIT_STORE, "a store of a wrong length");
+  wrong = u;
+  wrong.out_len--;
+  memset(u.out, FILLER, u.out_len);
+  expect(answer(wrong, look, sizeof look) == REEL_SHORT_SLIP, "a short reply buffer: no reply, nothing laid");
+  expect(untouched(u.out, u.out_len), "a short reply buffer is left alone");
+
+  /* A mark is 0 or 1. */
+  recent = u.tables + REEL_TABLES_PAGES + 5 * REEL_PAGE_SIZE + REEL_PAGE_COPIES + REEL_COPY_RECENT;
+  *recent = 2;
+  expect(rules(u) == REEL_BROKEN_TABLES, "rules: a mark of 2");
+  run(u, look, sizeof look);
+  expect(u.out[3] == REEL_BROKEN_TABLES && *recent == 2, "a mark of 2");
+  *recent = 1;
+
+  expect(memcmp(u.tables, before, u.tables_len) == 0, "refusals leave the tables as they were");
+  expect(reel_fresh(REEL_MOST_FRAMES + 1, S, u.tables, u.tables_len) == REEL_TOO_MANY_FRAMES, "too many frames");
+  free(before);
+  give_up(u);
+  printf("refusals: each with its number, and nothing changed\n");
+}
+
+int main(void) {
+  expect(reel_version() == REEL_VERSION, "header and library are of one version");
+  by_answer();
+  by_run();
+  in_place();
+  refused();
+  return 0;
+}

@@ -1,0 +1,221 @@
+/*
+ * The reel page kernel: the functions of libreel.a, for C99 and C++ on x86-64 (System V). docs/EMBEDDING.md has the whole
+ * of it, and examples/worked.c a program.
+ *
+ * The caller lends every byte. A buffer is passed as a pointer and its length, in bytes or, for the tally, in numbers:
+ *
+ *   tables  REEL_TABLES_SIZE bytes, made by reel_fresh and then kept by the caller
+ *   fast    REEL_FRAME_SIZE * P bytes, frames 0 to P - 1; P and S as given to reel_fresh
+ *   slow    REEL_FRAME_SIZE * S bytes, frames P to P + S - 1
+ *   out     REEL_REPLY_SIZE bytes or more; what no reply takes remains as it was
+ *   tally   REEL_TALLY_SIZE numbers: messages, refusals, bytes laid; each stops at 4294967295
+ *
+ * Any bytes and any lengths may be passed: tables of another length, or whose bytes break a table rule, are answered
+ * REEL_BROKEN_TABLES, stores of another length REEL_MISFIT_STORE, a shorter reply buffer REEL_SHORT_SLIP. A tally of
+ * another length is left alone. Only these are the caller's duty, and are not tested:
+ *
+ *   - Each pointer leads to as many elements as its length says, is aligned for its type, and is not null, also where the
+ *     length is 0.
+ *   - A buffer that is not const overlaps none of the others. Const ones may overlap each other.
+ *   - During a call nobody else writes a buffer of it, or reads one that is not const.
+ *
+ * The library allocates nothing, keeps no state and calls nothing back, so it may be used by several threads at a time,
+ * each on buffers of its own.
+ * C functions that it needs: memcpy
+ */
+#ifndef REEL_H
+#define REEL_H
+
+#include <stddef.h>
+#include <stdint.h>
+
+#ifdef __cplusplus
+extern "C" {
+#endif
+
+/* ---- the version: major, minor and patch */
+
+#define REEL_VERSION_MAJOR 1
+#define REEL_VERSION_MINOR 0
+#define REEL_VERSION_PATCH 0
+#define REEL_VERSION (65536 * REEL_VERSION_MAJOR + 256 * REEL_VERSION_MINOR + REEL_VERSION_PATCH)
+
+/* The version of the library; that of the header is REEL_VERSION. */
+uint32_t reel_version(void);
+
+/* ---- the unit */
+
+#define REEL_STATIONS 16
+#define REEL_PAGES 64
+#define REEL_MOST_COPIES 8   /* of a page */
+#define REEL_MOST_FRAMES 127 /* fast ones, and slow ones */
+#define REEL_FRAME_SIZE 64   /* bytes of a frame, and so of a page */
+
+/* ---- the tables' bytes: what a caller may look at; it changes them by messages alone */
+
+#define REEL_TABLES_SIZE 2690
+#define REEL_TABLES_P 0     /* the number of fast frames */
+#define REEL_TABLES_S 1     /* the number of slow frames */
+#define REEL_TABLES_PAGES 2 /* the records of the 64 pages, one after the other */
+
+#define REEL_PAGE_SIZE 42   /* a page's record: */
+#define REEL_PAGE_RIGHTS 0  /* a right for each station: 0 none, 1 read, 2 read and write */
+#define REEL_PAGE_COPIES 16 /* eight entries, of which the first n are in use */
+#define REEL_PAGE_OWNER 40  /* the owner's station */
+#define REEL_PAGE_N 41      /* n, the number of copies; 0 where the page does not stand */
+
+#define REEL_COPY_SIZE 3    /* an entry: */
+#define REEL_COPY_FRAME 0   /* the frame */
+#define REEL_COPY_CURRENT 1 /* CURRENT, 0 or 1 */
+#define REEL_COPY_RECENT 2  /* MOST RECENT, 0 or 1 */
+
+#define REEL_NULL_FRAME 255 /* the frame of a null copy */
+
+/* ---- messages and replies */
+
+#define REEL_MESSAGE_VERSION 1 /* the third byte of messages and replies */
+#define REEL_MESSAGE_SIZE 71   /* the longest message that is accepted, with its two bytes of length */
+#define REEL_REPLY_SIZE 70     /* the longest reply, and the least reply buffer */
+#define REEL_REPLY_HEAD 6      /* length, version, number and bytes laid; the data of a read or look come after */
+
+/* The kinds of message, each with its arguments, a byte each; `other` is a station, `bytes` are 1 to 64. */
+enum reel_kind {
+  REEL_KIND_CREATE = 1,         /* station, page */
+  REEL_KIND_DELETE_PAGE = 2,    /* station, page */
+  REEL_KIND_GRANT = 3,          /* station, page, other, right */
+  REEL_KIND_READ = 4,           /* station, page, offset, count */
+  REEL_KIND_WRITE = 5,          /* station, page, offset, bytes */
+  REEL_KIND_MAKE_COPY = 6,      /* page, copy, frame */
+  REEL_KIND_DELETE_COPY = 7,    /* page, copy */
+  REEL_KIND_SET_CURRENT = 8,    /* page, copy */
+  REEL_KIND_REMOVE_CURRENT = 9, /* page, copy */
+  REEL_KIND_LOOK_PAGE = 10,     /* page */
+  REEL_KIND_LOOK_FRAME = 11     /* frame */
+};
+
+/* Why a message is turned back. Versions to come may add numbers. */
+enum reel_number {
+  REEL_ACCEPTED = 0,          /* the message was carried out */
+  REEL_CUT_SHORT = 1,         /* one byte left, or fewer than L after the length */
+  REEL_FOREIGN_VERSION = 2,   /* L is 0, or version not 1 */
+  REEL_UNKNOWN_KIND = 3,      /* L is 1, or kind not 1 to 11 */
+  REEL_WRONG_LENGTH = 4,      /* L not as listed for the kind */
+  REEL_BROKEN_TABLES = 5,     /* a table rule fails */
+  REEL_MISFIT_STORE = 6,      /* a store's length is wrong */
+  REEL_OUT_OF_RANGE = 7,      /* station, page, right, frame or offset too large; count 0; offset + count above 64 */
+  REEL_PAGE_STANDS = 8,       /* create on a standing page */
+  REEL_NO_PAGE = 9,           /* the page doesn't stand */
+  REEL_NO_RIGHT = 10,         /* right too low, or not owner */
+  REEL_NOTHING_CURRENT = 11,  /* read or write, no CURRENT copy */
+  REEL_NO_COPY = 12,          /* copy number is n or more */
+  REEL_FRAME_HELD = 13,       /* make copy on a frame not free */
+  REEL_EIGHT_COPIES = 14,     /* make copy with n = 8 */
+  REEL_LAST_RECENT = 15,      /* delete of the only MOST RECENT copy */
+  REEL_STALE = 16,            /* set current, not MOST RECENT */
+  REEL_NO_FRAME = 17,         /* set current on a null copy */
+  REEL_SHORT_SLIP = 18,       /* reply buffer below 70 bytes; nothing is written */
+  REEL_TOO_MANY_FRAMES = 19   /* fresh with P or S above 127; returns fresh tables with P = S = 0 */
+};
+
+/* The word of a number, for a log; an empty one for any other. */
+static inline const char *reel_word(unsigned number) {
+  switch (number) {
+  case REEL_ACCEPTED: return "accepted";
+  case REEL_CUT_SHORT: return "cut short";
+  case REEL_FOREIGN_VERSION: return "foreign version";
+  case REEL_UNKNOWN_KIND: return "unknown kind";
+  case REEL_WRONG_LENGTH: return "wrong length";
+  case REEL_BROKEN_TABLES: return "broken tables";
+  case REEL_MISFIT_STORE: return "misfit store";
+  case REEL_OUT_OF_RANGE: return "out of range";
+  case REEL_PAGE_STANDS: return "page stands";
+  case REEL_NO_PAGE: return "no page";
+  case REEL_NO_RIGHT: return "no right";
+  case REEL_NOTHING_CURRENT: return "nothing current";
+  case REEL_NO_COPY: return "no copy";
+  case REEL_FRAME_HELD: return "frame held";
+  case REEL_EIGHT_COPIES: return "eight copies";
+  case REEL_LAST_RECENT: return "last recent";
+  case REEL_STALE: return "stale";
+  case REEL_NO_FRAME: return "no frame";
+  case REEL_SHORT_SLIP: return "short slip";
+  case REEL_TOO_MANY_FRAMES: return "too many frames";
+  default: return "";
+  }
+}
+
+/* ---- the tally, three numbers */
+
+#define REEL_TALLY_SIZE 3
+#define REEL_TALLY_MESSAGES 0
+#define REEL_TALLY_REFUSALS 1
+#define REEL_TALLY_LAID 2
+
+/* ---- the functions */
+
+/*
+ * Makes fresh tables, without pages, for p fast and s slow frames: REEL_ACCEPTED, or REEL_TOO_MANY_FRAMES with tables of no
+ * frames. A buffer of another length than tables have is left alone: REEL_BROKEN_TABLES. The stores' bytes may be anything.
+ */
+uint8_t reel_fresh(uint8_t p, uint8_t s, uint8_t *tables, size_t tables_len);
+
+/*
+ * Tests tables and the lengths of their stores, as after power-up: REEL_ACCEPTED, REEL_BROKEN_TABLES or REEL_MISFIT_STORE.
+ * Where it is REEL_ACCEPTED every function below leaves it so.
+ */
+uint8_t reel_rules(const uint8_t *tables, size_t tables_len, size_t fast_len, size_t slow_len);
+
+/*
+ * Answers one message, its two bytes of length first, and lays the reply at the head of out. Bytes after the message are not
+ * looked at; none at all count as cut short. The table rules are tested at each call. A refusal leaves tables and stores as
+ * they were. The answer is number + 256 * length of the reply + 65536 * bytes laid; functions below take it apart.
+ */
+uint32_t reel_answer(uint8_t *tables, size_t tables_len, uint8_t *fast, size_t fast_len, uint8_t *slow, size_t slow_len,
+                     const uint8_t *message, size_t message_len, uint8_t *out, size_t out_len);
+
+/*
+ * Answers every message of a call file and counts on in the tally. The table rules are tested once. Each reply is laid over
+ * the one before, so the last one is left in out.
+ */
+void reel_run(uint8_t *tables, size_t tables_len, uint8_t *fast, size_t fast_len, uint8_t *slow, size_t slow_len,
+              const uint8_t *file, size_t file_len, uint8_t *out, size_t out_len, uint32_t *tally, size_t tally_len);
+
+/*
+ * Where the bytes of a read stand: number of bytes + 256 * store (0 fast, 1 slow) + 65536 * offset in that store; 0 where the
+ * read would be refused. They may be read there until tables or stores are changed. Functions below take the place apart.
+ */
+uint32_t reel_read(const uint8_t *tables, size_t tables_len, size_t fast_len, size_t slow_len, uint8_t station, uint8_t page,
+                   uint8_t offset, uint8_t count);
+
+/* ---- an answer of reel_answer, taken apart */
+
+/* The number: REEL_ACCEPTED, or why the message was turned back. */
+static inline unsigned reel_answer_number(uint32_t answer) { return answer & 255; }
+
+/* The length of the reply in out; 0 with REEL_SHORT_SLIP. */
+static inline size_t reel_answer_length(uint32_t answer) { return answer >> 8 & 255; }
+
+/* The bytes laid into the stores. */
+static inline unsigned reel_answer_laid(uint32_t answer) { return answer >> 16; }
+
+/* ---- a place of reel_read, taken apart */
+
+/* How many bytes; 0 where the read would be refused. */
+static inline size_t reel_read_length(uint32_t place) { return place & 255; }
+
+/* Whether they stand in the slow store. */
+static inline int reel_read_slow(uint32_t place) { return (place >> 8 & 255) != 0; }
+
+/* At which offset of that store. */
+static inline size_t reel_read_offset(uint32_t place) { return place >> 16; }
+
+/* The first of them, in the stores that the place was asked for. */
+static inline const uint8_t *reel_read_bytes(uint32_t place, const uint8_t *fast, const uint8_t *slow) {
+  return (reel_read_slow(place) ? slow : fast) + reel_read_offset(place);
+}
+
+#ifdef __cplusplus
+}
+#endif
+
+#endif

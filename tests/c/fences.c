@@ -1,0 +1,191 @@
+/*
+ * Lends every buffer flush against memory that may be neither read nor written, before it or behind it, and what is const in
+ * memory that may only be read. So the processor stops any access of the library outside what it is lent, which no
+ * instrumentation of this file could see. The same file is served message by message and in one run, and all that is left
+ * is compared. Messages and sizes follow from a seed.
+ */
+#define _DEFAULT_SOURCE
+#include <reel.h>
+
+#include <stdio.h>
+#include <stdlib.h>
+#include <string.h>
+#include <sys/mman.h>
+
+enum { PAGE = 4096, MESSAGES = 4000, FILE_MOST = MESSAGES * REEL_MESSAGE_SIZE };
+
+/* Readable memory between two fences. */
+struct block {
+  uint8_t *start;
+  size_t room;
+};
+
+/* What is lent: tables, stores, reply buffer and tally. */
+struct unit {
+  struct block tables, fast, slow, out, tally;
+  size_t fast_len, slow_len;
+};
+
+static uint32_t seed = 7;
+static int behind;    /* whether the fence stands behind the buffers, or before them */
+static uint32_t frames; /* so many frames may be named */
+
+static uint32_t any(uint32_t below) {
+  seed = seed * 1664525u + 1013904223u;
+  return (uint32_t)(((uint64_t)(seed >> 8) * below) >> 24);
+}
+
+static void expect(int holds, const char *what) {
+  if (!holds) {
+    printf("FAILED: %s\n", what);
+    exit(1);
+  }
+}
+
+static struct block fenced(size_t least) {
+  struct block b;
+  uint8_t *all;
+  b.room = (least + PAGE - 1) / PAGE * PAGE;
+  all = (uint8_t *)mmap(NULL, b.room + 2 * PAGE, PROT_NONE, MAP_PRIVATE | MAP_ANONYMOUS, -1, 0);
+  expect(all != MAP_FAILED, "memory");
+  b.start = all + PAGE;
+  expect(mprotect(b.start, b.room, PROT_READ | PROT_WRITE) == 0, "memory");
+  return b;
+}
+
+/* A buffer of this length in the block. */
+static uint8_t *part(struct block b, size_t length) { return behind ? b.start + b.room - length : b.start; }
+
+static uint32_t *tally_of(struct unit u, size_t length) { return (uint32_t *)part(u.tally, length * sizeof(uint32_t)); }
+
+/* These bytes, where they may only be read. */
+static const uint8_t *sealed(struct block b, const uint8_t *bytes, size_t length) {
+  expect(mprotect(b.start, b.room, PROT_READ | PROT_WRITE) == 0, "memory");
+  memcpy(part(b, length), bytes, length);
+  expect(mprotect(b.start, b.room, PROT_READ) == 0, "memory");
+  return part(b, length);
+}
+
+static struct unit make_unit(void) {
+  struct unit u;
+  u.tables = fenced(PAGE);
+  u.fast = fenced(2 * PAGE);
+  u.slow = fenced(2 * PAGE);
+  u.out = fenced(PAGE);
+  u.tally = fenced(PAGE);
+  u.fast_len = u.slow_len = 0;
+  return u;
+}
+
+static void make_fresh(struct unit *u, uint8_t p, uint8_t s) {
+  u->fast_len = REEL_FRAME_SIZE * (size_t)p;
+  u->slow_len = REEL_FRAME_SIZE * (size_t)s;
+  expect(reel_fresh(p, s, part(u->tables, REEL_TABLES_SIZE), REEL_TABLES_SIZE) == REEL_ACCEPTED, "fresh tables");
+  memset(u->fast.start, 0, u->fast.room);
+  memset(u->slow.start, 0, u->slow.room);
+  memset(u->tally.start, 0, u->tally.room);
+}
+
+/* A message, mostly one of the right form and with arguments that have a chance. */
+static size_t message(uint8_t *to) {
+  static const uint8_t lengths[] = {4, 4, 6, 6, 6, 5, 4, 4, 4, 3, 3};
+  static const uint8_t kinds[] = {1, 1, 1, 1, 2, 3, 3, 4, 4, 4, 5, 5, 5, 5, 6, 6, 6, 6, 6, 7, 8, 8, 8, 8, 9, 10, 11};
+  size_t kind = kinds[any(sizeof kinds)], length = lengths[kind - 1], i;
+  if (kind == REEL_KIND_WRITE) length += any(64);
+  if (any(50) == 0) length = any(70);
+  for (i = 4; i < length + 2; i++) to[i] = (uint8_t)(any(20) == 0 ? any(256) : any(3));
+  to[0] = 0;
+  to[1] = (uint8_t)length;
+  if (length > 0) to[2] = any(50) == 0 ? 2 : REEL_MESSAGE_VERSION;
+  if (length > 1) to[3] = (uint8_t)(any(50) == 0 ? any(256) : kind);
+  if (kind <= REEL_KIND_WRITE && length > 3 && any(8) != 0) to[4] = 0;
+  if (kind == REEL_KIND_MAKE_COPY && length == 5) to[6] = (uint8_t)any(frames + 1);
+  if (kind == REEL_KIND_READ && length == 6) to[7] = (uint8_t)any(66);
+  return length + 2;
+}
+
+static uint32_t answer(struct unit u, const uint8_t *sent, size_t length) {
+  return reel_answer(part(u.tables, REEL_TABLES_SIZE), REEL_TABLES_SIZE, part(u.fast, u.fast_len), u.fast_len,
+                     part(u.slow, u.slow_len), u.slow_len, sent, length, part(u.out, REEL_REPLY_SIZE), REEL_REPLY_SIZE);
+}
+
+/* A read as a place has the bytes of the read as a message, and is empty where that one is refused. */
+static void read_alike(struct unit u, struct block lent, const uint8_t *m, uint32_t answered) {
+  const uint8_t *tables = sealed(lent, part(u.tables, REEL_TABLES_SIZE), REEL_TABLES_SIZE);
+  uint32_t place = reel_read(tables, REEL_TABLES_SIZE, u.fast_len, u.slow_len, m[4], m[5], m[6], m[7]);
+  if (reel_answer_number(answered) == REEL_ACCEPTED) {
+    const uint8_t *bytes = reel_read_bytes(place, part(u.fast, u.fast_len), part(u.slow, u.slow_len));
+    expect(reel_read_length(place) == m[7] && memcmp(bytes, part(u.out, REEL_REPLY_SIZE) + REEL_REPLY_HEAD, m[7]) == 0,
+           "a read as a place");
+  } else {
+    expect(place == 0, "a refused read as a place");
+  }
+}
+
+static void same(struct unit one, struct unit other) {
+  expect(memcmp(part(one.tables, REEL_TABLES_SIZE), part(other.tables, REEL_TABLES_SIZE), REEL_TABLES_SIZE) == 0, "tables");
+  expect(memcmp(part(one.fast, one.fast_len), part(other.fast, other.fast_len), one.fast_len) == 0, "the fast store");
+  expect(memcmp(part(one.slow, one.slow_len), part(other.slow, other.slow_len), one.slow_len) == 0, "the slow store");
+  expect(memcmp(tally_of(one, REEL_TALLY_SIZE), tally_of(other, REEL_TALLY_SIZE), REEL_TALLY_SIZE * sizeof(uint32_t)) == 0,
+         "the tally");
+}
+
+/* One file: a message a call, and in one run. */
+static void serve(struct unit one, struct unit whole, struct block lent, uint8_t p, uint8_t s) {
+  static uint8_t file[FILE_MOST];
+  size_t length = 0, i;
+  uint32_t *tally = tally_of(one, REEL_TALLY_SIZE);
+  frames = (uint32_t)p + s;
+  make_fresh(&one, p, s);
+  make_fresh(&whole, p, s);
+  for (i = 0; i < MESSAGES; i++) {
+    size_t size = message(file + length);
+    uint32_t answered = answer(one, sealed(lent, file + length, size), size);
+    if (size == 8 && file[length + 2] == REEL_MESSAGE_VERSION && file[length + 3] == REEL_KIND_READ)
+      read_alike(one, lent, file + length, answered);
+    tally[REEL_TALLY_MESSAGES]++;
+    tally[REEL_TALLY_REFUSALS] += reel_answer_number(answered) != REEL_ACCEPTED;
+    tally[REEL_TALLY_LAID] += reel_answer_laid(answered);
+    length += size;
+  }
+  sealed(lent, file, length);
+  reel_run(part(whole.tables, REEL_TABLES_SIZE), REEL_TABLES_SIZE, part(whole.fast, whole.fast_len), whole.fast_len,
+           part(whole.slow, whole.slow_len), whole.slow_len, part(lent, length), length, part(whole.out, REEL_REPLY_SIZE),
+           REEL_REPLY_SIZE, tally_of(whole, REEL_TALLY_SIZE), REEL_TALLY_SIZE);
+  same(one, whole);
+}
+
+/* Buffers of any lengths with any bytes. */
+static void senseless(struct unit u, struct block lent) {
+  uint8_t bytes[REEL_MESSAGE_SIZE];
+  size_t tables = any(4) == 0 ? any(PAGE) : REEL_TABLES_SIZE, fast = any(2 * PAGE), slow = any(2 * PAGE), room = any(200);
+  size_t size = message(bytes), tally = any(5), i;
+  uint8_t *t = part(u.tables, tables), *f = part(u.fast, fast), *s = part(u.slow, slow), *out = part(u.out, room);
+  const uint8_t *sent;
+  if (any(4) == 0) size = any((uint32_t)size);
+  if (any(2) == 0) reel_fresh((uint8_t)any(130), (uint8_t)any(130), t, tables);
+  if (any(2) == 0 && tables == REEL_TABLES_SIZE) {
+    f = part(u.fast, fast = REEL_FRAME_SIZE * (size_t)(t[REEL_TABLES_P] % 128));
+    s = part(u.slow, slow = REEL_FRAME_SIZE * (size_t)(t[REEL_TABLES_S] % 128));
+  }
+  for (i = any(3); i > 0 && tables > 0; i--) t[any((uint32_t)tables)] = (uint8_t)any(256);
+  sent = sealed(lent, t, tables);
+  reel_rules(sent, tables, fast, slow);
+  reel_read(sent, tables, fast, slow, (uint8_t)any(17), (uint8_t)any(65), (uint8_t)any(65), (uint8_t)any(66));
+  sent = sealed(lent, bytes, size);
+  reel_answer(t, tables, f, fast, s, slow, sent, size, out, room);
+  reel_run(t, tables, f, fast, s, slow, sent, size, out, room, tally_of(u, tally), tally);
+}
+
+int main(void) {
+  static const uint8_t sizes[][2] = {{0, 0}, {4, 4}, {0, 5}, {5, 0}, {3, 127}, {127, 127}};
+  struct unit one = make_unit(), whole = make_unit();
+  struct block lent = fenced(FILE_MOST);
+  size_t i;
+  for (behind = 0; behind < 2; behind++) {
+    for (i = 0; i < sizeof sizes / sizeof *sizes; i++) serve(one, whole, lent, sizes[i][0], sizes[i][1]);
+    for (i = 0; i < 20000; i++) senseless(one, lent);
+  }
+  printf("%u messages twice, %u senseless calls\n", 12u * MESSAGES, 2u * 20000);
+  return 0;
+}
