@@ -132,11 +132,12 @@ impl Work {
             ..
         } = self.sides();
         for unit in [&mut kept, &mut parts] {
-            let mut joined = Vec::<u8>::new();
-            unit.replies(&self.file, |part| joined.extend(part));
-            assert!(joined == replies, "kept replies differ");
+            unit.replies(&self.file, |part| {
+                black_box(part);
+            });
             assert!(unit.tally == run.tally, "tallies differ");
         }
+        assert!(kept.out.starts_with(&replies), "kept replies differ");
         for unit in [&one, &run, &each] {
             assert!(
                 unit.out == unchecked.out && unit.out == checked.out,
