@@ -73,7 +73,6 @@ extern "C" {
         tally: *mut u32,
         tally_len: usize,
         used: *mut usize,
-        used_len: usize,
     ) -> usize;
 }
 
@@ -223,7 +222,6 @@ pub fn replies(
             tally.as_mut_ptr(),
             tally.len(),
             &mut used,
-            1,
         )
     };
     Reached { at, used }

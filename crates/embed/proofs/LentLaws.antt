@@ -1,21 +1,22 @@
 -- Tables in lent bytes: those that are put back are found by the next call, and bytes that hold none are broken tables.
-use Prim.Native.Nat.{ℕ}
-use mathlib.Core.Bool.{Bool, true, false, cond, false≢true}
+use Prim.Native.Nat.{ℕ, _+_}
+use mathlib.Core.Bool.{Bool, true, false, _&&_, cond, false≢true}
 use mathlib.Core.List.{List, [], _∷_}
-use mathlib.Core.Path.{_≡_, refl}
+use mathlib.Core.Path.{_≡_, refl, sym, ap, _∙_}
+use lib.ListN.{length, drop}
 use borrow.Author.Tests.{eq-eqb}
 use Rattle.tables.specs.declared.Tables.{Tables}
 use Rattle.tables.specs.Model.{freshTables}
 use Rattle.tables.specs.Lists.{all}
 use Rattle.tables.specs.Numbers.{brokenTables}
 use Rattle.tables.specs.Rules.{sound}
-use Rattle.tables.proofs.ListLaws.{and-left, and-right, and-intro}
+use Rattle.tables.proofs.ListLaws.{and-true, and-left, and-right, and-intro}
 use Rattle.tables.proofs.RuleLaws.{sound-of}
 use Rattle.steps.specs.declared.Call.{Call}
 use Rattle.steps.specs.Steps.{Outcome, refuse, accept}
 use Rattle.steps.specs.Effects.{State, Result, step, left}
-use Rattle.messages.specs.Replies.{isRefusal}
-use Rattle.messages.specs.Run.{Sent, Turn, answer, turnsOf, endOf, messagesOf, run}
+use Rattle.messages.specs.Replies.{replyIn, isRefusal}
+use Rattle.messages.specs.Run.{Sent, Turn, answer, turnOf, leftBy, turnsOf, endOf, messagesOf, run, full, served, stateAfter, partFrom}
 use Rattle.embed.specs.Bytes.{tablesSize, tablesBytes, tablesFrom}
 use Rattle.embed.specs.Exports.{tablesIn, noTables, tablesOf, withTables, lentState, leftIn, allRefused}
 use Rattle.embed.proofs.RoundTrip.{bytes-length, bytes-marked, sound-shaped, sound-from-bytes}
@@ -40,6 +41,16 @@ put-back-same b = at-most (tablesIn b) refl
     at-most true e = tables-same b e
     at-most false e = refl
 
+and-false : (a : Bool) → (a && false) ≡ false
+and-false true = refl
+and-false false = refl
+
+-- tables that may have moved, put back only then
+pub put-moved : (b : List ℕ) (moved : Bool) (t : Tables) → (moved ≡ false → t ≡ tablesOf b)
+    → cond (tablesIn b && moved) (tablesBytes t) b ≡ withTables b t
+put-moved b true t k = rw (and-true (tablesIn b))
+put-moved b false t k = rw (k refl, and-false (tablesIn b)) (sym (put-back-same b))
+
 -- what a message leaves of the tables, put back: a refusal leaves every byte
 pub left-in : (b fast slow : List ℕ) (o : Outcome Result) → withTables b (left (lentState b fast slow) o .tables) ≡ leftIn b o
 left-in b fast slow (refuse n) = put-back-same b
@@ -61,8 +72,7 @@ left-refused : (s : State) (o : Outcome Result) → isRefusal o ≡ true → lef
 left-refused s (refuse n) e = refl
 left-refused s (accept r) e = absurd (false≢true e)
 
-refused-end : (room : ℕ) (s : State) (xs : List Sent) → all (λ (t : Turn). isRefusal (t .outcome)) (turnsOf room s xs) ≡ true
-    → endOf room s xs ≡ s
+refused-end : (room : ℕ) (s : State) (xs : List Sent) → allRefused (turnsOf room s xs) ≡ true → endOf room s xs ≡ s
 unfolding all turnsOf endOf
 refused-end room s [] e = refl
 refused-end room s (x ∷ xs) e =
@@ -71,6 +81,33 @@ refused-end room s (x ∷ xs) e =
     rw l (refused-end room s xs (rw l at (and-right (isRefusal o) _ e)))
 
 -- a run of which every message was refused, or whose file is empty, leaves every byte of the tables, whatever they were
-pub refused-run : (room : ℕ) (file b fast slow : List ℕ) → allRefused (run room file (lentState b fast slow)) ≡ true
+pub refused-run : (room : ℕ) (file b fast slow : List ℕ) → allRefused (run room file (lentState b fast slow) .turns) ≡ true
     → withTables b (run room file (lentState b fast slow) .final .tables) ≡ b
 refused-run room file b fast slow e = rw (refused-end room (lentState b fast slow) (messagesOf file) e) (put-back-same b)
+
+-- a turn that a full buffer leaves out, and those behind it
+refused-one : (isFull : Bool) (room : ℕ) (s : State) (x : Sent) (behind : State → List Turn)
+    → (allRefused (behind s) ≡ true → stateAfter s (behind s) ≡ s)
+    → allRefused (cond isFull [] (turnOf room s x ∷ behind (leftBy room s x))) ≡ true
+    → stateAfter s (cond isFull [] (turnOf room s x ∷ behind (leftBy room s x))) ≡ s
+unfolding all stateAfter
+refused-one true room s x behind k e = refl
+refused-one false room s x behind k e =
+    let o = answer room s x in
+    let l = left-refused s o (and-left (isRefusal o) _ e) in
+    ap (λ (r : State). stateAfter r (behind r)) l ∙ k (rw l at (and-right (isRefusal o) _ e))
+
+refused-after : (room used : ℕ) (s : State) (xs : List Sent) → allRefused (served room used (turnsOf room s xs)) ≡ true
+    → stateAfter s (served room used (turnsOf room s xs)) ≡ s
+unfolding turnsOf served stateAfter
+refused-after room used s [] e = refl
+refused-after room used s (x ∷ xs) e =
+    let more = used + length (replyIn room (answer room s x)) in
+    refused-one (full room used) room s x (λ (r : State). served room more (turnsOf room r xs)) (refused-after room more s xs) e
+
+-- nor does such a part of a run
+pub refused-part : (room : ℕ) (file : List ℕ) (at : ℕ) (b fast slow : List ℕ)
+    → allRefused (partFrom room file at (lentState b fast slow) .turns) ≡ true
+    → withTables b (partFrom room file at (lentState b fast slow) .final .tables) ≡ b
+refused-part room file at b fast slow e =
+    rw (refused-after room 0 (lentState b fast slow) (messagesOf (drop at file)) e) (put-back-same b)

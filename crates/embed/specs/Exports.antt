@@ -16,7 +16,7 @@ use Rattle.steps.specs.Effects.{State, Result, left, laidBy}
 use Rattle.steps.specs.Promises.{stateOf, Lent, lent}
 use Rattle.messages.specs.declared.Tally.{Tally}
 use Rattle.messages.specs.Replies.{replyIn, isRefusal}
-use Rattle.messages.specs.Run.{Turn, Run, buffer, tally}
+use Rattle.messages.specs.Run.{Turn, Run, buffer, tally, joinedReplies, Part}
 use Rattle.embed.specs.Bytes.{tablesSize, tablesBytes, tablesFrom, marked}
 
 -- ---- version
@@ -110,12 +110,22 @@ pub record AnswerLent (s : State) (o : Outcome Result) (b : List ℕ) (l : Lent)
   pub tables-out : b′ ≡ leftIn b o
   pub lent-out : l′ ≡ lent (left s o .fast) (left s o .slow) (over (replyIn (length (l .out)) o) (l .out))
 
--- whether every message of a run was refused
-abbrev pub allRefused : Run → Bool
-allRefused w = all (λ (t : Turn). isRefusal (t .outcome)) (w .turns)
+-- whether every message was refused, of the turns of a run
+abbrev pub allRefused : List Turn → Bool
+allRefused ts = all (λ (t : Turn). isRefusal (t .outcome)) ts
 
--- what `reel_run` leaves of the bytes b of the tables, of the stores and the buffer l and of the tally n, after a run w
+-- What `reel_run` leaves of the bytes b of the tables, of the stores and the buffer l and of the tally n, after a run w. Where every message
+-- was refused, or the file is empty, every byte of b stays, whatever it was (`refused-run`).
 pub record RunLent (w : Run) (b : List ℕ) (l : Lent) (n : List ℕ) (b′ : List ℕ) (l′ : Lent) (n′ : List ℕ) : Type 0 where
   pub tables-out : b′ ≡ withTables b (w .final .tables)
   pub lent-out : l′ ≡ lent (w .final .fast) (w .final .slow) (buffer (length (l .out)) (w .turns) (l .out))
+  pub tally-out : n′ ≡ withTally n (tally (w .turns) (tallyOf n))
+
+-- What `reel_replies` leaves of them after a part w of a run, the bytes of the buffer that are used and the place reached. `refused-part`
+-- says of it what `refused-run` says of a run.
+pub record RepliesLent (w : Part) (b : List ℕ) (l : Lent) (n : List ℕ) (b′ : List ℕ) (l′ : Lent) (n′ : List ℕ) (used r : ℕ) : Type 0 where
+  pub place-told : r ≡ w .place
+  pub used-told : used ≡ length (joinedReplies (length (l .out)) (w .turns))
+  pub tables-out : b′ ≡ withTables b (w .final .tables)
+  pub lent-out : l′ ≡ lent (w .final .fast) (w .final .slow) (over (joinedReplies (length (l .out)) (w .turns)) (l .out))
   pub tally-out : n′ ≡ withTally n (tally (w .turns) (tallyOf n))

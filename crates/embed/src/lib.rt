@@ -1,8 +1,9 @@
 // The kernel for programs in C or Rust. The tables are lent as bytes, so a caller needs no
 // type of ours: P, S, then for each of the 64 pages the sixteen rights, the
-// eight entries (frame, CURRENT, MOST RECENT), the owner and n.
+// eight entries (frame, CURRENT, MOST RECENT; each mark is 0 or 1), the owner and n.
 use messages::Tally;
 use messages::answer;
+use messages::fill;
 use messages::run;
 use steps::BROKEN_TABLES;
 use steps::Place;
@@ -20,11 +21,11 @@ ghost use lib.ListN.{length, take, drop};
 ghost use lib.Seq.{sets};
 ghost use Rattle.steps.specs.Effects.{readCall, readPlace};
 ghost use Rattle.steps.specs.Promises.{lent, rulesNumber};
-ghost use Rattle.messages.specs.Run.{answer, run};
+ghost use Rattle.messages.specs.Run.{answer, run, partFrom};
 ghost use Rattle.messages.specs.Promises.{sentAlone};
 ghost use Rattle.embed.specs.Bytes.{pageSize, tablesSize, markByte, copyBytes, pageBytes, tablesBytes, fromEach, copyFrom, pageFrom, tablesFrom, copyMarked, pageMarked, marked};
 ghost use Rattle.embed.specs.Private.{Small};
-ghost use Rattle.embed.specs.Exports.{version, tablesIn, noTables, tablesOf, withTables, freshInto, tallyOf, withTally, storeNumber, placeNumber, packed, lentState, AnswerLent, RunLent};
+ghost use Rattle.embed.specs.Exports.{version, tablesIn, noTables, tablesOf, withTables, freshInto, tallyOf, withTally, storeNumber, placeNumber, packed, lentState, AnswerLent, RunLent, RepliesLent};
 
 // How many bytes a page takes.
 const PAGE_SIZE: usize = 42;
@@ -233,7 +234,7 @@ fn no_tables() -> Tables
 }
 
 // Whether lent bytes hold tables: as many as tables take, with each mark 0 or 1.
-pub fn holds_tables(bytes: &[u8]) -> bool
+fn holds_tables(bytes: &[u8]) -> bool
     ensures { λ r. ⌜ r ≡ tablesIn (now (bytes .entry)) ⌝ }
 {
     if bytes.len() == TABLES_SIZE {
@@ -243,7 +244,7 @@ pub fn holds_tables(bytes: &[u8]) -> bool
     }
 }
 
-// The tables in lent bytes, of which is told whether they hold any.
+// The tables in lent bytes, where it is known whether they hold any.
 fn tables_held(held: bool, bytes: &[u8]) -> Tables
     requires { ⌜ held ≡ tablesIn (now bytes) ⌝ }
     ensures { λ r. ⌜ r ≡ tablesOf (now (bytes .entry)) ⌝ }
@@ -397,7 +398,7 @@ pub extern "C" fn reel_answer(
     let held = holds_tables(&tables[..]);
     let before = tables_held(held, &tables[..]);
     let a = answer(before, fast, slow, message, out);
-    put_where(held, a.tables, tables);
+    put_where(held & a.moved, a.tables, tables);
     packed(a.number, a.len, a.laid)
 }
 
@@ -421,6 +422,35 @@ pub extern "C" fn reel_run(
     let before = tables_held(held, &tables[..]);
     let counted = tally_of(&tally[..]);
     let ran = run(before, fast, slow, file, out, counted);
-    put_where(held, ran.tables, tables);
+    put_where(held & ran.moved, ran.tables, tables);
     put_tally(ran.tally, tally);
+}
+
+// Answers the messages of a call file from a place on, and lays reply after reply into the buffer,
+// until the file ends or fewer than 70 bytes are left: the bytes used, and the place reached. The
+// caller empties the buffer and goes on from there. For the rest it is as `reel_run`.
+#[no_mangle]
+pub extern "C" fn reel_replies(
+    tables: &mut [u8],
+    fast: &mut [u8],
+    slow: &mut [u8],
+    file: &[u8],
+    at: usize,
+    out: &mut [u8],
+    tally: &mut [u32],
+    used: &mut usize,
+) -> usize
+    ensures { λ r. ⌜ RepliesLent
+        (partFrom (length (now (out .entry))) (now (file .entry)) at (lentState (now (tables .entry)) (now (fast .entry)) (now (slow .entry))))
+        (now (tables .entry)) (lent (now (fast .entry)) (now (slow .entry)) (now (out .entry))) (now (tally .entry))
+        (now (tables .exit)) (lent (now (fast .exit)) (now (slow .exit)) (now (out .exit))) (now (tally .exit)) (now (used .exit)) r ⌝ }
+{
+    let held = holds_tables(&tables[..]);
+    let before = tables_held(held, &tables[..]);
+    let counted = tally_of(&tally[..]);
+    let part = fill(before, fast, slow, file, at, out, counted);
+    put_where(held & part.moved, part.tables, tables);
+    put_tally(part.tally, tally);
+    *used = part.used;
+    part.at
 }

@@ -3,3 +3,4 @@ pub mod ReaderLaws
 pub mod ReplyLaws
 pub mod TurnLaws
 pub mod RunLaws
+pub mod PartLaws

@@ -26,7 +26,7 @@ use Rattle.messages.specs.declared.Answered.{Answered}
 use Rattle.messages.specs.Messages.{writeBytes, nextAt}
 use Rattle.messages.specs.Replies.{reply, replyIn, isRefusal}
 use Rattle.messages.specs.Run.{Sent, asked, bytesOf, respond, answer, leftBy}
-use Rattle.messages.specs.Promises.{sentBy, sentAlone, Replied}
+use Rattle.messages.specs.Promises.{sentBy, Replied}
 use Rattle.messages.specs.Private.{bytesAt, askedAt, askedNumber, earlyNumber, callIn, repliedWith}
 use Rattle.messages.proofs.ParseLaws.{Known, bad, asked-known}
 use Rattle.messages.proofs.ReplyLaws.{part-long, carried-reply, reply-length}
@@ -145,34 +145,35 @@ module _ (s : State) (x : Sent) (m : Parsed) (known n : ℕ) (out : List ℕ) (e
 
 -- what `answer` promises
 pub replied : (s : State) (o : Outcome Result) (out out′ : List ℕ) (s′ : State) (len : ℕ) (r : Answered)
-    → Served s o out (r .number) (r .laid) len s′ out′ → r .len ≡ cond (ltb (length out) 70) 0 (6 + len) → Replied s o out s′ out′ r
-replied s o out out′ s′ len r q e =
+    → Served s o out (r .number) (r .laid) len s′ out′ → r .len ≡ cond (ltb (length out) 70) 0 (6 + len)
+    → (r .moved ≡ false → s′ .tables ≡ s .tables) → Replied s o out s′ out′ r
+replied s o out out′ s′ len r q e kept =
     record {
       number-told = q .number-is;
       len-told = e ∙ rw (q .len-is) (reply-length (length out) o);
       laid-told = q .laid-is;
       state-out = q .state-out;
       reply-out = q .reply-out;
+      kept = kept;
     }
 
--- ---- a message alone, as the code comes to it from the reader
+-- ---- the message that the reader yields, as the code comes to it
 
-module _ (l m : List ℕ) (next : Next) (e : next ≡ nextAt l 0) (f : m ≡ bytesAt l next) where
-  pub asked-alone : (p : Parsed) → p ≡ askedAt next m → p ≡ asked (sentAlone l)
-  asked-alone p g = g ∙ rw (f, ← e) (by next)
-    where
-      by : (x : Next) → askedAt x (bytesAt l x) ≡ asked (sentBy l x)
-      by (Message start len next) = refl
-      by Cut = refl
-      by End = refl
+pub asked-by : (l m : List ℕ) (next : Next) (p : Parsed) → m ≡ bytesAt l next → p ≡ askedAt next m → p ≡ asked (sentBy l next)
+asked-by l m next p f g = g ∙ rw f (by next)
+  where
+    by : (x : Next) → askedAt x (bytesAt l x) ≡ asked (sentBy l x)
+    by (Message start len next) = refl
+    by Cut = refl
+    by End = refl
 
-  pub bytes-alone : writeBytes m ≡ bytesOf (sentAlone l)
-  bytes-alone = rw (f, ← e) (by next)
-    where
-      by : (x : Next) → writeBytes (bytesAt l x) ≡ bytesOf (sentBy l x)
-      by (Message start len next) = refl
-      by Cut = refl
-      by End = refl
+pub bytes-by : (l m : List ℕ) (next : Next) → m ≡ bytesAt l next → writeBytes m ≡ bytesOf (sentBy l next)
+bytes-by l m next f = rw f (by next)
+  where
+    by : (x : Next) → writeBytes (bytesAt l x) ≡ bytesOf (sentBy l x)
+    by (Message start len next) = refl
+    by Cut = refl
+    by End = refl
 
 -- ---- the rules
 

@@ -1,6 +1,7 @@
 -- What the private functions of this layer ask of each other and promise. For the proofs alone: no exported contract names it.
 use Prim.Native.Nat.{ℕ, _+_, _≤_}
-use mathlib.Core.Bool.{cond}
+use mathlib.Core.Path.{_≡_}
+use mathlib.Core.Bool.{Bool, true, false, cond}
 use mathlib.Core.List.{List, [], _∷_, _++_}
 use lib.ListN.{length, drop}
 use lib.Dec.{ltb}
@@ -8,15 +9,19 @@ use Rattle.tables.specs.Numbers.{cutShort, shortSlip}
 use Rattle.steps.specs.declared.Call.{Call}
 use Rattle.steps.specs.declared.Decision.{Decision}
 use Rattle.steps.specs.Kinds.{kindOf, callOf}
-use Rattle.steps.specs.Stores.{part}
+use Rattle.steps.specs.Stores.{part, splice}
+use Rattle.steps.specs.Steps.{Outcome}
+use Rattle.steps.specs.Effects.{State, Result, left, laidBy}
 use Rattle.steps.specs.Promises.{Lent, lent, carried}
 use Rattle.messages.specs.declared.Parsed.{Parsed}
 use Rattle.messages.specs.declared.Parsed.the-variants.{Refused, Asked}
 use Rattle.messages.specs.declared.Next.{Next}
 use Rattle.messages.specs.declared.Next.the-variants.{Message, Cut, End}
-use Rattle.messages.specs.Replies.{be16}
-use Rattle.messages.specs.Messages.{parse}
-use Rattle.messages.specs.Run.{Sent, cut, whole, messagesOf}
+use Rattle.messages.specs.declared.Tally.{Tally}
+use Rattle.messages.specs.declared.Filled.{Filled}
+use Rattle.messages.specs.Replies.{be16, replyIn, counted, isRefusal}
+use Rattle.messages.specs.Messages.{parse, nextAt}
+use Rattle.messages.specs.Run.{Sent, cut, whole, answer, messagesOf, full, passed}
 
 -- ---- the reader
 
@@ -25,6 +30,26 @@ abbrev pub yielded : List ℕ → Next → List Sent
 yielded file End = []
 yielded file Cut = cut ∷ []
 yielded file (Message start len next) = whole (part file start len) ∷ messagesOf (drop next file)
+
+-- what is due at a place: nothing more, as at the end, where the buffer is full
+abbrev pub dueAt : List ℕ → ℕ → Bool → Next
+dueAt file at isFull = cond isFull End (nextAt file at)
+
+abbrev pub isEnd : Next → Bool
+isEnd (Message start len next) = false
+isEnd Cut = false
+isEnd End = true
+
+-- the place past a message of a file of `end` bytes
+abbrev pub pastOf : ℕ → Next → ℕ
+pastOf end (Message start len next) = next
+pastOf end Cut = end
+pastOf end End = end
+
+-- the reader's answer at some place of the file
+pub record FoundIn (file : List ℕ) (next : Next) : Type 0 where
+  pub at : ℕ
+  pub found : next ≡ nextAt file at
 
 -- ---- one message
 
@@ -82,3 +107,44 @@ repliedWith d bs l =
       slow = carried d bs (dataPart l) .slow;
       out = heading (d .number) (d .laid) (d .len) ++ (carried d bs (dataPart l) .out ++ drop 70 (l .out));
     }
+
+-- ---- message after message
+
+-- where they stand: the place in the file, the bytes of the buffer that are used, the state, the buffer and the tally
+pub record Serving : Type 0 where
+  pub at : ℕ
+  pub used : ℕ
+  pub state : State
+  pub buffer : List ℕ
+  pub tally : Tally
+
+abbrev pub serving : ℕ → ℕ → State → List ℕ → Tally → Serving
+serving at used s out n = record { at = at; used = used; state = s; buffer = out; tally = n }
+
+-- replies that are kept go one behind the other; else each goes to the place of the one before
+abbrev pub ahead : Bool → ℕ → ℕ → ℕ
+ahead keep used len = cond keep (used + len) used
+
+-- after a message that comes to o, past which the file goes on at `next`
+abbrev pub servedOne : Bool → ℕ → Serving → ℕ → Outcome Result → Serving
+servedOne keep room v next o =
+    record {
+      at = next;
+      used = ahead keep (v .used) (length (replyIn room o));
+      state = left (v .state) o;
+      buffer = splice (v .buffer) (v .used) (replyIn room o);
+      tally = counted (v .tally) (isRefusal o) (laidBy o);
+    }
+
+-- after messages of a file of `end` bytes, until the buffer is full
+unfoldable pub servedAll : Bool → ℕ → ℕ → Serving → List Sent → Serving
+servedAll keep room end v [] = v
+servedAll keep room end v (x ∷ xs) =
+    cond (full room (v .used)) v
+    (servedAll keep room end (servedOne keep room v (passed end (v .at) x) (answer room (v .state) x)) xs)
+
+-- what `serve` leaves, from v on
+pub record ServeEnded (keep : Bool) (file : List ℕ) (v : Serving) (s′ : State) (out′ : List ℕ) (r : Filled) : Type 0 where
+  pub all : serving (r .at) (r .used) s′ out′ (r .tally)
+      ≡ servedAll keep (length (v .buffer)) (length file) v (messagesOf (drop (v .at) file))
+  pub kept : r .moved ≡ false → s′ .tables ≡ v .state .tables

@@ -1,7 +1,7 @@
 -- Document 01, "Call files and replies": one message, and the run over a call file.
-use Prim.Native.Nat.{ℕ, zero, suc, _+_, _*_}
-use mathlib.Core.Bool.{cond}
-use mathlib.Core.List.{List, [], _∷_, map}
+use Prim.Native.Nat.{ℕ, zero, suc, _+_, _-_, _*_}
+use mathlib.Core.Bool.{Bool, cond}
+use mathlib.Core.List.{List, [], _∷_, map, flatten}
 use lib.ListN.{length, take, drop}
 use lib.Dec.{ltb}
 use Rattle.tables.specs.Numbers.{cutShort, shortSlip}
@@ -94,3 +94,49 @@ buffer room (t ∷ ts) out = buffer room ts (over (replyIn room (t .outcome)) ou
 unfoldable pub tally : List Turn → Tally → Tally
 tally [] n = n
 tally (t ∷ ts) n = tally ts (counted n (isRefusal (t .outcome)) (laidBy (t .outcome)))
+
+-- ---- a part of a run: its replies one behind the other, as far as the buffer takes them
+
+abbrev pub joinedReplies : ℕ → List Turn → List ℕ
+joinedReplies room ts = flatten (replies room ts)
+
+-- A buffer of which so many bytes are used is full where fewer than 70 are left. One below 70 bytes takes no reply, so that none
+-- are ever used, and it is never full.
+abbrev pub full : ℕ → ℕ → Bool
+full room used = ltb (room - 70) used
+
+-- the turns that are served before the buffer is full
+unfoldable pub served : ℕ → ℕ → List Turn → List Turn
+served room used [] = []
+served room used (t ∷ ts) = cond (full room used) [] (t ∷ served room (used + length (replyIn room (t .outcome))) ts)
+
+-- "Every message is passed over by its L, refused or not; one cut short ends the file": the place past one at `at`
+abbrev pub passed : ℕ → ℕ → Sent → ℕ
+passed end at cut = end
+passed end at (whole m) = at + 2 + length m
+
+unfoldable pub placeAfter : ℕ → ℕ → List Turn → ℕ
+placeAfter end at [] = at
+placeAfter end at (t ∷ ts) = placeAfter end (passed end at (t .sent)) ts
+
+unfoldable pub stateAfter : State → List Turn → State
+stateAfter s [] = s
+stateAfter s (t ∷ ts) = stateAfter (left (t .found) (t .outcome)) ts
+
+-- its turns, the place of the file that it reaches, and the state there
+pub record Part : Type 0 where
+  pub turns : List Turn
+  pub place : ℕ
+  pub final : State
+
+-- the turns from a place of the file on, that a buffer of `room` bytes takes
+abbrev pub turnsFrom : ℕ → List ℕ → ℕ → State → List Turn
+turnsFrom room file at s = served room 0 (turnsOf room s (messagesOf (drop at file)))
+
+abbrev pub partFrom : ℕ → List ℕ → ℕ → State → Part
+partFrom room file at s =
+    record {
+      turns = turnsFrom room file at s;
+      place = placeAfter (length file) at (turnsFrom room file at s);
+      final = stateAfter s (turnsFrom room file at s);
+    }

@@ -15,6 +15,7 @@ use tables::Tables;
 pub use tallies::count;
 pub use tallies::tally_after;
 pub use turns::answer;
+pub use turns::fill;
 pub use turns::run;
 
 // The numbers of document 01's table that a message's own bytes give.
@@ -60,16 +61,28 @@ pub struct Tally {
     pub laid: u32,
 }
 
-// What a message comes to: its number, the length of its reply, the bytes laid, and the tables.
+// What a message comes to: its number, the length of its reply, the bytes laid, and the tables; where `moved` is false they
+// are as they were.
 pub struct Answered {
     pub number: u8,
     pub len: usize,
     pub laid: u16,
+    pub moved: bool,
     pub tables: Tables,
 }
 
 // What a run leaves.
 pub struct Ran {
+    pub moved: bool,
+    pub tables: Tables,
+    pub tally: Tally,
+}
+
+// What a part of a run leaves: the place of the file that it reached, and the bytes of the reply buffer that it used.
+pub struct Filled {
+    pub at: usize,
+    pub used: usize,
+    pub moved: bool,
     pub tables: Tables,
     pub tally: Tally,
 }

@@ -1,6 +1,7 @@
 // One message, and the run over a call file.
 use crate::Answered;
 use crate::CUT_SHORT;
+use crate::Filled;
 use crate::Next;
 use crate::Parsed;
 use crate::Ran;
@@ -24,10 +25,10 @@ use tables::Tables;
 ghost use mathlib.Core.Path.{_≡_};
 ghost use lib.ListN.{length};
 ghost use Rattle.steps.specs.Promises.{stateOf};
-ghost use Rattle.messages.specs.Messages.{nextAt};
-ghost use Rattle.messages.specs.Run.{answer, run};
-ghost use Rattle.messages.specs.Promises.{sentAlone, Replied, RunEnded};
-ghost use Rattle.messages.specs.Private.{bytesAt, askedAt, earlyNumber, callIn};
+ghost use Prim.Native.Nat.{_+_, _-_, _<_};
+ghost use Rattle.messages.specs.Run.{answer, run, partFrom};
+ghost use Rattle.messages.specs.Promises.{sentAlone, Replied, RunEnded, PartEnded};
+ghost use Rattle.messages.specs.Private.{dueAt, isEnd, pastOf, FoundIn, bytesAt, askedAt, earlyNumber, callIn, serving, ahead, ServeEnded};
 
 // The number that turns a message back before it is decided, and else 0: 18, 1 to 4, and 5 or 6 where that is known.
 fn early_number(parsed: Parsed, known: u8, room: usize) -> u8
@@ -57,7 +58,7 @@ fn call_in(parsed: Parsed) -> Call
 
 // The bytes after the length of the message that the reader yields; none where it is cut short.
 fn bytes_in(file: &[u8], next: Next) -> &[u8]
-    requires { ⌜ next ≡ nextAt (now file) 0 ⌝ }
+    requires { ⌜ FoundIn (now file) next ⌝ }
     ensures { λ r. ⌜ now r ≡ bytesAt (now (file .entry)) next ⌝ }
 {
     match next {
@@ -100,6 +101,7 @@ pub fn answer(
             number: early,
             len: reply_length(out.len(), 0),
             laid: 0,
+            moved: false,
             tables,
         };
     }
@@ -113,6 +115,7 @@ pub fn answer(
             number: d.number,
             len: 6 + d.len,
             laid: d.laid,
+            moved: true,
             tables: left,
         };
     }
@@ -120,53 +123,154 @@ pub fn answer(
         number: d.number,
         len: 6 + d.len,
         laid: d.laid,
+        moved: false,
         tables,
     }
 }
 
-// Message after message, each on the tables and stores that the one before it left. The buffer has
-// the replies in turn, and the tally is brought up to date after each.
-pub fn run(
+// The last place of a buffer at which a reply can begin.
+fn last_start(room: usize) -> usize
+    ensures { λ r. ⌜ r ≡ room - 70 ⌝ }
+{
+    if room < 70 { 0 } else { room - 70 }
+}
+
+// What is due at a place of the file: nothing more, as at the end, where the reply buffer is full.
+fn due_at(file: &[u8], at: usize, full: bool) -> Next
+    ensures { λ r. ⌜ r ≡ dueAt (now (file .entry)) at full ⌝ }
+{
+    if full {
+        return Next::End;
+    }
+    message_at(file, at)
+}
+
+fn is_end(next: Next) -> bool
+    ensures { λ r. ⌜ r ≡ isEnd next ⌝ }
+{
+    match next {
+        Next::End => true,
+        Next::Cut => false,
+        Next::Message { .. } => false,
+    }
+}
+
+// The place past a message; one cut short ends the file.
+fn past(next: Next, end: usize) -> usize
+    ensures { λ r. ⌜ r ≡ pastOf end next ⌝ }
+{
+    match next {
+        Next::Message { next, .. } => next,
+        Next::Cut => end,
+        Next::End => end,
+    }
+}
+
+// Where the next reply goes: behind one of `len` bytes that is kept, or again to the same place.
+fn ahead(keep: bool, used: usize, len: usize) -> usize
+    requires { ⌜ used + len < 18446744073709551616 ⌝ }
+    ensures { λ r. ⌜ r ≡ ahead keep used len ⌝ }
+{
+    if keep { used + len } else { used }
+}
+
+// Message after message from a place of the file on, each on the tables and stores that the one before it left; the tally
+// is brought up to date after each. Replies that are kept go one behind the other, until the buffer is full; else each
+// goes to the front.
+fn serve(
     mut tables: Tables,
     fast: &mut [u8],
     slow: &mut [u8],
     file: &[u8],
+    from: usize,
     out: &mut [u8],
     mut tally: Tally,
+    keep: bool,
+) -> Filled
+    ensures { λ r. ⌜ ServeEnded keep (now (file .entry))
+        (serving from 0 (stateOf tables (now (fast .entry)) (now (slow .entry))) (now (out .entry)) tally)
+        (stateOf (r .tables) (now (fast .exit)) (now (slow .exit))) (now (out .exit)) r ⌝ }
+{
+    // Once for all of them: every step keeps the rules.
+    let known = rules(tables, fast.len(), slow.len());
+    let mut moved = false;
+    let mut at = from;
+    let mut used = 0;
+    let last = last_start(out.len());
+    loop {
+        let next = due_at(file, at, used > last);
+        if is_end(next) {
+            return Filled {
+                at: at,
+                used: used,
+                moved: moved,
+                tables: tables,
+                tally: tally,
+            };
+        }
+        let m = bytes_in(file, next);
+        let parsed = asked_in(next, m);
+        let after = past(next, file.len());
+        let slip = &mut out[used..];
+        let room = slip.len();
+        let early = early_number(parsed, known, room);
+        if early != ACCEPTED {
+            reply_refusal(slip, early);
+            used = ahead(keep, used, reply_length(room, 0));
+            tally = tally_after(tally, true, 0);
+        } else {
+            let call = call_in(parsed);
+            let bytes = write_bytes(m);
+            let d = judge(tables, call, bytes.len());
+            reply_decided(d, bytes, fast, slow, slip);
+            used = ahead(keep, used, 6 + d.len);
+            tally = tally_after(tally, d.number != ACCEPTED, d.laid);
+            if d.moved {
+                tables = settle(tables, d);
+                moved = true;
+            }
+        }
+        at = after;
+    }
+}
+
+// The run over a call file. The buffer has the replies in turn, each at its front.
+pub fn run(
+    tables: Tables,
+    fast: &mut [u8],
+    slow: &mut [u8],
+    file: &[u8],
+    out: &mut [u8],
+    tally: Tally,
 ) -> Ran
-    ensures { λ r. ⌜ RunEnded (run (length (now (out .entry))) (now (file .entry)) (stateOf tables (now (fast .entry)) (now (slow .entry)))) tally
+    ensures { λ r. ⌜ RunEnded (stateOf tables (now (fast .entry)) (now (slow .entry)))
+        (run (length (now (out .entry))) (now (file .entry)) (stateOf tables (now (fast .entry)) (now (slow .entry)))) tally
         (now (out .entry)) (stateOf (r .tables) (now (fast .exit)) (now (slow .exit))) (now (out .exit)) r ⌝ }
 {
-    // Once for the whole run: every step keeps the rules.
-    let known = rules(tables, fast.len(), slow.len());
-    let mut at = 0;
-    loop {
-        match message_at(file, at) {
-            Next::Message { start, next, .. } => {
-                let m = &file[start..next];
-                let parsed = parse(m);
-                let early = early_number(parsed, known, out.len());
-                if early != ACCEPTED {
-                    reply_refusal(out, early);
-                    tally = tally_after(tally, true, 0);
-                } else {
-                    let call = call_in(parsed);
-                    let bytes = write_bytes(m);
-                    let d = judge(tables, call, bytes.len());
-                    reply_decided(d, bytes, fast, slow, out);
-                    if d.moved {
-                        tables = settle(tables, d);
-                    }
-                    tally = tally_after(tally, d.number != ACCEPTED, d.laid);
-                }
-                at = next;
-            }
-            Next::Cut => {
-                reply_refusal(out, CUT_SHORT);
-                tally = tally_after(tally, true, 0);
-                return Ran { tables, tally };
-            }
-            Next::End => return Ran { tables, tally },
-        }
+    let done = serve(tables, fast, slow, file, 0, out, tally, false);
+    let left = done.tables;
+    let counted = done.tally;
+    Ran {
+        moved: done.moved,
+        tables: left,
+        tally: counted,
     }
+}
+
+// A part of a run, from a place of the file on: reply after reply, until the file ends or fewer than 70 bytes of the
+// buffer are left. The caller empties the buffer and goes on from the place reached.
+pub fn fill(
+    tables: Tables,
+    fast: &mut [u8],
+    slow: &mut [u8],
+    file: &[u8],
+    at: usize,
+    out: &mut [u8],
+    tally: Tally,
+) -> Filled
+    ensures { λ r. ⌜ PartEnded (stateOf tables (now (fast .entry)) (now (slow .entry)))
+        (partFrom (length (now (out .entry))) (now (file .entry)) at (stateOf tables (now (fast .entry)) (now (slow .entry)))) tally
+        (now (out .entry)) (stateOf (r .tables) (now (fast .exit)) (now (slow .exit))) (now (out .exit)) r ⌝ }
+{
+    serve(tables, fast, slow, file, at, out, tally, true)
 }

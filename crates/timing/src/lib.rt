@@ -17,7 +17,8 @@ ghost use Rattle.messages.specs.Promises.{RunEnded};
 ghost use Rattle.embed.specs.Exports.{tablesOf, lentState};
 ghost use Rattle.timing.specs.Timed.{soundTimes, AnsweredAll};
 
-// What a run does, but every message is answered as if by itself: the rules are tested at each.
+// What a run does, but every message is answered as if by itself: the rules are tested at each. The
+// tables count as moved.
 fn answers(
     mut tables: Tables,
     fast: &mut [u8],
@@ -26,7 +27,8 @@ fn answers(
     out: &mut [u8],
     mut tally: Tally,
 ) -> Ran
-    ensures { λ r. ⌜ RunEnded (run (length (now (out .entry))) (now (file .entry)) (stateOf tables (now (fast .entry)) (now (slow .entry)))) tally
+    ensures { λ r. ⌜ RunEnded (stateOf tables (now (fast .entry)) (now (slow .entry)))
+        (run (length (now (out .entry))) (now (file .entry)) (stateOf tables (now (fast .entry)) (now (slow .entry)))) tally
         (now (out .entry)) (stateOf (r .tables) (now (fast .exit)) (now (slow .exit))) (now (out .exit)) r ⌝ }
 {
     let mut at = 0;
@@ -42,9 +44,17 @@ fn answers(
                 let a = answer(tables, fast, slow, &file[at..], out);
                 tables = a.tables;
                 tally = tally_after(tally, a.number != 0, a.laid);
-                return Ran { tables, tally };
+                return Ran {
+                    moved: true,
+                    tables,
+                    tally,
+                };
             }
-            Next::End => return Ran { tables, tally },
+            Next::End => return Ran {
+                moved: true,
+                tables,
+                tally,
+            },
         }
     }
 }

@@ -1,8 +1,11 @@
--- `reel_run` runs on the tables in the lent bytes, and puts them and the tally back.
+-- `reel_run` runs on the tables in the lent bytes, and puts the tally back, and the tables where they moved.
 use mathlib.Core.Path.{sym, ap, _∙_}
 use borrow.Author.Needs.{needs}
+use Rattle.tables.proofs.ListLaws.{and-left}
 use Rattle.steps.specs.Effects.{State}
+use Rattle.embed.specs.Exports.{withTables}
 use Rattle.embed.proofs.WayBack.{in-sized}
+use Rattle.embed.proofs.LentLaws.{put-moved}
 use Rattle.embed.proofs.reel_run.Statement.{statement}
 use Rattle.embed.proofs.reel_run.Tie as tie
 
@@ -20,9 +23,10 @@ run-requires c κs = search needs
 
 put-where-requires : tie.Need-put-where-requires
 put-where-requires c κs =
-    let h = c .before .before .before .before .before .before .before .before .before .before .before .before .before .before .before in
+    let d = c .before .before .before .before .before .before .before .before in
+    let h = d .before .before .before .before .before .before .before .before in
     let a = h .before .before .before .before .before .before .before .before .args in
-    λ e. in-sized (a .tables .now) (sym (h .holds-tables .ensures) ∙ e)
+    λ e. in-sized (a .tables .now) (sym (h .holds-tables .ensures) ∙ and-left (h .holds-tables .result) (d .run .result .moved) e)
 
 put-tally-requires : tie.Need-put-tally-requires
 put-tally-requires c κs = search needs
@@ -44,13 +48,15 @@ same-length-5 c = search needs
 
 returns : tie.Need-returns
 returns c =
-    let d = c .before .before .before .before .before .before .before .before .before .before .before .before .before .before in
+    let d = c .before .before .before .before .before .before .before .before .before .before .before .before .before .before .before in
     let n = d .before .before .before .before in
     let h = n .before .before .before .before in
+    let b = h .before .before .before .before .before .before .before .before .args .tables .now in
     let q = rw (n .before .before .tables-held .ensures, n .tally-of .ensures) at (d .run .ensures) in
     record {
-      tables-out = c .before .before .before .before .before .before .put-where .ensures
-          ∙ rw (h .holds-tables .ensures, ap (λ (s : State). s .tables) (q .state-out));
+      tables-out = c .before .before .before .before .before .before .put-where .ensures ∙ rw (h .holds-tables .ensures)
+          (put-moved b (d .run .result .moved) (d .run .result .tables) (q .kept)
+          ∙ ap (λ (s : State). withTables b (s .tables)) (q .state-out));
       lent-out = rw (ap (λ (s : State). s .fast) (q .state-out), ap (λ (s : State). s .slow) (q .state-out), q .buffer-out);
       tally-out = c .before .before .put-tally .ensures ∙ rw (q .tally-out);
     }

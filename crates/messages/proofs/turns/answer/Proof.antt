@@ -2,19 +2,24 @@
 use Prim.Native.Nat.{ℕ}
 use mathlib.Core.Bool.{cond}
 use mathlib.Core.Path.{_≡_, refl, ap, _∙_}
+use native.Mathlib.Omega.{arith}
 use lib.Dec.{ltb}
 use borrow.Author.Tests.{le-ltb}
 use Rattle.steps.specs.Promises.{stateOf}
-use Rattle.messages.specs.Run.{asked}
-use Rattle.messages.specs.Promises.{sentAlone}
-use Rattle.messages.proofs.TurnLaws.{served-early, Decided, decided, replied, asked-alone, bytes-alone}
+use Rattle.messages.specs.declared.Next.{Next}
+use Rattle.messages.specs.Run.{asked, bytesOf}
+use Rattle.messages.specs.Promises.{sentBy, sentAlone}
+use Rattle.messages.proofs.TurnLaws.{served-early, Decided, decided, replied, asked-by, bytes-by}
 use borrow.Author.Needs.{needs}
 use Rattle.messages.proofs.turns.answer.Statement.{statement}
 use Rattle.messages.proofs.turns.answer.Tie as tie
 
 -- what the message asks for
 asks : (c : tie.After-asked-in) → c .asked-in .result ≡ asked (sentAlone (c .before .before .before .before .before .before .before .args .message .now))
-asks c = asked-alone _ _ _ (c .before .before .message-at .ensures) (c .before .bytes-in .ensures) _ (c .asked-in .ensures)
+asks c =
+    let l = c .before .before .before .before .before .before .before .args .message .now in
+    asked-by l _ (c .before .before .message-at .result) _ (c .before .bytes-in .ensures) (c .asked-in .ensures)
+    ∙ ap (λ (n : Next). asked (sentBy l n)) (c .before .before .message-at .ensures)
 
 -- what is known where it is decided on
 done : (c : tie.After-judge-any) →
@@ -24,14 +29,14 @@ done c =
     let a = c .before .before .before .before .before in
     let v = a .before .before .before .before .before .before .before .args in
     decided (stateOf (v .tables) (v .fast .now) (v .slow .now)) (sentAlone (v .message .now)) _ 0 _ (v .out .now) (asks a) (c .before .before .before .before .early-number .ensures)
-    _ (c .judge-any .result) (c .before .before .before .if1 .left) (c .before .write-bytes .ensures ∙ bytes-alone _ _ _ (a .before .before .message-at .ensures) (a .before .bytes-in .ensures))
+    _ (c .judge-any .result) (c .before .before .before .if1 .left) (c .before .write-bytes .ensures ∙ bytes-by (v .message .now) _ (a .before .before .message-at .result) (a .before .bytes-in .ensures) ∙ ap (λ (n : Next). bytesOf (sentBy (v .message .now) n)) (a .before .before .message-at .ensures))
     (λ _. rw (← c .before .before .call-in .ensures) (c .judge-any .ensures))
 
 message-at-requires : tie.Need-message-at-requires
 message-at-requires c κs = search needs
 
 bytes-in-requires : tie.Need-bytes-in-requires
-bytes-in-requires c κs = search needs
+bytes-in-requires c κs = record { at = 0; found = c .message-at .ensures }
 
 asked-in-requires : tie.Need-asked-in-requires
 asked-in-requires c κs = search needs
@@ -56,7 +61,7 @@ returns c =
     replied _ _ (v .out .now) _ _ 0 _
     (served-early (stateOf (v .tables) (v .fast .now) (v .slow .now)) (sentAlone (v .message .now)) _ 0 _ (v .out .now) (asks (b .before)) (b .early-number .ensures) _
     (λ z. absurd (z refl)) (c .before .before .before .before .before .if1 .taken) (f .ensures))
-    (c .reply-length .ensures ∙ ap (λ (n : ℕ). cond (ltb n 70) 0 6) (f .kept .0))
+    (c .reply-length .ensures ∙ ap (λ (n : ℕ). cond (ltb n 70) 0 6) (f .kept .0)) (λ _. refl)
 
 call-in-requires : tie.Need-call-in-requires
 call-in-requires c κs = search needs
@@ -92,7 +97,7 @@ same-length-4 c = search needs
 returns-2 : tie.Need-returns-2
 returns-2 c =
     let w = done (c .before .before .before .before .before .before .before .before .before .before .before .before .before) in
-    replied _ _ _ _ _ _ _ (w .served _ _ _ _ (rw (c .before .before .if2 .taken) (c .before .settle .ensures)) (c .before .before .before .before .before .before .before .before .before .reply-decided .ensures)) (rw (le-ltb _ 70 (w .roomy)))
+    replied _ _ _ _ _ _ _ (w .served _ _ _ _ (rw (c .before .before .if2 .taken) (c .before .settle .ensures)) (c .before .before .before .before .before .before .before .before .before .reply-decided .ensures)) (rw (le-ltb _ 70 (w .roomy))) (λ e. let z : _≡_ {A = ℕ} 0 1 = cc in absurd (omega arith))
 
 add-t14 : tie.Need-add-t14
 add-t14 c =
@@ -111,7 +116,7 @@ same-length-7 c = search needs
 returns-3 : tie.Need-returns-3
 returns-3 c =
     let w = done (c .before .before .before .before .before .before .before .before .before .before .before .before) in
-    replied _ _ _ _ _ _ _ (w .served _ _ _ _ (rw (c .before .if2 .left)) (c .before .before .before .before .before .before .before .before .reply-decided .ensures)) (rw (le-ltb _ 70 (w .roomy)))
+    replied _ _ _ _ _ _ _ (w .served _ _ _ _ (rw (c .before .if2 .left)) (c .before .before .before .before .before .before .before .before .reply-decided .ensures)) (rw (le-ltb _ 70 (w .roomy))) (λ _. refl)
 
 pub answer-spec : {M : Type 1} → statement M
 answer-spec =

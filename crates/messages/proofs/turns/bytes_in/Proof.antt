@@ -11,17 +11,17 @@ enum-known-next c = search needs
 
 sub-result : tie.Need-sub-result
 sub-result c =
-    let m = message-at _ 0 _ _ _ (sym (c .before .next .given .1) ∙ c .before .before .before .pre) in
+    let m = message-at _ (c .before .before .before .pre .at) _ _ _ (sym (c .before .next .given .1) ∙ c .before .before .before .pre .found) in
     omega arith
 
 part-result-start : tie.Need-part-result-start
 part-result-start c =
-    let m = message-at _ 0 _ _ _ (sym (c .before .next .given .1) ∙ c .before .before .before .pre) in
+    let m = message-at _ (c .before .before .before .pre .at) _ _ _ (sym (c .before .next .given .1) ∙ c .before .before .before .pre .found) in
     omega arith
 
 part-result-end : tie.Need-part-result-end
 part-result-end c =
-    let m = message-at _ 0 _ _ _ (sym (c .before .next .given .1) ∙ c .before .before .before .pre) in
+    let m = message-at _ (c .before .before .before .pre .at) _ _ _ (sym (c .before .next .given .1) ∙ c .before .before .before .pre .found) in
     omega arith
 
 enum-told : tie.Need-enum-told
@@ -39,7 +39,7 @@ slice-aggregate-result-2 c = search needs
 returns : tie.Need-returns
 returns c =
     let e = c .before .before .next .given .1 in
-    rw e (message-part _ 0 _ _ _ (sym e ∙ c .before .before .before .before .pre))
+    rw e (message-part _ (c .before .before .before .before .pre .at) _ _ _ (sym e ∙ c .before .before .before .before .pre .found))
 
 returns-2 : tie.Need-returns-2
 returns-2 c = search needs
