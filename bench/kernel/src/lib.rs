@@ -1,6 +1,8 @@
 //! The kernel's C functions, the only binding of its library in Rust: over lent slices, and behind
 //! a unit that owns all it lends.
 
+/// The version of the library that this binding is for: 65536 * major + 256 * minor + patch.
+pub const VERSION: u32 = 65536;
 /// How many bytes the tables take. Nothing in Rust looks into them.
 pub const TABLES: usize = 2690;
 /// The bytes of a frame, and so of a page.
@@ -94,7 +96,7 @@ pub type Answering = unsafe extern "C" fn(
 // SAFETY, for all functions below: each pointer comes with its length from a live slice, and the
 // borrow checker keeps the slices lent for writing apart from all others.
 
-/// The version of the library: 65536 * major + 256 * minor + patch.
+/// The version of the library that is linked, to be compared with `VERSION`.
 pub fn version() -> u32 {
     unsafe { reel_version() }
 }
@@ -378,6 +380,11 @@ mod tests {
         };
         assert_eq!(refused, due);
         assert_eq!(refused.data(), []);
+    }
+
+    #[test]
+    fn the_library_is_of_this_version() {
+        assert_eq!(super::version(), super::VERSION);
     }
 
     #[test]
