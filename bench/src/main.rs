@@ -1,8 +1,9 @@
 //! The kernel beside plain Rust, on the same calls.
 //!
-//! `bench` prints every figure. `bench WORK SIDE`, with WORK run, answer or sound and SIDE kernel,
-//! unchecked or checked, does that work once on that side, for a count of instructions, and
-//! `bench WORK count` prints how many messages or tests it has.
+//! `bench` prints every figure. `bench WORK SIDE`, with SIDE kernel, unchecked or checked, does that
+//! work once on that side, for a count of instructions, and `bench WORK count` prints how many
+//! messages, tests or calls it has. WORK is run, answer or sound; on the kernel's side alone kept or
+//! parts, a run with its replies, and refused, look, grant or empty, the C call by itself.
 
 mod timing;
 
@@ -10,15 +11,24 @@ use bench::calls::{Calls, Counts};
 use bench::peer::Peer;
 use bench::{FAST, MIX, SLOW};
 use kernel::Unit;
+use std::hint::black_box;
 use std::time::Instant;
 
 const TESTS: u32 = 5_000;
+/// How often a call is made by itself.
+const CALLS: usize = 1_000;
+/// A reply buffer that is emptied between the parts of a run.
+const PART: usize = 4096;
 
 /// Who answers a call file, and how.
 #[derive(Clone, Copy)]
 enum Side {
     /// The kernel: the rules are tested once.
     Run,
+    /// The kernel: the same, with every reply kept in one buffer.
+    Kept,
+    /// The kernel: the same, part by part in a buffer that is emptied between.
+    Parts,
     /// The kernel: each message by itself, the rules tested at each.
     Answers,
     /// Plain Rust without any test of the rules.
@@ -70,24 +80,39 @@ impl Work {
         Work::of(start, calls)
     }
 
-    fn unit(&self) -> Unit {
+    /// The kernel with a reply buffer of this length.
+    fn unit(&self, room: usize) -> Unit {
         let mut unit = Unit::fresh(FAST, SLOW).expect("fresh tables");
         unit.tables = self.start.tables.bytes();
         unit.fast.clone_from(&self.start.fast);
         unit.slow.clone_from(&self.start.slow);
+        unit.out = vec![0; room];
         unit
     }
 
-    /// Both sides leave the same: every reply, the tables, the stores, the tally and the count.
+    fn calls(&self) -> [Call; 4] {
+        Call::all(self.start.tables.pages[0].owner)
+    }
+
+    fn sides(&self) -> Sides {
+        Sides {
+            last: self.unit(kernel::SLIP),
+            kept: self.unit(kernel::SLIP * self.counts.messages),
+            parts: self.unit(PART),
+            peer: self.start.clone(),
+        }
+    }
+
+    /// All sides leave the same: every reply, the tables, the stores, the tally and the count.
     fn check(&self) {
-        let (mut one, mut run, mut each) = (self.unit(), self.unit(), self.unit());
+        let (mut one, mut run, mut each) = (self.unit(70), self.unit(70), self.unit(70));
         let (mut unchecked, mut checked) = (self.start.clone(), self.start.clone());
         let mut single = self.start.clone();
-        let mut rest = &self.file[..];
+        let (mut rest, mut replies) = (&self.file[..], Vec::<u8>::new());
         while !rest.is_empty() {
             let (message, after) =
                 rest.split_at(2 + usize::from(rest[0]) * 256 + usize::from(rest[1]));
-            one.answer(message);
+            replies.extend(one.answer(message).reply);
             single.message::<true>(Some(&message[2..]));
             assert!(one.out == single.out, "replies differ");
             rest = after;
@@ -101,9 +126,26 @@ impl Work {
             "tallies differ"
         );
         assert_eq!(count, run.tally[0], "counts differ");
+        let Sides {
+            mut kept,
+            mut parts,
+            ..
+        } = self.sides();
+        for unit in [&mut kept, &mut parts] {
+            unit.replies(&self.file, |part| {
+                black_box(part);
+            });
+            assert!(unit.tally == run.tally, "tallies differ");
+        }
+        assert!(kept.out.starts_with(&replies), "kept replies differ");
         for unit in [&one, &run, &each] {
+            assert!(
+                unit.out == unchecked.out && unit.out == checked.out,
+                "last replies differ"
+            );
+        }
+        for unit in [&one, &run, &each, &kept, &parts] {
             for peer in [&unchecked, &checked] {
-                assert!(unit.out == peer.out, "last replies differ");
                 assert!(unit.tables == peer.tables.bytes(), "tables differ");
                 assert!(
                     unit.fast == peer.fast && unit.slow == peer.slow,
@@ -115,16 +157,16 @@ impl Work {
 
     /// The times of each side, round by round.
     fn times<const N: usize>(&self, rounds: usize, sides: [Side; N]) -> [Vec<f64>; N] {
-        let (mut unit, mut peer) = (self.unit(), self.start.clone());
-        let bytes = unit.tables.clone();
+        let mut on = self.sides();
+        let bytes = self.start.tables.bytes();
         let mut times = [const { vec![] }; N];
         for _ in 0..rounds {
             for (side, times) in sides.iter().zip(&mut times) {
-                unit.tables.copy_from_slice(&bytes);
-                peer.tables.clone_from(&self.start.tables);
-                times.push(time(self.counts.messages, || {
-                    side.answer(&mut unit, &mut peer, &self.file)
-                }));
+                for unit in [&mut on.last, &mut on.kept, &mut on.parts] {
+                    unit.tables.copy_from_slice(&bytes);
+                }
+                on.peer.tables.clone_from(&self.start.tables);
+                times.push(time(self.counts.messages, || on.answer(*side, &self.file)));
             }
         }
         times
@@ -140,15 +182,85 @@ impl Work {
     }
 }
 
-impl Side {
-    fn answer(self, unit: &mut Unit, peer: &mut Peer, file: &[u8]) {
-        match self {
-            Side::Run => unit.run(file),
+/// The kernel with reply buffers of three lengths, and the peer.
+struct Sides {
+    last: Unit,
+    kept: Unit,
+    parts: Unit,
+    peer: Peer,
+}
+
+impl Sides {
+    fn answer(&mut self, side: Side, file: &[u8]) {
+        match side {
+            Side::Run => self.last.run(file),
+            Side::Kept => self.kept.replies(file, |part| {
+                black_box(part);
+            }),
+            Side::Parts => self.parts.replies(file, |part| {
+                black_box(part);
+            }),
             Side::Answers => {
-                timing::answers(unit, file);
+                timing::answers(&mut self.last, file);
             }
-            Side::Unchecked => peer.run_by_rust::<false>(file),
-            Side::Checked => peer.run_by_rust::<true>(file),
+            Side::Unchecked => self.peer.run_by_rust::<false>(file),
+            Side::Checked => self.peer.run_by_rust::<true>(file),
+        }
+    }
+}
+
+/// A call of a C function by itself, on full tables.
+struct Call {
+    name: &'static str,
+    what: &'static str,
+    /// The messages that take turns, one a call; none for a run over an empty file.
+    messages: Vec<Vec<u8>>,
+    /// The number that they get.
+    number: u8,
+}
+
+impl Call {
+    /// The calls on tables whose page 0 has this owner.
+    fn all(owner: u8) -> [Call; 4] {
+        let grant = |right| vec![0, 6, 1, 3, owner, 0, (owner + 1) % 16, right];
+        [
+            Call {
+                name: "refused",
+                what: "`reel_answer`, a refused message of two bytes",
+                messages: vec![vec![0, 0]],
+                number: 2,
+            },
+            Call {
+                name: "look",
+                what: "`reel_answer`, a look at a page",
+                messages: vec![vec![0, 3, 1, 10, 0]],
+                number: 0,
+            },
+            Call {
+                name: "grant",
+                what: "`reel_answer`, a grant that changes the tables",
+                messages: vec![grant(1), grant(2)],
+                number: 0,
+            },
+            Call {
+                name: "empty",
+                what: "`reel_run`, an empty file",
+                messages: vec![],
+                number: 0,
+            },
+        ]
+    }
+
+    /// Calls it again and again.
+    fn repeat(&self, unit: &mut Unit) {
+        for i in 0..CALLS {
+            match &self.messages[..] {
+                [] => unit.run(&[]),
+                turns => {
+                    let answer = unit.answer(&turns[i % turns.len()]);
+                    assert_eq!(answer.number, self.number, "{}", self.what);
+                }
+            }
         }
     }
 }
@@ -171,42 +283,69 @@ fn median_ratio(a: &[f64], b: &[f64]) -> f64 {
     ratios[ratios.len() / 2]
 }
 
-fn line(what: &str, kernel: &[f64], rust: &[f64]) {
-    let (k, r) = (best(kernel), best(rust));
-    println!(
-        "{what:<42} kernel {k:7.1} ns  Rust {r:7.1} ns  ratio {:.2}, median {:.2}",
-        k / r,
-        median_ratio(kernel, rust)
-    );
+/// A row of the table of times.
+fn row(what: &str, kernel: &[f64], other: &[f64]) {
+    let (k, o) = (best(kernel), best(other));
+    let (ratio, median) = (k / o, median_ratio(kernel, other));
+    println!("| {what} | {k:.1} | {o:.1} | {ratio:.2} | {median:.2} |");
 }
 
+/// Prints the tables of docs/SPEED.md that have times.
 fn report() {
     let (shift, full) = (Work::shift(), Work::full());
     shift.check();
     full.check();
     println!("(a) a shift from fresh tables, {}", shift.describe());
-    let [run, unchecked, checked] = shift.times(100, [Side::Run, Side::Unchecked, Side::Checked]);
-    line("run, Rust without the test of the rules", &run, &unchecked);
-    line("run, Rust with the test at each message", &run, &checked);
-
     println!("(b) single messages on full tables, {}", full.describe());
+
+    println!("\n| Nanoseconds a message or test | kernel | beside it | ratio | median |");
+    println!("|---|---|---|---|---|");
+    let [run, unchecked, checked] = shift.times(100, [Side::Run, Side::Unchecked, Side::Checked]);
+    let without = "(a) run; Rust without any test of the rules";
+    row(without, &run, &unchecked);
+    let with = "(a) run; Rust with the test before every message";
+    row(with, &run, &checked);
+    let [kept, parts, run] = shift.times(100, [Side::Kept, Side::Parts, Side::Run]);
+    let whole = "(a) every reply kept in one buffer; run";
+    row(whole, &kept, &run);
+    let emptied = "(a) every reply kept, 4096 bytes at a time; run";
+    row(emptied, &parts, &run);
     let [answers, checked] = full.times(400, [Side::Answers, Side::Checked]);
-    line("answer, Rust with the test", &answers, &checked);
+    let single = "(b) answer; Rust with the test before the message";
+    row(single, &answers, &checked);
+    let (kernel, rust) = tests(&full);
+    row("the test of the rules alone; Rust", &kernel, &rust);
 
-    let (unit, mut peer) = (full.unit(), full.start.clone());
-    let (mut kernel, mut rust) = (vec![], vec![]);
-    for _ in 0..200 {
-        kernel.push(time(TESTS as usize, || {
-            assert_eq!(timing::sound(&unit, TESTS), TESTS)
-        }));
-        rust.push(time(TESTS as usize, || {
-            assert_eq!(peer.sound_by_rust(TESTS), TESTS)
-        }));
+    println!("\n| The C call by itself, on full tables | nanoseconds |");
+    println!("|---|---|");
+    for call in full.calls() {
+        let mut unit = full.unit(70);
+        let rounds = (0..200).map(|_| time(CALLS, || call.repeat(&mut unit)));
+        let times: Vec<f64> = rounds.collect();
+        println!("| {} | {:.1} |", call.what, best(&times));
     }
-    line("the test of the rules alone", &kernel, &rust);
+    by_size();
+}
 
-    println!("(c) accepted calls by pages and copies a page, best times in nanoseconds a message");
-    println!("pages copies | run: kernel  Rust without the test  ratio | answer: kernel  Rust with the test  ratio");
+/// The times of the test of the rules, by the kernel and by Rust.
+fn tests(full: &Work) -> (Vec<f64>, Vec<f64>) {
+    let (unit, mut peer) = (full.unit(70), full.start.clone());
+    let rounds = (0..200).map(|_| {
+        let kernel = time(TESTS as usize, || {
+            assert_eq!(timing::sound(&unit, TESTS), TESTS)
+        });
+        let rust = time(TESTS as usize, || {
+            assert_eq!(peer.sound_by_rust(TESTS), TESTS)
+        });
+        (kernel, rust)
+    });
+    rounds.unzip()
+}
+
+/// (c) Accepted calls by pages and copies a page.
+fn by_size() {
+    println!("\n| pages | copies | run | Rust without the test | ratio | answer | Rust with the test | ratio |");
+    println!("|---|---|---|---|---|---|---|---|");
     for pages in [1, 8, 32, 64] {
         for copies in [1, 2, 4, 8] {
             if u16::from(pages) * u16::from(copies) >= u16::from(FAST + SLOW) {
@@ -217,7 +356,7 @@ fn report() {
             let sides = [Side::Run, Side::Unchecked, Side::Answers, Side::Checked];
             let [run, unchecked, answers, checked] = work.times(150, sides).map(|t| best(&t));
             println!(
-                "{pages:5} {copies:6} | {run:11.1} {unchecked:22.1} {:6.2} | {answers:14.1} {checked:19.1} {:6.2}",
+                "| {pages} | {copies} | {run:.1} | {unchecked:.1} | {:.2} | {answers:.1} | {checked:.1} | {:.2} |",
                 run / unchecked,
                 answers / checked
             );
@@ -228,21 +367,29 @@ fn report() {
 /// One piece of work, once.
 fn once(work: &str, side: &str) {
     let given = match work {
-        "run" => Work::shift(),
+        "run" | "kept" | "parts" => Work::shift(),
         _ => Work::full(),
     };
-    let (mut unit, mut peer) = (given.unit(), given.start.clone());
+    let mut sides = given.sides();
+    if let Some(call) = given.calls().iter().find(|call| call.name == work) {
+        return match side {
+            "count" => println!("{CALLS}"),
+            _ => call.repeat(&mut sides.last),
+        };
+    }
     let side = match (work, side) {
         ("sound", "count") => return println!("{TESTS}"),
         (_, "count") => return println!("{}", given.counts.messages),
-        ("sound", "kernel") => return assert_eq!(timing::sound(&unit, TESTS), TESTS),
-        ("sound", _) => return assert_eq!(peer.sound_by_rust(TESTS), TESTS),
+        ("sound", "kernel") => return assert_eq!(timing::sound(&sides.last, TESTS), TESTS),
+        ("sound", _) => return assert_eq!(sides.peer.sound_by_rust(TESTS), TESTS),
+        ("kept", _) => Side::Kept,
+        ("parts", _) => Side::Parts,
         ("run", "kernel") => Side::Run,
         (_, "kernel") => Side::Answers,
         (_, "unchecked") => Side::Unchecked,
         _ => Side::Checked,
     };
-    side.answer(&mut unit, &mut peer, &given.file);
+    sides.answer(side, &given.file);
 }
 
 fn main() {

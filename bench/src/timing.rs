@@ -23,19 +23,15 @@ extern "C" {
 /// Answers each message of a call file by itself; the rules are tested at each. Gives how many
 /// there were.
 pub fn answers(unit: &mut Unit, file: &[u8]) -> u32 {
-    // SAFETY: pointers and lengths are those of live buffers, no two of which overlap.
+    // SAFETY: it is proved to touch the lent slices alone.
     unsafe {
-        reel_answers(
-            unit.tables.as_mut_ptr(),
-            unit.tables.len(),
-            unit.fast.as_mut_ptr(),
-            unit.fast.len(),
-            unit.slow.as_mut_ptr(),
-            unit.slow.len(),
-            file.as_ptr(),
-            file.len(),
-            unit.out.as_mut_ptr(),
-            unit.out.len(),
+        kernel::answer_by(
+            reel_answers,
+            &mut unit.tables,
+            &mut unit.fast,
+            &mut unit.slow,
+            file,
+            &mut unit.out,
         )
     }
 }

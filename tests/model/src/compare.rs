@@ -4,7 +4,7 @@ use crate::flat::Demand3;
 use crate::gen::{self, Moves, Rng, DAMAGES, SHORT_SLIPS, SLIPS};
 use crate::kernel::{packed, Kernel, Modelled};
 use crate::model::{
-    self, Call, Lent, Reader, Refusal, Tables, ENTRIES, FRAME, RAW, RECORD, STATIONS,
+    self, Call, Lent, Reached, Reader, Refusal, Tables, ENTRIES, FRAME, RAW, RECORD, SLIP,
 };
 use reel::words::{self, hex, WORDS};
 
@@ -31,6 +31,8 @@ pub struct Counts {
     /// Whole files run, and those of them on which demand 3 was checked.
     pub runs: u64,
     pub runs_from_fresh: u64,
+    /// Calls that keep the replies of a part of a file.
+    pub parts: u64,
 }
 
 impl Counts {
@@ -97,6 +99,27 @@ impl Compare<'_> {
         Ok(())
     }
 
+    /// Now and then the test of the tables, and the message as a read that needs no reply buffer.
+    fn looks(&mut self, lent: &Lent, bytes: &[u8]) -> String {
+        let mut difference = String::new();
+        if self.rng.once_in(8) {
+            let (given, due) = (self.kernel.rules(lent), Modelled.rules(lent));
+            if given != due {
+                difference += &format!("\n  test of the tables: kernel {given}, model {due}");
+            }
+        }
+        if let [_, _, 1, 4, station, page, offset, count] = *bytes {
+            let arguments = [station, page, offset, count];
+            let given = self.kernel.read(lent, arguments);
+            let due = Modelled.read(lent, arguments);
+            if given != due {
+                let [given, due] = [given, due].map(place_in_words);
+                difference += &format!("\n  place of the read: kernel {given}; model {due}");
+            }
+        }
+        difference
+    }
+
     /// One message's bytes given to kernel and model; what the kernel left.
     fn answer(&mut self, lent: &Lent, bytes: &[u8]) -> Result<Lent, String> {
         let mut by_kernel = lent.clone();
@@ -106,10 +129,11 @@ impl Compare<'_> {
         let due = packed(answer);
         self.counts.messages += 1;
         self.counts.numbers[usize::from(answer.number)] += 1;
-        let mut difference = difference(lent, &by_kernel, &by_model);
+        let mut difference = difference(&by_kernel, &by_model);
         if given != due {
             difference.insert_str(0, &format!("\n  answer: {}", in_words(given, due)));
         }
+        difference += &self.looks(lent, bytes);
         let is_refused = given.to_le_bytes()[0] != 0;
         if is_refused && is_changed(lent, &by_kernel) {
             difference.push_str("\n  a refused message changed the tables or a store");
@@ -126,38 +150,86 @@ impl Compare<'_> {
         ))
     }
 
-    /// A whole file given to kernel and model; what the kernel left.
-    fn run(&mut self, lent: &Lent, file: &[u8]) -> Result<Lent, String> {
-        let tally: Vec<u32> = match self.rng.below(8) {
+    /// A tally to count on in, now and then of a wrong length.
+    fn tally(&mut self) -> Vec<u32> {
+        match self.rng.below(8) {
             0 => vec![7; self.rng.pick(&[0, 1, 2, 4])],
             1 => (0..3)
                 .map(|_| u32::MAX - self.rng.below(9) as u32)
                 .collect(),
             2 => (0..3).map(|_| self.rng.below(1 << 32) as u32).collect(),
             _ => vec![0; 3],
-        };
+        }
+    }
+
+    /// A whole file given to kernel and model; what the kernel left.
+    fn run(&mut self, lent: &Lent, file: &[u8]) -> Result<Lent, String> {
+        let tally = self.tally();
         let (mut kernels, mut models) = (tally.clone(), tally.clone());
         let mut by_kernel = lent.clone();
         let mut by_model = lent.clone();
         self.kernel.run(&mut by_kernel, file, &mut kernels);
         Modelled.run(&mut by_model, file, &mut models);
         self.counts.runs += 1;
-        let mut difference = difference(lent, &by_kernel, &by_model);
-        if kernels != models {
-            difference.push_str(&format!(
-                "\n  tally from {tally:?}: kernel {kernels:?}, model {models:?}"
-            ));
-        }
+        let mut difference = difference(&by_kernel, &by_model);
+        difference += &tally_difference(&tally, &kernels, &models);
         if difference.is_empty() {
             return Ok(by_kernel);
         }
+        Err(format!("run of {}{difference}", file_in_words(lent, file)))
+    }
+
+    /// A file from a place on given to kernel and model, its replies kept: where they came to.
+    /// What the kernel left is in `lent` and in `tally`.
+    fn part(
+        &mut self,
+        lent: &mut Lent,
+        file: &[u8],
+        at: usize,
+        tally: &mut Vec<u32>,
+    ) -> Result<Reached, String> {
+        let (mut kernels, mut models) = (tally.clone(), tally.clone());
+        let mut by_kernel = lent.clone();
+        let mut by_model = lent.clone();
+        let given = self.kernel.replies(&mut by_kernel, file, at, &mut kernels);
+        let due = Modelled.replies(&mut by_model, file, at, &mut models);
+        self.counts.parts += 1;
+        let mut difference = difference(&by_kernel, &by_model);
+        difference += &tally_difference(tally, &kernels, &models);
+        if given != due {
+            difference += &format!("\n  kernel {given:?}, model {due:?}");
+        }
+        if difference.is_empty() {
+            *lent = by_kernel;
+            *tally = kernels;
+            return Ok(given);
+        }
         Err(format!(
-            "run of a file of {} bytes, {} messages\n  bytes: {}{}{difference}",
-            file.len(),
-            Reader::new(file).count(),
-            hex(&file[..file.len().min(400)]),
-            lent_in_words(lent)
+            "replies from {at} on of {}{difference}",
+            file_in_words(lent, file)
         ))
+    }
+
+    /// All replies of a file, part after part in a buffer of this length, which is emptied
+    /// between. Gives what the kernel left, and the replies.
+    fn parts(&mut self, start: &Lent, file: &[u8], room: usize) -> Result<(Lent, Vec<u8>), String> {
+        let mut lent = start.clone();
+        let mut tally = self.tally();
+        let (mut replies, mut at) = (Vec::new(), 0);
+        loop {
+            lent.out = self.rng.bytes(room);
+            let reached = self.part(&mut lent, file, at, &mut tally)?;
+            replies.extend(&lent.out[..reached.used]);
+            if reached.at >= file.len() {
+                return Ok((lent, replies));
+            }
+            if reached.at <= at {
+                return Err(format!(
+                    "replies from {at} on come no further than {reached:?}"
+                ));
+            }
+            at = reached.at;
+        }
     }
 
     // ---- Sweeps ----
@@ -195,6 +267,13 @@ impl Compare<'_> {
             let call = self.rng.pick(&calls);
             self.answer(&damaged, &call.encode())?;
         }
+        for flipped in gen::flipped_marks(&lent) {
+            let calls = gen::shaped_calls(&mut self.rng);
+            let call = self.rng.pick(&calls).encode();
+            self.answer(&flipped, &call)?;
+            self.run(&flipped, &call)?;
+            self.run(&flipped, &[])?;
+        }
         for _ in 0..64 {
             let mut hindered = lent.clone();
             match self.rng.below(4) {
@@ -218,8 +297,14 @@ impl Compare<'_> {
             self.answer(lent, message)?;
         }
         self.answer(lent, &[])?;
-        self.run(lent, &[])?;
-        self.run(lent, &messages.concat())?;
+        let file = messages.concat();
+        for file in [&[], &file[..]] {
+            self.run(lent, file)?;
+            for at in [0, 1, file.len(), file.len() + 1, usize::MAX] {
+                let mut tally = self.tally();
+                self.part(&mut lent.clone(), file, at, &mut tally)?;
+            }
+        }
         Ok(())
     }
 
@@ -303,12 +388,12 @@ impl Compare<'_> {
             let before = trial.tables();
             trial.lent = self.answer(&trial.lent, &bytes)?;
             trial.file.extend(message);
+            trial.replies.extend(reply_in(&trial.lent.out));
             if let Some(demand3) = &mut trial.demand3 {
-                let out = &trial.lent.out;
-                let end = 2 + usize::from(u16::from_be_bytes([out[0], out[1]]));
-                let checked = demand3.turn(&before, message, &out[..end]);
+                let reply = reply_in(&trial.lent.out);
+                let checked = demand3.turn(&before, message, reply);
                 checked.map_err(|error| format!("{}\n  {error}", words::message(message)))?;
-                let accepted = out[3] == 0;
+                let accepted = reply[3] == 0;
                 trial.reach(&mut self.counts, &before, message, accepted);
             }
         }
@@ -328,20 +413,54 @@ impl Compare<'_> {
         Ok(())
     }
 
-    /// The file of a trial run at once, which must come to the same end.
+    /// The file of a trial run at once and part by part, which must come to the same end.
     fn whole_run(&mut self, trial: &Trial) -> Result<(), String> {
         let end = self.run(&trial.start, &trial.file)?;
-        let same = (&end.fast, &end.slow) == (&trial.lent.fast, &trial.lent.slow)
-            && marks_as_read(&end.tables) == marks_as_read(&trial.lent.tables);
-        if !same {
+        if is_changed(&trial.lent, &end) {
             return Err("a run came to another end than its messages one by one".into());
         }
+        self.whole_replies(trial)?;
         if let Some(demand3) = &trial.demand3 {
             self.counts.runs_from_fresh += 1;
             let tables = Tables::from_raw(&end.tables).ok_or("a run left broken tables")?;
             demand3.end(&tables, &end.fast, &end.slow)?;
         }
         Ok(())
+    }
+
+    /// The replies of a trial's file part by part, and from some place on.
+    fn whole_replies(&mut self, trial: &Trial) -> Result<(), String> {
+        let length = trial.replies.len();
+        let lengths = [
+            69,
+            70,
+            71,
+            139,
+            140,
+            210,
+            1000,
+            length.max(SLIP),
+            length + SLIP,
+        ];
+        let room = self.rng.pick(&lengths);
+        let (end, replies) = self.parts(&trial.start, &trial.file, room)?;
+        if room >= SLIP && trial.start.out.len() >= SLIP {
+            if is_changed(&trial.lent, &end) {
+                return Err(format!("parts in {room} bytes came to another end"));
+            }
+            if replies != trial.replies {
+                return Err(format!(
+                    "parts in {room} bytes are other replies than the run's"
+                ));
+            }
+        }
+        let at = self.rng.below(trial.file.len() + 3);
+        let mut lent = Lent {
+            out: self.rng.bytes(room),
+            ..trial.start.clone()
+        };
+        let mut tally = self.tally();
+        self.part(&mut lent, &trial.file, at, &mut tally).map(drop)
     }
 }
 
@@ -350,6 +469,8 @@ struct Trial {
     start: Lent,
     lent: Lent,
     file: Vec<u8>,
+    /// The replies to it, one behind the other.
+    replies: Vec<u8>,
     /// For a run from fresh tables.
     demand3: Option<Demand3>,
     frames_used: [bool; 256],
@@ -362,6 +483,7 @@ impl Trial {
             lent: start.clone(),
             start,
             file: Vec::new(),
+            replies: Vec::new(),
             demand3,
             frames_used: [false; 256],
             pages_used: [false; 256],
@@ -402,40 +524,21 @@ impl Trial {
 
 // ---- Differences ----
 
-/// Raw tables with each mark as it is read: any byte that is not 0 counts as 1.
-fn marks_as_read(tables: &[u8]) -> Vec<u8> {
-    let mut tables = tables.to_vec();
-    if tables.len() == RAW {
-        for record in tables[2..].chunks_mut(RECORD) {
-            for entry in record[STATIONS..STATIONS + 3 * ENTRIES].chunks_mut(3) {
-                entry[1] = entry[1].min(1);
-                entry[2] = entry[2].min(1);
-            }
-        }
-    }
-    tables
-}
-
-/// Tables compare byte for byte, except where marks were lent as other bytes than 0 and 1: the
-/// paper does not say how those are given back.
-fn table_difference(lent: &[u8], kernel: &[u8], model: &[u8]) -> Option<String> {
-    if kernel == model {
-        return None;
-    }
-    if marks_as_read(lent) == lent {
-        return first_difference("tables", kernel, model);
-    }
-    first_difference("tables", &marks_as_read(kernel), &marks_as_read(model))
-}
-
-fn difference(lent: &Lent, kernel: &Lent, model: &Lent) -> String {
+fn difference(kernel: &Lent, model: &Lent) -> String {
     let parts = [
-        table_difference(&lent.tables, &kernel.tables, &model.tables),
+        first_difference("tables", &kernel.tables, &model.tables),
         first_difference("fast store", &kernel.fast, &model.fast),
         first_difference("slow store", &kernel.slow, &model.slow),
         first_difference("reply buffer", &kernel.out, &model.out),
     ];
     parts.into_iter().flatten().collect()
+}
+
+fn tally_difference(from: &[u32], kernel: &[u32], model: &[u32]) -> String {
+    if kernel == model {
+        return String::new();
+    }
+    format!("\n  tally from {from:?}: kernel {kernel:?}, model {model:?}")
 }
 
 fn first_difference(name: &str, kernel: &[u8], model: &[u8]) -> Option<String> {
@@ -457,9 +560,19 @@ fn first_difference(name: &str, kernel: &[u8], model: &[u8]) -> Option<String> {
     ))
 }
 
+/// Whether tables or stores differ in any byte.
 fn is_changed(before: &Lent, after: &Lent) -> bool {
-    (&before.fast, &before.slow) != (&after.fast, &after.slow)
-        || table_difference(&before.tables, &after.tables, &before.tables).is_some()
+    (&before.tables, &before.fast, &before.slow) != (&after.tables, &after.fast, &after.slow)
+}
+
+/// The reply at the front of a buffer; none in a buffer that is too short for one.
+fn reply_in(out: &[u8]) -> &[u8] {
+    match *out {
+        [high, low, ..] if out.len() >= SLIP => {
+            &out[..2 + usize::from(u16::from_be_bytes([high, low]))]
+        }
+        _ => &[],
+    }
 }
 
 fn in_words(given: u32, due: u32) -> String {
@@ -469,6 +582,21 @@ fn in_words(given: u32, due: u32) -> String {
         format!("{number} {word}, reply of {length}, {laid} laid")
     });
     format!("kernel {given}; model {due}")
+}
+
+fn place_in_words(place: u32) -> String {
+    let (length, store, from) = (place % 256, place / 256 % 256, place / 65536);
+    format!("{length} bytes from {from} on of store {store}")
+}
+
+fn file_in_words(lent: &Lent, file: &[u8]) -> String {
+    format!(
+        "a file of {} bytes, {} messages\n  bytes: {}{}",
+        file.len(),
+        Reader::new(file).count(),
+        hex(&file[..file.len().min(400)]),
+        lent_in_words(lent)
+    )
 }
 
 fn lent_in_words(lent: &Lent) -> String {

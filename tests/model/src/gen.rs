@@ -204,7 +204,7 @@ fn above(rng: &mut Rng, limit: u8, most: u8) -> u8 {
 pub type Damage = (&'static str, fn(&mut Rng, &mut Lent));
 
 /// Every table rule broken in turn.
-pub const DAMAGES: [Damage; 28] = [
+pub const DAMAGES: [Damage; 32] = [
     ("P above 127", |rng, lent| {
         lent.tables[0] = above(rng, MOST_FRAMES, 255);
         lent.fast = rng.bytes(FRAME * usize::from(lent.tables[0]));
@@ -270,6 +270,18 @@ pub const DAMAGES: [Damage; 28] = [
     ("a null copy current", |_, lent| {
         lent.tables[entry(1, 0) + 1] = 1;
     }),
+    ("CURRENT neither 0 nor 1", |rng, lent| {
+        lent.tables[entry(0, rng.below(3)) + 1] = above(rng, 1, 255);
+    }),
+    ("MOST RECENT neither 0 nor 1", |rng, lent| {
+        lent.tables[entry(2, rng.below(ENTRIES)) + 2] = above(rng, 1, 255);
+    }),
+    ("both marks of a copy neither 0 nor 1", |rng, lent| {
+        lent.tables[entry(5, 0) + 1..][..2].fill(above(rng, 1, 255));
+    }),
+    ("a null copy's mark neither 0 nor 1", |rng, lent| {
+        lent.tables[entry(1, 0) + 2] = above(rng, 1, 255);
+    }),
     ("a frame in an unused entry", |rng, lent| {
         lent.tables[entry(0, rng.within(3, 7).into())] = rng.within(0, 254);
     }),
@@ -318,7 +330,19 @@ pub fn damage_byte(rng: &mut Rng, lent: &mut Lent) {
     };
 }
 
-/// Marks that stand as other bytes than 0 and 1, which is no damage.
+/// Lent tables with each bit of each mark of every entry flipped, one at a time.
+pub fn flipped_marks(lent: &Lent) -> impl Iterator<Item = Lent> + '_ {
+    let entries = (0..PAGES).flat_map(|page| (0..ENTRIES).map(move |copy| entry(page, copy)));
+    let marks = entries.flat_map(|entry| [entry + 1, entry + 2]);
+    let bits = marks.flat_map(|mark| (0..8).map(move |bit| (mark, bit)));
+    bits.map(|(mark, bit)| {
+        let mut flipped = lent.clone();
+        flipped.tables[mark] ^= 1 << bit;
+        flipped
+    })
+}
+
+/// Marks of copies that stand as other bytes than 0 and 1, as many as come.
 pub fn odd_marks(rng: &mut Rng, lent: &mut Lent) {
     for page in 0..PAGES {
         for copy in 0..ENTRIES {

@@ -1,7 +1,7 @@
 //! What can be compared with the model: the kernel of `libembed.a`, and the model itself, on which
 //! the tests of the comparison build.
 
-use crate::model::{self, Answer, Lent, RAW};
+use crate::model::{self, Answer, Lent, Part, Reached, RAW};
 
 /// The functions of the kernel.
 pub trait Kernel {
@@ -11,11 +11,25 @@ pub trait Kernel {
     fn answer(&self, lent: &mut Lent, message: &[u8]) -> u32;
     /// Runs a whole call file; a tally of another length than 3 is left alone.
     fn run(&self, lent: &mut Lent, file: &[u8], tally: &mut [u32]);
+    /// Runs a call file from a place on and keeps its replies, as long as the reply buffer serves.
+    fn replies(&self, lent: &mut Lent, file: &[u8], at: usize, tally: &mut [u32]) -> Reached;
+    /// Tests tables and stores: 0, 5 or 6.
+    fn rules(&self, lent: &Lent) -> u8;
+    /// The place of a read: its length + 256 * (0 fast, 1 slow) + 65536 * (its offset in the
+    /// store); 0 where the read would be refused. The arguments are those of the message.
+    fn read(&self, lent: &Lent, arguments: [u8; 4]) -> u32;
 }
 
 /// An answer as `reel_answer` packs it.
 pub fn packed(answer: Answer) -> u32 {
     u32::from(answer.number) + 256 * answer.length as u32 + 65536 * answer.laid as u32
+}
+
+/// The place of a read as `reel_read` packs it.
+pub fn placed(part: Option<Part>) -> u32 {
+    part.map_or(0, |part| {
+        part.count as u32 + 256 * u32::from(!part.is_fast) + 65536 * part.from as u32
+    })
 }
 
 /// The model behind the kernel's functions.
@@ -38,6 +52,19 @@ impl Kernel for Modelled {
     fn run(&self, lent: &mut Lent, file: &[u8], tally: &mut [u32]) {
         let unasked = &mut [0; 3];
         model::run(lent, file, tally.try_into().unwrap_or(unasked));
+    }
+
+    fn replies(&self, lent: &mut Lent, file: &[u8], at: usize, tally: &mut [u32]) -> Reached {
+        let unasked = &mut [0; 3];
+        model::replies(lent, file, at, tally.try_into().unwrap_or(unasked))
+    }
+
+    fn rules(&self, lent: &Lent) -> u8 {
+        model::rules(lent)
+    }
+
+    fn read(&self, lent: &Lent, [station, page, offset, count]: [u8; 4]) -> u32 {
+        placed(model::read(lent, station, page, offset, count))
     }
 }
 
@@ -68,5 +95,26 @@ impl Kernel for Embedded {
             &mut lent.out,
             tally,
         );
+    }
+
+    fn replies(&self, lent: &mut Lent, file: &[u8], at: usize, tally: &mut [u32]) -> Reached {
+        let kernel::Reached { at, used } = kernel::replies(
+            &mut lent.tables,
+            &mut lent.fast,
+            &mut lent.slow,
+            file,
+            at,
+            &mut lent.out,
+            tally,
+        );
+        Reached { at, used }
+    }
+
+    fn rules(&self, lent: &Lent) -> u8 {
+        kernel::rules(&lent.tables, lent.fast.len(), lent.slow.len())
+    }
+
+    fn read(&self, lent: &Lent, arguments: [u8; 4]) -> u32 {
+        kernel::read(&lent.tables, lent.fast.len(), lent.slow.len(), arguments)
     }
 }

@@ -42,8 +42,9 @@ fn main() -> ExitCode {
         println!("     {depth:24} {count:9}");
     }
     println!(
-        "{} whole files run, demand 3 checked on {} of them from fresh tables",
-        counts.runs, counts.runs_from_fresh
+        "{} whole files run, demand 3 checked on {} of them from fresh tables; {} parts of files \
+         with their replies kept",
+        counts.runs, counts.runs_from_fresh, counts.parts
     );
     let too_few = counts.too_few();
     if !too_few.is_empty() {

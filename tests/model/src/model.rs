@@ -143,7 +143,8 @@ impl Tables {
 
 impl Page {
     /// The page that a raw record stands for, Some(None) if it is absent; None if n is out of
-    /// range, or an absent page or an unused entry is not as in fresh tables.
+    /// range, a mark is neither 0 nor 1, or an absent page or an unused entry is not as in fresh
+    /// tables.
     fn from_raw(record: &[u8]) -> Option<Option<Page>> {
         let n = usize::from(record[RECORD - 1]);
         if n == 0 {
@@ -151,13 +152,14 @@ impl Page {
         }
         let entries = &record[STATIONS..STATIONS + 3 * ENTRIES];
         let (used, unused) = entries.split_at_checked(3 * n)?;
-        unused.chunks(3).all(|entry| entry == FRESH_ENTRY).then(|| {
-            Some(Page {
-                owner: record[RECORD - 2],
-                rights: record[..STATIONS].try_into().expect("sixteen rights"),
-                copies: used.chunks(3).map(PageCopy::from_raw).collect(),
-            })
-        })
+        let copies: Option<Vec<PageCopy>> = used.chunks(3).map(PageCopy::from_raw).collect();
+        let page = Page {
+            owner: record[RECORD - 2],
+            rights: record[..STATIONS].try_into().expect("sixteen rights"),
+            copies: copies?,
+        };
+        let is_fresh = unused.chunks(3).all(|entry| entry == FRESH_ENTRY);
+        is_fresh.then_some(Some(page))
     }
 
     fn keeps_the_rules(&self) -> bool {
@@ -193,12 +195,18 @@ impl PageCopy {
         recent: true,
     };
 
-    fn from_raw(entry: &[u8]) -> PageCopy {
-        PageCopy {
+    /// The copy that a raw entry stands for; None if a mark is neither 0 nor 1.
+    fn from_raw(entry: &[u8]) -> Option<PageCopy> {
+        let mark = |byte| match byte {
+            0 => Some(false),
+            1 => Some(true),
+            _ => None,
+        };
+        Some(PageCopy {
             frame: (entry[0] != NO_FRAME).then_some(entry[0]),
-            current: entry[1] != 0,
-            recent: entry[2] != 0,
-        }
+            current: mark(entry[1])?,
+            recent: mark(entry[2])?,
+        })
     }
 
     /// Frame (255 for null), CURRENT and MOST RECENT: as in raw tables and in a look at a page.
@@ -226,7 +234,45 @@ pub fn frame_bytes<'a>(tables: &Tables, fast: &'a [u8], slow: &'a [u8], frame: u
     &store[from..from + FRAME]
 }
 
+/// A part of the fast store or of the slow one.
+#[derive(Clone, Copy, Debug, PartialEq, Eq)]
+pub struct Part {
+    pub is_fast: bool,
+    pub from: usize,
+    pub count: usize,
+}
+
+impl Part {
+    pub fn bytes<'a>(&self, fast: &'a [u8], slow: &'a [u8]) -> &'a [u8] {
+        let store = if self.is_fast { fast } else { slow };
+        &store[self.from..][..self.count]
+    }
+}
+
 // ---- The steps ----
+
+/// The bytes of a read: those of the lowest-numbered CURRENT copy.
+fn read_part(
+    tables: &Tables,
+    station: u8,
+    page: u8,
+    offset: u8,
+    count: u8,
+) -> Result<Part, Refusal> {
+    station_in_range(station)?;
+    page_in_range(page)?;
+    part_in_range(offset, count.into())?;
+    let page = tables.page(page)?;
+    require(page.right(station) >= 1, Refusal::NoRight)?;
+    let frames = page.current_frames();
+    let lowest = *frames.first().ok_or(Refusal::NothingCurrent)?;
+    let (is_fast, from) = place(tables, lowest);
+    Ok(Part {
+        is_fast,
+        from: from + usize::from(offset),
+        count: count.into(),
+    })
+}
 
 /// Tables that keep the rules, and the two stores that fit them.
 struct Reel<'a> {
@@ -363,15 +409,8 @@ impl Reel<'_> {
     }
 
     fn read(&self, station: u8, page: u8, offset: u8, count: u8) -> Result<Done, Refusal> {
-        station_in_range(station)?;
-        page_in_range(page)?;
-        part_in_range(offset, count.into())?;
-        let page = self.tables.page(page)?;
-        require(page.right(station) >= 1, Refusal::NoRight)?;
-        let frames = page.current_frames();
-        let lowest = *frames.first().ok_or(Refusal::NothingCurrent)?;
-        let bytes = &self.frame(lowest)[usize::from(offset)..][..usize::from(count)];
-        Ok(Done::told(bytes.to_vec()))
+        let part = read_part(&self.tables, station, page, offset, count)?;
+        Ok(Done::told(part.bytes(self.fast, self.slow).to_vec()))
     }
 
     fn write(&mut self, station: u8, page: u8, offset: u8, bytes: &[u8]) -> Result<Done, Refusal> {
@@ -561,13 +600,18 @@ impl<'a> Reader<'a> {
     pub fn new(file: &'a [u8]) -> Reader<'a> {
         Reader { file, at: 0 }
     }
+
+    /// A reader that has come to a place already.
+    pub fn at(file: &'a [u8], at: usize) -> Reader<'a> {
+        Reader { file, at }
+    }
 }
 
 impl<'a> Iterator for Reader<'a> {
     type Item = &'a [u8];
 
     fn next(&mut self) -> Option<&'a [u8]> {
-        let rest = &self.file[self.at..];
+        let rest = self.file.get(self.at..).unwrap_or_default();
         let whole = match *rest {
             [] => return None,
             [high, low, ..] => 2 + usize::from(u16::from_be_bytes([high, low])),
@@ -651,7 +695,12 @@ pub fn fresh(fast: u8, slow: u8) -> (u8, Tables) {
 
 /// Answers one message; bytes past it are ignored.
 pub fn answer(lent: &mut Lent, message: &[u8]) -> Answer {
-    if lent.out.len() < SLIP {
+    answer_at(lent, 0, message)
+}
+
+/// The same with so many bytes of the reply buffer used already.
+fn answer_at(lent: &mut Lent, used: usize, message: &[u8]) -> Answer {
+    if lent.out.len() - used < SLIP {
         return Answer {
             number: Refusal::ShortSlip.number(),
             length: 0,
@@ -663,7 +712,7 @@ pub fn answer(lent: &mut Lent, message: &[u8]) -> Answer {
         Err(refusal) => (refusal.number(), Done::plain()),
     };
     let reply = reply(number, &done);
-    lent.out[..reply.len()].copy_from_slice(&reply);
+    lent.out[used..][..reply.len()].copy_from_slice(&reply);
     Answer {
         number,
         length: reply.len(),
@@ -674,18 +723,34 @@ pub fn answer(lent: &mut Lent, message: &[u8]) -> Answer {
 /// The tests 1 to 6 in the order of the paper, then the step with its own.
 fn serve(lent: &mut Lent, message: &[u8]) -> Result<Done, Refusal> {
     let call = Call::decode(message)?;
-    let tables = Tables::from_raw(&lent.tables).ok_or(Refusal::BrokenTables)?;
-    let fits = |store: &[u8], frames: u8| store.len() == FRAME * usize::from(frames);
-    let both_fit = fits(&lent.fast, tables.fast) && fits(&lent.slow, tables.slow);
-    require(both_fit, Refusal::MisfitStore)?;
     let mut reel = Reel {
-        tables,
+        tables: sound(lent)?,
         fast: &mut lent.fast,
         slow: &mut lent.slow,
     };
     let done = reel.step(&call)?;
     lent.tables = reel.tables.to_raw();
     Ok(done)
+}
+
+/// The lent tables, if they keep the rules and the stores fit them.
+fn sound(lent: &Lent) -> Result<Tables, Refusal> {
+    let tables = Tables::from_raw(&lent.tables).ok_or(Refusal::BrokenTables)?;
+    let fits = |store: &[u8], frames: u8| store.len() == FRAME * usize::from(frames);
+    let both_fit = fits(&lent.fast, tables.fast) && fits(&lent.slow, tables.slow);
+    require(both_fit, Refusal::MisfitStore)?;
+    Ok(tables)
+}
+
+/// 5 or 6, or 0 for tables that keep the rules with stores that fit them.
+pub fn rules(lent: &Lent) -> u8 {
+    sound(lent).map_or_else(Refusal::number, |_| 0)
+}
+
+/// A read had as a part of one store: None where it would be refused. The reply buffer plays no
+/// part.
+pub fn read(lent: &Lent, station: u8, page: u8, offset: u8, count: u8) -> Option<Part> {
+    read_part(&sound(lent).ok()?, station, page, offset, count).ok()
 }
 
 /// Messages, refusals, bytes laid; each stops at 4294967295.
@@ -704,6 +769,31 @@ pub fn run(lent: &mut Lent, file: &[u8], tally: &mut Tally) {
         let answer = answer(lent, message);
         count(tally, answer);
     }
+}
+
+/// A turn of a run that keeps its replies: where in the file it ended, and how many bytes of the
+/// reply buffer are used.
+#[derive(Clone, Copy, Debug, PartialEq, Eq)]
+pub struct Reached {
+    pub at: usize,
+    pub used: usize,
+}
+
+/// Answers the messages from a place of the file on, reply after reply, until the file ends or
+/// fewer than 70 bytes of the reply buffer are left; in a buffer below 70, until the file ends.
+pub fn replies(lent: &mut Lent, file: &[u8], at: usize, tally: &mut Tally) -> Reached {
+    let mut reached = Reached { at, used: 0 };
+    for message in Reader::at(file, at) {
+        let room = lent.out.len() - reached.used;
+        if lent.out.len() >= SLIP && room < SLIP {
+            break;
+        }
+        let answer = answer_at(lent, reached.used, message);
+        count(tally, answer);
+        reached.at += message.len();
+        reached.used += answer.length;
+    }
+    reached
 }
 
 // ---- The program of the paper's cases ----

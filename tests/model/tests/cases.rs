@@ -1,211 +1,188 @@
-//! The cases of document 01 on the model: the worked example, the starred cases, the traps, and
-//! the order of the refusals.
+//! The cases of document 01, on the kernel and on the model: the worked example, the starred cases,
+//! the traps, the impostors and the order of the refusals.
 
+use ::model::cases::{
+    bytes, example, in_parts, one_by_one, unit, Case, Served, CALLS, EXPOSING, REPLIES, STARRED,
+};
 use ::model::gen::{self, Rng, DAMAGES};
+use ::model::kernel::{Embedded, Kernel, Modelled};
 use ::model::model::{
-    self, frame_bytes, program, Call, Lent, Reader, Tables, FRAME, KINDS, PROGRAM_INPUT, RAW,
+    self, frame_bytes, program, Lent, Reader, Tables, KINDS, PROGRAM_INPUT, RAW, SLIP,
 };
 use reel::words::hex;
 
-/// The program's memory; free frames hold old bytes.
-fn fresh() -> Lent {
-    Lent {
-        tables: Tables::fresh(4, 4).to_raw(),
-        fast: vec![0xEE; 4 * FRAME],
-        slow: vec![0xDD; 4 * FRAME],
-        out: vec![0xAA; 70],
+/// Both that have to get the cases right.
+const BOTH: [&dyn Kernel; 2] = [&Modelled, &Embedded];
+
+/// A kernel, and what it is lent.
+#[derive(Clone)]
+struct Desk {
+    kernel: &'static dyn Kernel,
+    lent: Lent,
+}
+
+impl Desk {
+    fn fresh(kernel: &'static dyn Kernel) -> Desk {
+        let lent = unit(SLIP);
+        Desk { kernel, lent }
     }
-}
 
-/// Turns words such as `create 3 5` into the message; all numbers are decimal.
-fn call(words: &str) -> Vec<u8> {
-    let kinds = [
-        "create",
-        "delete-page",
-        "grant",
-        "read",
-        "write",
-        "copy",
-        "delete-copy",
-        "current",
-        "remove-current",
-        "look-page",
-        "look-frame",
-    ];
-    let mut words = words.split(' ');
-    let name = words.next().unwrap();
-    let kind = kinds.iter().position(|kind| *kind == name).unwrap() + 1;
-    let arguments: Vec<u8> = words.map(|word| word.parse().unwrap()).collect();
-    model::message(1, kind as u8, &arguments)
-}
-
-/// The number given to a call, and the bytes of its reply after the first six.
-fn give(lent: &mut Lent, words: &str) -> (u8, Vec<u8>) {
-    let answer = model::answer(lent, &call(words));
-    (answer.number, lent.out[6..answer.length].to_vec())
-}
-
-fn accept(lent: &mut Lent, words: &str) -> Vec<u8> {
-    let (number, bytes) = give(lent, words);
-    assert_eq!(number, 0, "{words}");
-    bytes
-}
-
-/// A refused call: its number, with nothing changed but the reply.
-fn refuse(lent: &mut Lent, words: &str) -> u8 {
-    let before = lent.clone();
-    let (number, bytes) = give(lent, words);
-    assert_eq!(lent.out[..6], [0, 4, 1, number, 0, 0]);
-    assert!(number > 0 && bytes.is_empty(), "{words}");
-    let after = Lent {
-        out: before.out.clone(),
-        ..lent.clone()
-    };
-    assert_eq!(after, before, "{words}");
-    number
-}
-
-const EXAMPLE: [&str; 6] = [
-    "create 3 5",
-    "copy 5 0 0",
-    "current 5 0",
-    "write 3 5 0 65 55",
-    "read 3 5 0 3",
-    "look-page 5",
-];
-
-fn example_end() -> Lent {
-    let mut lent = fresh();
-    for words in EXAMPLE {
-        accept(&mut lent, words);
+    /// At the end of the worked example.
+    fn example_end(kernel: &'static dyn Kernel) -> Desk {
+        let mut desk = Desk::fresh(kernel);
+        for line in CALLS {
+            desk.accept(line);
+        }
+        desk
     }
-    lent
+
+    /// The number given to a message, the bytes laid, and the bytes of its reply after the first
+    /// six.
+    fn give(&mut self, message: &[u8]) -> (u8, u16, Vec<u8>) {
+        let answer = self.kernel.answer(&mut self.lent, message);
+        let [number, length, laid @ ..] = answer.to_le_bytes();
+        let told = self.lent.out[6..length.into()].to_vec();
+        (number, u16::from_le_bytes(laid), told)
+    }
+
+    /// The bytes that an accepted call tells.
+    fn accept(&mut self, line: &str) -> Vec<u8> {
+        let (number, _, told) = self.give(&bytes(line));
+        assert_eq!(number, 0, "{line}");
+        told
+    }
+
+    /// A refused call: its number, with nothing changed but the reply.
+    fn refuse(&mut self, line: &str) -> u8 {
+        let before = self.lent.clone();
+        let (number, laid, told) = self.give(&bytes(line));
+        assert_eq!(self.lent.out[..6], [0, 4, 1, number, 0, 0]);
+        assert!(number > 0 && laid == 0 && told.is_empty(), "{line}");
+        let after = Lent {
+            out: before.out.clone(),
+            ..self.lent.clone()
+        };
+        assert_eq!(after, before, "{line}");
+        number
+    }
 }
 
 #[test]
 fn worked_example() {
-    let input = EXAMPLE.map(call).concat();
     let due_input = "00 04 01 01 03 05 00 05 01 06 05 00 00 00 04 01 08 05 00 \
                      00 07 01 05 03 05 00 41 37 00 06 01 04 03 05 00 03 00 03 01 0A 05";
     let due_output = "00 04 01 00 00 00 00 04 01 00 00 40 00 04 01 00 00 00 \
                       00 04 01 00 00 02 00 07 01 00 00 00 41 37 00 \
                       00 08 01 00 00 00 01 00 01 01";
+    let input = example();
     assert_eq!(hex(&input), due_input);
     assert_eq!(hex(&program(&input)), due_output);
+    for kernel in BOTH {
+        let replies = one_by_one(kernel, &input).replies;
+        assert_eq!(hex(&replies.concat()), due_output);
+    }
+    assert_eq!(REPLIES.join(" "), due_output);
+}
+
+/// The whole list of replies, message by message, in a run and part by part.
+fn check(kernel: &dyn Kernel, case: &Case) {
+    let (file, due) = (case.file(), case.replies());
+    let Served { replies, left, .. } = one_by_one(kernel, &file);
+    assert_eq!(replies, due, "{}", case.name);
+
+    let laid = |reply: &Vec<u8>| u32::from(u16::from_be_bytes([reply[4], reply[5]]));
+    let tally = [
+        due.len() as u32,
+        due.iter().filter(|reply| reply[3] != 0).count() as u32,
+        due.iter().map(laid).sum(),
+    ];
+    let (mut end, mut counted) = (unit(SLIP), [0; 3]);
+    kernel.run(&mut end, &file, &mut counted);
+    assert_eq!((&end, counted), (&left, tally), "{}", case.name);
+
+    for room in [70, 71, 139, 140, 1000] {
+        let served = in_parts(kernel, &file, room);
+        let Lent { out, .. } = &served.left;
+        let due = Served {
+            replies: due.clone(),
+            left: Lent {
+                out: out.clone(),
+                ..left.clone()
+            },
+            tally,
+        };
+        assert_eq!(served, due, "{} in {room} bytes", case.name);
+    }
 }
 
 #[test]
 fn starred_cases() {
-    let end = example_end();
-    let on_end = |words: &str| refuse(&mut end.clone(), words);
-    assert_eq!(accept(&mut end.clone(), "read 3 5 63 1"), [0]);
-    assert_eq!(on_end("read 3 5 63 2"), 7);
-    accept(&mut end.clone(), "copy 5 0 7");
-    assert_eq!(on_end("copy 5 0 8"), 7);
-    assert_eq!(on_end("copy 5 0 0"), 13);
-    assert_eq!(on_end("delete-copy 5 0"), 15);
-    assert_eq!(on_end("read 4 5 0 1"), 10);
-    assert_eq!(on_end("create 3 5"), 8);
-
-    let mut stale = end.clone();
-    accept(&mut stale, "copy 5 0 1");
-    accept(&mut stale, "write 3 5 0 1");
-    assert_eq!(refuse(&mut stale, "current 5 1"), 16);
-
-    let mut nothing_current = end.clone();
-    accept(&mut nothing_current, "remove-current 5 0");
-    assert_eq!(refuse(&mut nothing_current, "read 3 5 0 1"), 11);
-
-    let mut null = end.clone();
-    accept(&mut null, "create 3 6");
-    assert_eq!(refuse(&mut null, "current 6 0"), 17);
-}
-
-#[test]
-fn trap_new_copy_is_not_current() {
-    let mut lent = example_end();
-    accept(&mut lent, "copy 5 0 6");
-    assert_eq!(accept(&mut lent, "look-page 5"), [2, 0, 1, 1, 6, 0, 1]);
-}
-
-#[test]
-fn trap_equal_bytes_make_stale() {
-    let mut lent = example_end();
-    accept(&mut lent, "copy 5 0 6");
-    accept(&mut lent, "write 3 5 0 65 55");
-    assert_eq!(accept(&mut lent, "look-page 5"), [2, 0, 1, 1, 6, 0, 0]);
-}
-
-#[test]
-fn trap_all_current_copies_are_written() {
-    let mut lent = example_end();
-    accept(&mut lent, "copy 5 0 6");
-    accept(&mut lent, "current 5 1");
-    let answer = model::answer(&mut lent, &call("write 3 5 1 9 8 7"));
-    assert_eq!((answer.number, answer.laid), (0, 6));
-    let tables = Tables::from_raw(&lent.tables).unwrap();
-    for frame in [0, 6] {
-        let bytes = frame_bytes(&tables, &lent.fast, &lent.slow, frame);
-        assert_eq!(bytes[..5], [65, 9, 8, 7, 0]);
+    for kernel in BOTH {
+        STARRED.iter().for_each(|case| check(kernel, case));
     }
 }
 
 #[test]
-fn trap_last_recent_not_last_current() {
-    // The only CURRENT copy may go while another is MOST RECENT.
-    let mut lent = example_end();
-    accept(&mut lent, "copy 5 0 6");
-    accept(&mut lent, "delete-copy 5 0");
-    assert_eq!(accept(&mut lent, "look-page 5"), [1, 6, 0, 1]);
-    // The only MOST RECENT copy may not go, CURRENT or not, with a stale one beside it.
-    let mut lent = example_end();
-    accept(&mut lent, "copy 5 0 6");
-    accept(&mut lent, "write 3 5 0 1");
-    accept(&mut lent, "remove-current 5 0");
-    assert_eq!(refuse(&mut lent, "delete-copy 5 0"), 15);
-    accept(&mut lent, "delete-copy 5 1");
+fn traps_and_impostors() {
+    for kernel in BOTH {
+        EXPOSING.iter().for_each(|case| check(kernel, case));
+    }
 }
 
+/// What the replies of the traps' files do not show: the bytes in the stores.
 #[test]
-fn trap_free_frames_hold_old_bytes() {
-    let mut lent = example_end();
-    accept(&mut lent, "copy 5 0 1");
-    accept(&mut lent, "delete-copy 5 0");
-    assert_eq!(lent.fast[..3], [65, 55, 0], "freed bytes remain");
-    accept(&mut lent, "create 2 9");
-    accept(&mut lent, "copy 9 0 0");
-    accept(&mut lent, "current 9 0");
-    assert_eq!(accept(&mut lent, "read 2 9 0 64"), [0; 64]);
+fn written_copies_and_freed_frames() {
+    for kernel in BOTH {
+        let mut desk = Desk::example_end(kernel);
+        desk.accept("copy 5 0 6");
+        desk.accept("current 5 1");
+        assert_eq!(desk.give(&bytes("write 3 5 1 09 08 07")).1, 6);
+        let tables = Tables::from_raw(&desk.lent.tables).unwrap();
+        for frame in [0, 6] {
+            let held = frame_bytes(&tables, &desk.lent.fast, &desk.lent.slow, frame);
+            assert_eq!(held[..5], [65, 9, 8, 7, 0]);
+        }
+        desk.accept("delete-copy 5 0");
+        assert_eq!(desk.lent.fast[..5], [65, 9, 8, 7, 0], "freed bytes remain");
+        desk.accept("create 2 9");
+        desk.accept("copy 9 0 0");
+        desk.accept("current 9 0");
+        assert_eq!(desk.accept("read 2 9 0 64"), [0; 64]);
+    }
 }
 
 #[test]
 fn copies_close_the_gap_and_null_copy_goes() {
-    let mut lent = fresh();
-    accept(&mut lent, "create 0 0");
-    assert_eq!(accept(&mut lent, "look-page 0"), [1, 255, 0, 1]);
-    assert_eq!(refuse(&mut lent, "delete-copy 0 0"), 15);
-    accept(&mut lent, "remove-current 0 0");
-    for frame in [3, 4, 7] {
-        accept(&mut lent, &format!("copy 0 0 {frame}"));
+    for kernel in BOTH {
+        let mut desk = Desk::fresh(kernel);
+        desk.accept("create 0 0");
+        assert_eq!(desk.accept("look-page 0"), [1, 255, 0, 1]);
+        assert_eq!(desk.refuse("delete-copy 0 0"), 15);
+        desk.accept("remove-current 0 0");
+        for frame in [3, 4, 7] {
+            desk.accept(&format!("copy 0 0 {frame}"));
+        }
+        desk.accept("delete-copy 0 1");
+        assert_eq!(desk.accept("look-page 0"), [2, 3, 0, 1, 7, 0, 1]);
+        assert_eq!(desk.accept("look-frame 7"), [1, 0, 1]);
+        assert_eq!(desk.accept("look-frame 4"), [0, 255, 255]);
+        desk.accept("delete-page 0 0");
+        assert_eq!(desk.lent.tables, unit(SLIP).tables);
     }
-    accept(&mut lent, "delete-copy 0 1");
-    assert_eq!(accept(&mut lent, "look-page 0"), [2, 3, 0, 1, 7, 0, 1]);
-    assert_eq!(accept(&mut lent, "look-frame 7"), [1, 0, 1]);
-    assert_eq!(accept(&mut lent, "look-frame 4"), [0, 255, 255]);
-    accept(&mut lent, "delete-page 0 0");
-    assert_eq!(lent.tables, fresh().tables);
 }
 
 #[test]
 fn owner_with_lowered_right_still_owns() {
-    let mut lent = example_end();
-    accept(&mut lent, "grant 3 5 3 0");
-    assert_eq!(refuse(&mut lent, "read 3 5 0 1"), 10);
-    accept(&mut lent, "grant 3 5 4 1");
-    accept(&mut lent, "read 4 5 0 1");
-    assert_eq!(refuse(&mut lent, "write 4 5 0 1"), 10);
-    assert_eq!(refuse(&mut lent, "grant 4 5 4 2"), 10);
-    accept(&mut lent, "delete-page 3 5");
+    for kernel in BOTH {
+        let mut desk = Desk::example_end(kernel);
+        desk.accept("grant 3 5 3 0");
+        assert_eq!(desk.refuse("read 3 5 0 1"), 10);
+        desk.accept("grant 3 5 4 1");
+        desk.accept("read 4 5 0 1");
+        assert_eq!(desk.refuse("write 4 5 0 01"), 10);
+        assert_eq!(desk.refuse("grant 4 5 4 2"), 10);
+        desk.accept("delete-page 3 5");
+    }
 }
 
 #[test]
@@ -226,13 +203,12 @@ fn lengths_of_the_kinds() {
     for (kind, due) in (1..).zip(lengths) {
         let (least, most) = (due[0], due[due.len() - 1]);
         for length in 2..80 {
-            let bytes = model::message(1, kind, &vec![0; length - 2]);
+            let message = model::message(1, kind, &vec![0; length - 2]);
             let fits = (least..=most).contains(&length);
-            assert_eq!(
-                Call::decode(&bytes).is_ok(),
-                fits,
-                "kind {kind}, L {length}"
-            );
+            for kernel in BOTH {
+                let (number, ..) = Desk::fresh(kernel).give(&message);
+                assert_eq!(number != 4, fits, "kind {kind}, L {length}");
+            }
         }
     }
 }
@@ -240,7 +216,11 @@ fn lengths_of_the_kinds() {
 /// Each fault of a message or of what is lent, in the order in which they count.
 #[test]
 fn order_of_the_refusals() {
-    let number = |lent: &Lent, message: &[u8]| model::answer(&mut lent.clone(), message).number;
+    BOTH.into_iter().for_each(order_of_refusals);
+}
+
+fn order_of_refusals(kernel: &dyn Kernel) {
+    let number = |lent: &Lent, message: &[u8]| kernel.answer(&mut lent.clone(), message) % 256;
     let sound = gen::shaped(&mut Rng::new(1));
     let misfit = Lent {
         slow: Vec::new(),
@@ -264,9 +244,9 @@ fn order_of_the_refusals() {
     assert_eq!(number(&broken, &[0, 1, 1]), 3);
     assert_eq!(number(&broken, &[0, 2, 1, 12]), 3);
     assert_eq!(number(&broken, &[0, 2, 1, 11]), 4);
-    assert_eq!(number(&broken, &call("look-page 64")), 5);
-    assert_eq!(number(&misfit, &call("look-page 64")), 6);
-    for (words, due) in [
+    assert_eq!(number(&broken, &bytes("look-page 64")), 5);
+    assert_eq!(number(&misfit, &bytes("look-page 64")), 6);
+    for (line, due) in [
         ("look-page 64", 7),
         ("create 16 0", 7),
         ("grant 0 3 16 0", 7),
@@ -274,7 +254,7 @@ fn order_of_the_refusals() {
         ("read 0 3 64 1", 7),
         ("read 0 3 0 0", 7),
         ("read 0 3 63 255", 7),
-        ("write 0 3 63 1 2", 7),
+        ("write 0 3 63 01 02", 7),
         ("copy 3 0 16", 7),
         ("look-frame 255", 7),
         ("create 0 0", 8),
@@ -284,8 +264,8 @@ fn order_of_the_refusals() {
         ("delete-page 5 5", 10),
         ("read 3 63 0 1", 10),
         ("read 4 63 0 1", 11),
-        ("write 4 63 0 1", 10),
-        ("write 5 63 0 1", 11),
+        ("write 4 63 0 01", 10),
+        ("write 5 63 0 01", 11),
         ("copy 2 8 0", 12),
         ("copy 2 0 0", 13),
         ("copy 2 0 12", 14),
@@ -298,7 +278,7 @@ fn order_of_the_refusals() {
         ("remove-current 0 0", 0),
         ("remove-current 0 3", 12),
     ] {
-        assert_eq!(number(&sound, &call(words)), due, "{words}");
+        assert_eq!(number(&sound, &bytes(line)), due, "{line}");
     }
 }
 
@@ -308,9 +288,9 @@ fn every_damage_breaks_the_tables() {
     for (name, damage) in DAMAGES {
         for _ in 0..100 {
             let mut lent = gen::shaped(&mut rng);
-            assert!(Tables::from_raw(&lent.tables).is_some());
+            assert_eq!(BOTH.map(|kernel| kernel.rules(&lent)), [0, 0]);
             damage(&mut rng, &mut lent);
-            assert!(Tables::from_raw(&lent.tables).is_none(), "{name}");
+            assert_eq!(BOTH.map(|kernel| kernel.rules(&lent)), [5, 5], "{name}");
         }
     }
 }
@@ -327,29 +307,88 @@ fn raw_tables_come_back() {
 
 #[test]
 fn runs_and_tallies() {
-    let mut lent = fresh();
-    let mut tally = [0; 3];
-    model::run(&mut lent, &[], &mut tally);
-    assert_eq!((tally, &lent), ([0; 3], &fresh()));
+    for kernel in BOTH {
+        let mut lent = unit(SLIP);
+        let mut tally = [0; 3];
+        kernel.run(&mut lent, &[], &mut tally);
+        assert_eq!((tally, &lent), ([0; 3], &unit(SLIP)));
 
-    let mut file = EXAMPLE.map(call).concat();
-    file.extend([0, 1, 1, 0, 9, 9]);
-    model::run(&mut lent, &file, &mut tally);
-    assert_eq!(tally, [8, 2, 66]);
-    assert_eq!(lent.out[..11], [0, 4, 1, 1, 0, 0, 1, 0, 1, 1, 0xAA]);
+        let mut file = example();
+        file.extend([0, 1, 1, 0, 9, 9]);
+        kernel.run(&mut lent, &file, &mut tally);
+        assert_eq!(tally, [8, 2, 66]);
+        assert_eq!(lent.out[..11], [0, 4, 1, 1, 0, 0, 1, 0, 1, 1, 0xAA]);
 
-    let mut tally = [u32::MAX - 1, u32::MAX, u32::MAX - 65];
-    model::run(&mut fresh(), &file, &mut tally);
-    assert_eq!(tally, [u32::MAX; 3]);
+        let mut tally = [u32::MAX - 1, u32::MAX, u32::MAX - 65];
+        kernel.run(&mut unit(SLIP), &file, &mut tally);
+        assert_eq!(tally, [u32::MAX; 3]);
 
-    let mut short = Lent {
-        out: vec![0xAA; 69],
-        ..fresh()
-    };
-    let before = short.clone();
-    let mut tally = [0; 3];
-    model::run(&mut short, &file, &mut tally);
-    assert_eq!((tally, short), ([8, 8, 0], before));
+        let mut short = unit(69);
+        let mut tally = [0; 3];
+        kernel.run(&mut short, &file, &mut tally);
+        assert_eq!((tally, short), ([8, 8, 0], unit(69)));
+    }
+}
+
+/// Every place of a file, sensible or not, and beyond its end, with reply buffers of many lengths.
+#[test]
+fn replies_from_every_place() {
+    let broken = [&EXPOSING[12].file()[..], &[0, 1, 1, 0, 9, 9]].concat();
+    for file in [&EXPOSING[2].file(), &broken, &vec![]] {
+        let places = (0..file.len() + 3).chain([usize::MAX - 1, usize::MAX]);
+        for at in places {
+            for room in [0, 1, 69, 70, 71, 75, 76, 77, 139, 140, 141, 1000] {
+                let mut lents = [unit(room), unit(room)];
+                let mut tallies = [[1, u32::MAX, 3]; 2];
+                let pairs = lents.iter_mut().zip(&mut tallies);
+                let mut reached = BOTH
+                    .into_iter()
+                    .zip(pairs)
+                    .map(|(kernel, (lent, tally))| kernel.replies(lent, file, at, tally));
+                assert_eq!(reached.next(), reached.next(), "{at} in {room} bytes");
+                drop(reached);
+                assert_eq!(lents[0], lents[1], "{at} in {room} bytes");
+                assert_eq!(tallies[0], tallies[1], "{at} in {room} bytes");
+            }
+        }
+    }
+}
+
+/// A short reply buffer takes nothing, and the run goes on to the file's end.
+#[test]
+fn replies_in_a_short_buffer() {
+    for kernel in BOTH {
+        let (mut lent, mut tally) = (unit(69), [0; 3]);
+        let file = example();
+        let reached = kernel.replies(&mut lent, &file, 0, &mut tally);
+        assert_eq!((reached.at, reached.used), (file.len(), 0));
+        assert_eq!((tally, lent), ([6, 6, 0], unit(69)));
+    }
+}
+
+/// A read in either store, its place and its bytes.
+#[test]
+fn reads_as_places() {
+    for kernel in BOTH {
+        let mut desk = Desk::example_end(kernel);
+        let place = |desk: &Desk, arguments| {
+            let place = desk.kernel.read(&desk.lent, arguments);
+            (place % 256, place / 256 % 256, place / 65536)
+        };
+        assert_eq!(place(&desk, [3, 5, 0, 3]), (3, 0, 0));
+        assert_eq!(place(&desk, [3, 5, 63, 1]), (1, 0, 63));
+        assert_eq!(place(&desk, [3, 5, 63, 2]), (0, 0, 0));
+        assert_eq!(place(&desk, [4, 5, 0, 1]), (0, 0, 0));
+        desk.accept("copy 5 0 6");
+        desk.accept("current 5 1");
+        assert_eq!(place(&desk, [3, 5, 1, 64 - 1]), (63, 0, 1));
+        desk.accept("remove-current 5 0");
+        assert_eq!(place(&desk, [3, 5, 1, 64 - 1]), (63, 1, 2 * 64 + 1));
+        desk.lent.out.clear();
+        assert_eq!(place(&desk, [3, 5, 1, 64 - 1]), (63, 1, 2 * 64 + 1));
+        desk.lent.slow.pop();
+        assert_eq!(place(&desk, [3, 5, 1, 64 - 1]), (0, 0, 0));
+    }
 }
 
 #[test]
@@ -362,11 +401,11 @@ fn reader_passes_over_by_length() {
 
 #[test]
 fn program_takes_60000_bytes() {
-    let looks = call("look-page 0").repeat(PROGRAM_INPUT / 5);
+    let looks = bytes("look-page 0").repeat(PROGRAM_INPUT / 5);
     assert_eq!(looks.len(), PROGRAM_INPUT);
     let replies = program(&looks);
     assert_eq!(program(&[looks.clone(), looks].concat()), replies);
-    let shifted = [&[0, 0], call("look-page 0").repeat(12000).as_slice()].concat();
+    let shifted = [&[0, 0], bytes("look-page 0").repeat(12000).as_slice()].concat();
     let end = program(&shifted);
     assert_eq!(end[end.len() - 6..], [0, 4, 1, 1, 0, 0]);
 }

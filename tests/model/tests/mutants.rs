@@ -1,13 +1,14 @@
 //! The harness tried on itself: `compare` must catch every one of these wrong kernels, each the
 //! model with one flaw.
 
+use ::model::cases::{in_parts, EXPOSING};
 use ::model::compare::compare;
 use ::model::flat::Demand3;
 use ::model::gen::{self, Moves, Rng};
 use ::model::kernel::{packed, Kernel, Modelled};
 use ::model::model::{
-    self, frame_bytes, Answer, Call, Lent, Page, Reader, Tables, ENTRIES, FRAME, NO_FRAME, RAW,
-    RECORD, STATIONS,
+    self, frame_bytes, Answer, Call, Lent, Page, Reached, Reader, Tables, ENTRIES, FRAME, NO_FRAME,
+    RAW, RECORD, SLIP, STATIONS,
 };
 
 /// One message answered by the model, to be spoiled.
@@ -29,6 +30,16 @@ enum Flaw {
     Tally(fn(&mut [u32], Answer)),
     /// Spoils fresh tables of too many frames.
     Fresh(fn(&mut [u8]) -> u8),
+    /// Spoils the tables that a run leaves.
+    Run(fn(&mut [u8])),
+    /// Keeps replies while so many bytes of the buffer are left.
+    Least(usize),
+    /// Keeps the replies of a file in its own way.
+    Replies(fn(&mut Lent, &[u8], usize, &mut [u32]) -> Reached),
+    /// Gives another number where the tables are tested.
+    Rules(fn(u8) -> u8),
+    /// Gives another place of a read.
+    Read(fn(&Lent, u32) -> u32),
 }
 
 struct Mutant(Flaw);
@@ -47,27 +58,86 @@ impl Kernel for Mutant {
     }
 
     fn run(&self, lent: &mut Lent, file: &[u8], tally: &mut [u32]) {
-        let taken = match self.0 {
-            Flaw::File(taken) => taken(file),
-            _ => file.len(),
-        };
-        for message in Reader::new(&file[..taken]) {
+        for message in Reader::new(self.taken(file)) {
             let answer = self.turn(lent, message);
-            if tally.len() != 3 {
-                continue;
-            }
-            if let Flaw::Tally(count) = self.0 {
-                count(tally, answer);
-                continue;
-            }
-            tally[0] = tally[0].saturating_add(1);
-            tally[1] = tally[1].saturating_add((answer.number != 0).into());
-            tally[2] = tally[2].saturating_add(answer.laid as u32);
+            self.count(tally, answer);
+        }
+        if let Flaw::Run(spoil) = self.0 {
+            spoil(&mut lent.tables);
+        }
+    }
+
+    fn replies(&self, lent: &mut Lent, file: &[u8], at: usize, tally: &mut [u32]) -> Reached {
+        match self.0 {
+            Flaw::Replies(replies) => replies(lent, file, at, tally),
+            Flaw::Least(least) => self.part(least, lent, file, at, tally),
+            _ => self.part(SLIP, lent, file, at, tally),
+        }
+    }
+
+    fn rules(&self, lent: &Lent) -> u8 {
+        match self.0 {
+            Flaw::Rules(other) => other(Modelled.rules(lent)),
+            _ => Modelled.rules(lent),
+        }
+    }
+
+    fn read(&self, lent: &Lent, arguments: [u8; 4]) -> u32 {
+        let place = Modelled.read(lent, arguments);
+        match self.0 {
+            Flaw::Read(other) => other(lent, place),
+            _ => place,
         }
     }
 }
 
 impl Mutant {
+    fn taken<'a>(&self, file: &'a [u8]) -> &'a [u8] {
+        match self.0 {
+            Flaw::File(taken) => &file[..taken(file)],
+            _ => file,
+        }
+    }
+
+    fn count(&self, tally: &mut [u32], answer: Answer) {
+        match (&self.0, tally) {
+            (Flaw::Tally(count), tally) if tally.len() == 3 => count(tally, answer),
+            (_, [messages, refusals, laid]) => {
+                *messages = messages.saturating_add(1);
+                *refusals = refusals.saturating_add((answer.number != 0).into());
+                *laid = laid.saturating_add(answer.laid as u32);
+            }
+            _ => {}
+        }
+    }
+
+    /// A part that goes on while so many bytes of the buffer are left; a message that finds fewer
+    /// than 70 is answered 18.
+    fn part(
+        &self,
+        least: usize,
+        lent: &mut Lent,
+        file: &[u8],
+        at: usize,
+        tally: &mut [u32],
+    ) -> Reached {
+        let mut filled = std::mem::take(&mut lent.out);
+        let (length, mut reached) = (filled.len(), Reached { at, used: 0 });
+        for message in Reader::at(self.taken(file), at) {
+            if length >= SLIP && length - reached.used < least {
+                break;
+            }
+            lent.out = filled.split_off(reached.used);
+            let answer = self.turn(lent, message);
+            filled.append(&mut lent.out);
+            self.count(tally, answer);
+            reached.at += message.len();
+            reached.used += answer.length;
+        }
+        lent.out = filled;
+        reached
+    }
+
     fn turn(&self, lent: &mut Lent, message: &[u8]) -> Answer {
         let before = lent.clone();
         match self.0 {
@@ -168,8 +238,17 @@ fn records(tables: &mut [u8]) -> std::slice::ChunksMut<'_, u8> {
     tables[2..].chunks_mut(RECORD)
 }
 
+/// Makes marks of 1 of all that are not 0, in tables of any length.
+fn even_marks(tables: &mut [u8]) {
+    if tables.len() == RAW {
+        for record in records(tables) {
+            used(record).for_each(|entry| entry[1..].iter_mut().for_each(|m| *m = (*m).min(1)));
+        }
+    }
+}
+
 /// The wrong kernels.
-const MUTANTS: [(&str, Flaw); 58] = [
+const MUTANTS: [(&str, Flaw); 77] = [
     // The traps of the paper.
     (
         "a new copy takes its source's CURRENT mark",
@@ -216,6 +295,27 @@ const MUTANTS: [(&str, Flaw); 58] = [
                 let only_current = page.current_frames().len() == 1;
                 if page.copies[usize::from(copy)].current && only_current {
                     turn.refuse(15);
+                }
+            }
+        }),
+    ),
+    (
+        "last recent deleted where it is not current",
+        Flaw::Answer(|turn| {
+            if let (Some(Call::DeleteCopy { page, copy }), 15) =
+                (turn.call.clone(), turn.answer.number)
+            {
+                let tables = Tables::from_raw(&turn.before.tables).expect("lawful tables");
+                let copies = &tables.pages[usize::from(page)]
+                    .as_ref()
+                    .expect("a page")
+                    .copies;
+                if copies.len() > 1 && !copies[usize::from(copy)].current {
+                    turn.change_page(page.into(), |page| {
+                        page.copies.remove(copy.into());
+                    });
+                    turn.reply(&[0, 4, 1, 0, 0, 0]);
+                    turn.answer.number = 0;
                 }
             }
         }),
@@ -273,6 +373,7 @@ const MUTANTS: [(&str, Flaw); 58] = [
         Flaw::Answer(|turn| {
             if turn.answer.laid == 64 {
                 turn.answer.laid = 63;
+                turn.reply(&[0, 4, 1, 0, 0, 63]);
             }
         }),
     ),
@@ -704,6 +805,24 @@ const MUTANTS: [(&str, Flaw); 58] = [
             }
         }),
     ),
+    ("any mark but 0 let pass", Flaw::Mend(even_marks)),
+    (
+        "any CURRENT mark but 0 let pass",
+        Flaw::Mend(|tables| {
+            for record in records(tables) {
+                used(record).for_each(|entry| entry[1] = entry[1].min(1));
+            }
+        }),
+    ),
+    (
+        "a refused message puts marks back as 1",
+        Flaw::Answer(|turn| {
+            if turn.answer.number != 0 {
+                even_marks(&mut turn.after.tables);
+            }
+        }),
+    ),
+    ("a run puts marks back as 1", Flaw::Run(even_marks)),
     // Runs, tallies, fresh tables.
     (
         "a cut end passed over",
@@ -747,6 +866,100 @@ const MUTANTS: [(&str, Flaw); 58] = [
             19
         }),
     ),
+    // Runs that keep their replies.
+    ("a part stops with 70 bytes left", Flaw::Least(71)),
+    ("a part goes on with 69 bytes left", Flaw::Least(69)),
+    (
+        "a part begins at the file's start",
+        Flaw::Replies(|lent, file, _, tally| Modelled.replies(lent, file, 0, tally)),
+    ),
+    (
+        "a part tells the place before its last message",
+        Flaw::Replies(|lent, file, at, tally| {
+            let reached = Modelled.replies(lent, file, at, tally);
+            let messages = Reader::at(&file[..reached.at.min(file.len())], at);
+            let last = messages.last().map_or(0, <[u8]>::len);
+            Reached {
+                at: reached.at - last,
+                ..reached
+            }
+        }),
+    ),
+    (
+        "a part beyond the end tells the end",
+        Flaw::Replies(|lent, file, at, tally| {
+            let mut reached = Modelled.replies(lent, file, at, tally);
+            reached.at = reached.at.min(file.len());
+            reached
+        }),
+    ),
+    (
+        "a part counts the whole buffer as used",
+        Flaw::Replies(|lent, file, at, tally| Reached {
+            used: lent.out.len(),
+            ..Modelled.replies(lent, file, at, tally)
+        }),
+    ),
+    (
+        "a part wipes the buffer behind its replies",
+        Flaw::Replies(|lent, file, at, tally| {
+            let reached = Modelled.replies(lent, file, at, tally);
+            lent.out[reached.used..].fill(0);
+            reached
+        }),
+    ),
+    (
+        "a part in a short buffer stops where it began",
+        Flaw::Replies(|lent, file, at, tally| {
+            if lent.out.len() < 70 {
+                return Reached { at, used: 0 };
+            }
+            Modelled.replies(lent, file, at, tally)
+        }),
+    ),
+    (
+        "a part counts anew",
+        Flaw::Replies(|lent, file, at, tally| {
+            if tally.len() == 3 {
+                tally.fill(0);
+            }
+            Modelled.replies(lent, file, at, tally)
+        }),
+    ),
+    (
+        "a part passes over a cut end",
+        Flaw::Replies(|lent, file, at, tally| {
+            let messages = Reader::at(file, at);
+            let cut = messages
+                .last()
+                .filter(|last| Call::decode(last) == Err(model::Refusal::CutShort));
+            let end = file.len() - cut.map_or(0, <[u8]>::len);
+            Modelled.replies(lent, &file[..end], at, tally)
+        }),
+    ),
+    (
+        "a part's replies go to the front",
+        Flaw::Replies(|lent, file, at, tally| {
+            let reached = Modelled.replies(lent, file, at, tally);
+            if reached.used > 6 {
+                lent.out.copy_within(reached.used - 6..reached.used, 0);
+            }
+            reached
+        }),
+    ),
+    // The test of the tables, and the read as a place.
+    (
+        "misfit stores pass the test of the tables",
+        Flaw::Rules(|number| if number == 6 { 0 } else { number }),
+    ),
+    (
+        "the place of a read in the other store",
+        Flaw::Read(|_, place| if place == 0 { 0 } else { place ^ 256 }),
+    ),
+    (
+        "the place of a read refused for a short buffer",
+        Flaw::Read(|lent, place| if lent.out.len() < 70 { 0 } else { place }),
+    ),
 ];
 
 const SEED: u64 = 1;
@@ -758,22 +971,40 @@ fn the_model_passes() {
     assert!(counts.too_few().is_empty(), "{:?}", counts.too_few());
 }
 
-/// For each mutant whether a check caught it.
-fn caught(check: impl Fn(&Mutant) -> Result<(), String> + Sync) -> Vec<(&'static str, bool)> {
+/// Those of the mutants whose names pass that a check does not catch.
+fn missed(
+    named: impl Fn(&str) -> bool,
+    check: impl Fn(&Mutant) -> Result<(), String> + Sync,
+) -> Vec<&'static str> {
     let check = &check;
     std::thread::scope(|scope| {
-        let checks =
-            MUTANTS.map(|(name, flaw)| (name, scope.spawn(move || check(&Mutant(flaw)).is_err())));
-        let joined = checks.map(|(name, check)| (name, check.join().expect("a check")));
-        joined.to_vec()
+        let tried = MUTANTS.into_iter().filter(|(name, _)| named(name));
+        let checks: Vec<_> = tried
+            .map(|(name, flaw)| (name, scope.spawn(move || check(&Mutant(flaw)).is_ok())))
+            .collect();
+        let joined = checks
+            .into_iter()
+            .map(|(name, check)| (name, check.join().expect("a check")));
+        let missed = joined.filter(|(_, passed)| *passed);
+        missed.map(|(name, _)| name).collect()
     })
 }
 
 #[test]
 fn every_mutant_is_caught() {
-    let caught = caught(|mutant| compare(mutant, SEED, MESSAGES).map(drop));
-    let missed = caught.iter().filter(|(_, caught)| !caught);
-    assert_eq!(missed.collect::<Vec<_>>(), Vec::<&(&str, bool)>::new());
+    let missed = missed(|_| true, |mutant| compare(mutant, SEED, MESSAGES).map(drop));
+    assert_eq!(missed, Vec::<&str>::new());
+}
+
+/// Each trap and each impostor of document 01 gets a reply of its file wrong.
+#[test]
+fn traps_and_impostors_are_exposed() {
+    for case in &EXPOSING {
+        let flaw = MUTANTS.into_iter().find(|(name, _)| *name == case.name);
+        let (_, flaw) = flaw.unwrap_or_else(|| panic!("no mutant: {}", case.name));
+        let served = in_parts(&Mutant(flaw), &case.file(), 1000);
+        assert_ne!(served.replies, case.replies(), "{}", case.name);
+    }
 }
 
 /// Runs from fresh tables on which demand 3 alone looks.
@@ -795,23 +1026,25 @@ fn demand3(kernel: &dyn Kernel) -> Result<(), String> {
     Ok(())
 }
 
+const DEMAND_3: [&str; 11] = [
+    "one current copy of two written",
+    "a free frame's old bytes taken for zeros",
+    "nothing current before looking",
+    "refuses all",
+    "a constant reply",
+    "reads zeros where nothing is current",
+    "a grant of right 2 gives the page away",
+    "the owner's own right stays",
+    "right 1 cannot read",
+    "a read of 64 bytes refused",
+    "nothing current before no right",
+];
+
 #[test]
 fn demand_3_catches_what_breaks_it() {
     demand3(&Modelled).expect("demand 3");
-    let caught = caught(|mutant| demand3(mutant));
-    for name in [
-        "one current copy of two written",
-        "a free frame's old bytes taken for zeros",
-        "nothing current before looking",
-        "refuses all",
-        "a constant reply",
-        "reads zeros where nothing is current",
-        "a grant of right 2 gives the page away",
-        "the owner's own right stays",
-        "right 1 cannot read",
-        "a read of 64 bytes refused",
-        "nothing current before no right",
-    ] {
-        assert!(caught.contains(&(name, true)), "{name}");
-    }
+    let named = |name: &str| DEMAND_3.contains(&name);
+    let tried = MUTANTS.into_iter().filter(|(name, _)| named(name));
+    assert_eq!(tried.count(), DEMAND_3.len());
+    assert_eq!(missed(named, |mutant| demand3(mutant)), Vec::<&str>::new());
 }

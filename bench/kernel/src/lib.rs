@@ -1,0 +1,438 @@
+//! The kernel's C functions, the only binding of its library in Rust: over lent slices, and behind
+//! a unit that owns all it lends.
+
+/// The version of the library that this binding is for: 65536 * major + 256 * minor + patch.
+pub const VERSION: u32 = 65536;
+/// How many bytes the tables take. Nothing in Rust looks into them.
+pub const TABLES: usize = 2690;
+/// The bytes of a frame, and so of a page.
+pub const FRAME: usize = 64;
+/// The most fast frames, and the most slow ones.
+pub const MOST_FRAMES: u8 = 127;
+/// The shortest reply buffer that serves.
+pub const SLIP: usize = 70;
+
+// A slice passes as pointer and length.
+#[link(name = "embed", kind = "static")]
+extern "C" {
+    fn reel_version() -> u32;
+
+    fn reel_fresh(fast: u8, slow: u8, tables: *mut u8, tables_len: usize) -> u8;
+
+    fn reel_rules(tables: *const u8, tables_len: usize, fast: usize, slow: usize) -> u8;
+
+    fn reel_read(
+        tables: *const u8,
+        tables_len: usize,
+        fast: usize,
+        slow: usize,
+        station: u8,
+        page: u8,
+        offset: u8,
+        count: u8,
+    ) -> u32;
+
+    fn reel_answer(
+        tables: *mut u8,
+        tables_len: usize,
+        fast: *mut u8,
+        fast_len: usize,
+        slow: *mut u8,
+        slow_len: usize,
+        message: *const u8,
+        message_len: usize,
+        out: *mut u8,
+        out_len: usize,
+    ) -> u32;
+
+    fn reel_run(
+        tables: *mut u8,
+        tables_len: usize,
+        fast: *mut u8,
+        fast_len: usize,
+        slow: *mut u8,
+        slow_len: usize,
+        file: *const u8,
+        file_len: usize,
+        out: *mut u8,
+        out_len: usize,
+        tally: *mut u32,
+        tally_len: usize,
+    );
+
+    fn reel_replies(
+        tables: *mut u8,
+        tables_len: usize,
+        fast: *mut u8,
+        fast_len: usize,
+        slow: *mut u8,
+        slow_len: usize,
+        file: *const u8,
+        file_len: usize,
+        at: usize,
+        out: *mut u8,
+        out_len: usize,
+        tally: *mut u32,
+        tally_len: usize,
+        used: *mut usize,
+    ) -> usize;
+}
+
+/// A C function with the parameters of `reel_answer`: tables, both stores, the message's or file's
+/// bytes and the reply buffer, each as pointer and length.
+pub type Answering = unsafe extern "C" fn(
+    *mut u8,
+    usize,
+    *mut u8,
+    usize,
+    *mut u8,
+    usize,
+    *const u8,
+    usize,
+    *mut u8,
+    usize,
+) -> u32;
+
+// SAFETY, for all functions below: each pointer comes with its length from a live slice, and the
+// borrow checker keeps the slices lent for writing apart from all others.
+
+/// The version of the library that is linked, to be compared with `VERSION`.
+pub fn version() -> u32 {
+    unsafe { reel_version() }
+}
+
+/// Writes fresh tables: 0, or 19; 5 for a buffer of another length than tables have.
+pub fn fresh(fast: u8, slow: u8, tables: &mut [u8]) -> u8 {
+    unsafe { reel_fresh(fast, slow, tables.as_mut_ptr(), tables.len()) }
+}
+
+/// Tests tables with stores of so many bytes: 5 where a table rule fails, 6 where a store does not
+/// fit, else 0.
+pub fn rules(tables: &[u8], fast: usize, slow: usize) -> u8 {
+    unsafe { reel_rules(tables.as_ptr(), tables.len(), fast, slow) }
+}
+
+/// Where the bytes of a read lie in stores of so many bytes: length + 256 * (0 fast, 1 slow) +
+/// 65536 * (offset in that store), or 0 where the read would be refused. The arguments are station,
+/// page, offset and count.
+pub fn read(tables: &[u8], fast: usize, slow: usize, arguments: [u8; 4]) -> u32 {
+    let [station, page, offset, count] = arguments;
+    let (at, length) = (tables.as_ptr(), tables.len());
+    unsafe { reel_read(at, length, fast, slow, station, page, offset, count) }
+}
+
+/// Answers one message: number + 256 * (length of the reply) + 65536 * (bytes laid).
+pub fn answer(
+    tables: &mut [u8],
+    fast: &mut [u8],
+    slow: &mut [u8],
+    message: &[u8],
+    out: &mut [u8],
+) -> u32 {
+    unsafe { answer_by(reel_answer, tables, fast, slow, message, out) }
+}
+
+/// What a C function with the parameters of `reel_answer` gives.
+///
+/// # Safety
+///
+/// The function reads and writes nothing but the slices that it is lent, and reads the bytes alone.
+pub unsafe fn answer_by(
+    function: Answering,
+    tables: &mut [u8],
+    fast: &mut [u8],
+    slow: &mut [u8],
+    bytes: &[u8],
+    out: &mut [u8],
+) -> u32 {
+    function(
+        tables.as_mut_ptr(),
+        tables.len(),
+        fast.as_mut_ptr(),
+        fast.len(),
+        slow.as_mut_ptr(),
+        slow.len(),
+        bytes.as_ptr(),
+        bytes.len(),
+        out.as_mut_ptr(),
+        out.len(),
+    )
+}
+
+/// Runs a whole call file; a tally of another length than 3 is left alone.
+pub fn run(
+    tables: &mut [u8],
+    fast: &mut [u8],
+    slow: &mut [u8],
+    file: &[u8],
+    out: &mut [u8],
+    tally: &mut [u32],
+) {
+    unsafe {
+        reel_run(
+            tables.as_mut_ptr(),
+            tables.len(),
+            fast.as_mut_ptr(),
+            fast.len(),
+            slow.as_mut_ptr(),
+            slow.len(),
+            file.as_ptr(),
+            file.len(),
+            out.as_mut_ptr(),
+            out.len(),
+            tally.as_mut_ptr(),
+            tally.len(),
+        )
+    }
+}
+
+/// What a run that keeps its replies has reached.
+#[derive(Clone, Copy, Debug, PartialEq, Eq)]
+pub struct Reached {
+    /// The place of the file after the last message answered.
+    pub at: usize,
+    /// How many bytes of the reply buffer the replies take.
+    pub used: usize,
+}
+
+/// Runs a call file from a place on, reply after reply, until the file ends or fewer than 70 bytes
+/// of the reply buffer are left. In a buffer below 70 every message is answered 18, to the file's
+/// end. A tally of another length than 3 is left alone.
+pub fn replies(
+    tables: &mut [u8],
+    fast: &mut [u8],
+    slow: &mut [u8],
+    file: &[u8],
+    at: usize,
+    out: &mut [u8],
+    tally: &mut [u32],
+) -> Reached {
+    let mut used = 0;
+    let at = unsafe {
+        reel_replies(
+            tables.as_mut_ptr(),
+            tables.len(),
+            fast.as_mut_ptr(),
+            fast.len(),
+            slow.as_mut_ptr(),
+            slow.len(),
+            file.as_ptr(),
+            file.len(),
+            at,
+            out.as_mut_ptr(),
+            out.len(),
+            tally.as_mut_ptr(),
+            tally.len(),
+            &mut used,
+        )
+    };
+    Reached { at, used }
+}
+
+/// A tracking unit: all that a caller lends to the kernel.
+#[derive(Clone)]
+pub struct Unit {
+    pub tables: Vec<u8>,
+    pub fast: Vec<u8>,
+    pub slow: Vec<u8>,
+    pub out: Vec<u8>,
+    /// Messages, refusals and bytes laid, as `run` and `replies` count them.
+    pub tally: [u32; 3],
+}
+
+/// The answer to one message.
+#[derive(Clone, Copy, Debug, PartialEq, Eq)]
+pub struct Answer<'a> {
+    /// 0 accepted, else the number of the refusal.
+    pub number: u8,
+    /// The bytes laid.
+    pub laid: u16,
+    /// The whole reply, its length first.
+    pub reply: &'a [u8],
+}
+
+impl<'a> Answer<'a> {
+    /// The bytes of a read or look, which follow the six of the head.
+    pub fn data(&self) -> &'a [u8] {
+        self.reply.get(6..).unwrap_or_default()
+    }
+}
+
+impl Unit {
+    /// A unit with fresh tables, or the number of the refusal.
+    pub fn fresh(fast: u8, slow: u8) -> Result<Unit, u8> {
+        let mut tables = vec![0; TABLES];
+        match fresh(fast, slow, &mut tables) {
+            0 => Ok(Unit {
+                tables,
+                fast: vec![0; FRAME * usize::from(fast)],
+                slow: vec![0; FRAME * usize::from(slow)],
+                out: vec![0; SLIP],
+                tally: [0; 3],
+            }),
+            number => Err(number),
+        }
+    }
+
+    /// 0 where the tables keep the rules and the stores fit them, else 5 or 6.
+    pub fn rules(&self) -> u8 {
+        rules(&self.tables, self.fast.len(), self.slow.len())
+    }
+
+    /// The bytes of a read where they lie, in the fast store or in the slow one; None where the
+    /// read would be refused.
+    pub fn read(&self, station: u8, page: u8, offset: u8, count: u8) -> Option<&[u8]> {
+        let arguments = [station, page, offset, count];
+        let place = read(&self.tables, self.fast.len(), self.slow.len(), arguments);
+        let [length, store, from @ ..] = place.to_le_bytes();
+        let store = match store {
+            0 => &self.fast,
+            _ => &self.slow,
+        };
+        let from = usize::from(u16::from_le_bytes(from));
+        (length != 0).then(|| &store[from..][..usize::from(length)])
+    }
+
+    /// Answers one message, its length first.
+    pub fn answer(&mut self, message: &[u8]) -> Answer<'_> {
+        let packed = answer(
+            &mut self.tables,
+            &mut self.fast,
+            &mut self.slow,
+            message,
+            &mut self.out,
+        );
+        let [number, length, laid @ ..] = packed.to_le_bytes();
+        Answer {
+            number,
+            laid: u16::from_le_bytes(laid),
+            reply: &self.out[..usize::from(length)],
+        }
+    }
+
+    /// Runs a call file; the rules are tested once. The buffer has the last reply.
+    pub fn run(&mut self, file: &[u8]) {
+        run(
+            &mut self.tables,
+            &mut self.fast,
+            &mut self.slow,
+            file,
+            &mut self.out,
+            &mut self.tally,
+        );
+    }
+
+    /// Runs a call file and keeps its replies: hands them over whenever the reply buffer is full,
+    /// and at the end.
+    pub fn replies(&mut self, file: &[u8], mut keep: impl FnMut(&[u8])) {
+        let mut at = 0;
+        while at < file.len() {
+            let reached = replies(
+                &mut self.tables,
+                &mut self.fast,
+                &mut self.slow,
+                file,
+                at,
+                &mut self.out,
+                &mut self.tally,
+            );
+            keep(&self.out[..reached.used]);
+            at = reached.at;
+        }
+    }
+}
+
+#[cfg(test)]
+mod tests {
+    use super::{Answer, Unit};
+
+    /// The worked example of document 01, and its replies.
+    const FILE: [&[u8]; 6] = [
+        &[0, 4, 1, 1, 3, 5],
+        &[0, 5, 1, 6, 5, 0, 0],
+        &[0, 4, 1, 8, 5, 0],
+        &[0, 7, 1, 5, 3, 5, 0, 0x41, 0x37],
+        &[0, 6, 1, 4, 3, 5, 0, 3],
+        &[0, 3, 1, 10, 5],
+    ];
+    const REPLIES: [&[u8]; 6] = [
+        &[0, 4, 1, 0, 0, 0],
+        &[0, 4, 1, 0, 0, 64],
+        &[0, 4, 1, 0, 0, 0],
+        &[0, 4, 1, 0, 0, 2],
+        &[0, 7, 1, 0, 0, 0, 0x41, 0x37, 0],
+        &[0, 8, 1, 0, 0, 0, 1, 0, 1, 1],
+    ];
+
+    #[test]
+    fn a_look_at_a_new_page() {
+        let mut unit = Unit::fresh(4, 4).unwrap();
+        assert_eq!(unit.answer(&[0, 4, 1, 1, 3, 5]).number, 0);
+        let answer = unit.answer(&[0, 3, 1, 10, 5]);
+        assert_eq!(answer.data(), [1, 255, 0, 1]);
+        unit.run(&[0, 5, 1, 6, 5, 0, 7, 0]);
+        assert_eq!(unit.tally, [2, 1, 64]);
+        let refused = unit.answer(&[0]);
+        let due = Answer {
+            number: 1,
+            laid: 0,
+            reply: &[0, 4, 1, 1, 0, 0],
+        };
+        assert_eq!(refused, due);
+        assert_eq!(refused.data(), []);
+    }
+
+    #[test]
+    fn the_library_is_of_this_version() {
+        assert_eq!(super::version(), super::VERSION);
+    }
+
+    #[test]
+    fn too_many_frames() {
+        assert_eq!(Unit::fresh(128, 0).err(), Some(19));
+    }
+
+    #[test]
+    fn every_reply_in_buffers_of_any_length() {
+        for (length, parts) in [(70, 6), (76, 4), (82, 3), (1000, 1)] {
+            let mut unit = Unit::fresh(4, 4).unwrap();
+            unit.out = vec![0xAA; length];
+            let mut kept = Vec::new();
+            unit.replies(&FILE.concat(), |part| kept.push(part.to_vec()));
+            assert_eq!(kept.len(), parts, "in {length} bytes");
+            assert_eq!(kept.concat(), REPLIES.concat());
+            assert_eq!(unit.tally, [6, 0, 66]);
+        }
+        let mut unit = Unit::fresh(4, 4).unwrap();
+        unit.out = vec![0xAA; 69];
+        unit.replies(&FILE.concat(), |part| assert_eq!(part, []));
+        assert_eq!((unit.tally, unit.out), ([6, 6, 0], vec![0xAA; 69]));
+    }
+
+    #[test]
+    fn a_read_where_the_bytes_lie() {
+        let mut unit = Unit::fresh(1, 2).unwrap();
+        for message in FILE {
+            unit.answer(message);
+        }
+        assert_eq!(unit.read(3, 5, 0, 3), Some(&[0x41, 0x37, 0][..]));
+        assert_eq!(unit.read(3, 5, 1, 1).unwrap().as_ptr(), &unit.fast[1]);
+        assert_eq!(unit.read(4, 5, 0, 3), None);
+        // The same bytes on the second slow frame.
+        for message in [&[0, 5, 1, 6, 5, 0, 2][..], &[0, 4, 1, 7, 5, 0], FILE[2]] {
+            assert_eq!(unit.answer(message).number, 0);
+        }
+        assert_eq!(unit.read(3, 5, 1, 63).unwrap().as_ptr(), &unit.slow[65]);
+        assert_eq!(unit.read(3, 5, 0, 2), Some(&[0x41, 0x37][..]));
+    }
+
+    #[test]
+    fn the_test_of_tables_and_stores() {
+        let mut unit = Unit::fresh(4, 4).unwrap();
+        assert_eq!(unit.rules(), 0);
+        unit.slow.pop();
+        assert_eq!(unit.rules(), 6);
+        unit.tables[0] = 128;
+        assert_eq!(unit.rules(), 5);
+    }
+}
