@@ -1,5 +1,5 @@
 -- What a private function asks. For the proofs alone: no exported contract names it.
-use Prim.Native.Nat.{ℕ, _≤_, _<_}
+use Prim.Native.Nat.{_≤_, _<_}
 use Rattle.steps.specs.declared.Place.{Place}
 
 -- a place that goes into one number

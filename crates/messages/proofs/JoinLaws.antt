@@ -1,31 +1,31 @@
 -- The parts of a run, joined, are its replies. In order: how many bytes of replies a file brings, so that a buffer of that size takes them all;
 -- what a part leaves of the file; the parts that a caller has, one after the other; that they come to the file's end.
-use Prim.Native.Nat.{ℕ, zero, suc, _+_, _-_, _*_, _≤_, _<_, zero-le}
+use Prim.Native.Nat.{ℕ, zero, suc, _+_, _-_, _*_, _/_, _%_, _≤_, _<_}
 use mathlib.Core.Path.{_≡_, refl, sym, ap, _∙_}
 use mathlib.Core.Bool.{Bool, true, false, cond}
 use mathlib.Core.List.{List, [], _∷_, _++_, map, flatten, append-assoc}
 use native.Mathlib.Omega.{arith}
-use lib.ListN.{length, take, drop, length-append, length-drop, drop-of-length-le}
-use lib.Seq.{length-take-le, take-at}
+use lib.ListN.{length, take, drop, length-append, length-drop}
+use lib.Seq.{length-take-le, take-at, drop-at}
 use lib.Dec.{leb, ltb}
 use borrow.Author.Tests.{ltb-false, leb-true, leb-false, le-ltb}
-use Rattle.tables.specs.Numbers.{cutShort, shortSlip}
-use Rattle.steps.specs.declared.Call.{Call}
-use Rattle.steps.specs.Steps.{Outcome, refuse, test}
-use Rattle.steps.specs.Effects.{State, Result, step, left, laidBy, dataOf}
+use Rattle.tables.specs.Numbers.{accepted, cutShort, shortSlip}
+use Rattle.steps.specs.Steps.{Outcome, refuse, accept, test}
+use Rattle.steps.specs.Effects.{State, Result, left, laidBy, dataOf}
 use Rattle.steps.proofs.StepLaws.{data-paid}
 use Rattle.messages.specs.declared.Parsed.{Parsed}
 use Rattle.messages.specs.declared.Parsed.the-variants.{Refused, Asked}
 use Rattle.messages.specs.declared.Next.the-variants.{Message, Cut, End}
 use Rattle.messages.specs.declared.Tally.{Tally}
 use Rattle.messages.specs.Messages.{parse, writeBytes, lengthAt, nextAt}
-use Rattle.messages.specs.Replies.{reply, replyIn, counted, isRefusal}
-use Rattle.messages.specs.Run.{Sent, cut, whole, respond, answer, Turn, turnOf, leftBy, split, messagesOf, turnsOf, endOf, run, tally, joinedReplies, full, served, passed, placeAfter, stateAfter, partFrom}
+use Rattle.messages.specs.Replies.{be16, reply, replyIn, counted, isRefusal}
+use Rattle.messages.specs.Run.{Sent, cut, whole, respond, answer, Turn, turnOf, leftBy, split, messagesOf, turnsOf, endOf, run, tally, replies, joinedReplies, full, served, passed, placeAfter, stateAfter, partFrom}
 use Rattle.messages.specs.Promises.{sentBy, FillCall, FillCalls, emptied, reached, stateLeft, tallyLeft}
 use Rattle.messages.specs.Private.{isEnd, pastOf}
 use Rattle.messages.proofs.ParseLaws.{asked-long}
-use Rattle.messages.proofs.ReaderLaws.{at-end, reader-yields}
+use Rattle.messages.proofs.ReaderLaws.{next-message, at-end, reader-yields}
 use Rattle.messages.proofs.ReplyLaws.{reply-length}
+use Rattle.messages.proofs.TurnLaws.{reply-short}
 use Rattle.messages.proofs.RunLaws.{none-left, follows, same-answer}
 use Rattle.messages.proofs.PartLaws.{never-full}
 
@@ -310,3 +310,45 @@ parts-reach file at s n (k ∷ ks) calls h =
     by false f =
         let more = goes-further room file at s (leb-false (length file) at f) in
         omega (arith, more, h, calls .1 .place-told)
+
+-- ---- joined replies are told apart by their own lengths
+
+-- a reply is the two bytes of a length, and as many bytes
+record Framed (r : List ℕ) : Type 0 where
+  high : ℕ
+  low : ℕ
+  rest : List ℕ
+  is : r ≡ high ∷ low ∷ rest
+  tells : high * 256 + low ≡ length rest
+
+reply-framed : (o : Outcome Result) → length (dataOf o) ≤ 64 → Framed (reply o)
+unfolding reply
+reply-framed (refuse n) few = record { high = 0; low = 4; rest = 1 ∷ n ∷ 0 ∷ 0 ∷ []; is = refl; tells = refl }
+reply-framed (accept r) few =
+    record {
+      high = (4 + length (r .data-out)) / 256 % 256;
+      low = (4 + length (r .data-out)) % 256;
+      rest = 1 ∷ accepted ∷ (be16 (r .laid) ++ r .data-out);
+      is = refl;
+      tells = omega (arith, few);
+    }
+
+answer-framed : (s : State) (x : Sent) → Framed (replyIn 70 (answer 70 s x))
+answer-framed s x = reply-framed (answer 70 s x) (omega (arith, reply-short 70 s x, reply-length 70 (answer 70 s x)))
+
+one-apart : (r more : List ℕ) → Framed r → messagesOf (r ++ more) ≡ whole (drop 2 r) ∷ messagesOf more
+one-apart r more f =
+    let long : length (f .rest) ≤ length (f .rest ++ more) = omega (arith, length-append (f .rest) more) in
+    rw (f .is)
+    (next-message (f .high) (f .low) (f .rest ++ more)
+    ∙ rw (f .tells, le-ltb (length (f .rest ++ more)) (length (f .rest)) long, take-at (f .rest) more (length (f .rest)) refl,
+    drop-at (f .rest) more (length (f .rest)) refl))
+
+pub replies-apart : (s : State) (xs : List Sent)
+    → messagesOf (joinedReplies 70 (turnsOf 70 s xs)) ≡ map (λ (r : List ℕ). whole (drop 2 r)) (replies 70 (turnsOf 70 s xs))
+unfolding turnsOf flatten messagesOf split
+replies-apart s [] = refl
+replies-apart s (x ∷ xs) =
+    let r : List ℕ = replyIn 70 (answer 70 s x) in
+    one-apart r (joinedReplies 70 (turnsOf 70 (leftBy 70 s x) xs)) (answer-framed s x)
+    ∙ ap (λ (ys : List Sent). whole (drop 2 r) ∷ ys) (replies-apart (leftBy 70 s x) xs)

@@ -13,8 +13,7 @@ use Rattle.steps.specs.Stores.{part}
 use Rattle.messages.specs.declared.Next.{Next}
 use Rattle.messages.specs.declared.Next.the-variants.{Message, Cut, End}
 use Rattle.messages.specs.Messages.{lengthAt, nextAt}
-use Rattle.messages.specs.Run.{Sent, cut, whole, split, messagesOf}
-use Rattle.messages.specs.Private.{yielded}
+use Rattle.messages.specs.Run.{Sent, cut, whole, split, messagesOf, yielded}
 
 -- more turns than bytes change nothing
 pub enough : (k m : ℕ) (l : List ℕ) → length l ≤ k → length l ≤ m → split k l ≡ split m l

@@ -16,12 +16,11 @@ use Rattle.steps.specs.Effects.{State, Result, left, laidBy}
 use Rattle.messages.specs.declared.Next.{Next}
 use Rattle.messages.specs.declared.Next.the-variants.{Message, Cut, End}
 use Rattle.messages.specs.declared.Tally.{Tally}
-use Rattle.messages.specs.declared.Filled.{Filled}
 use Rattle.messages.specs.Messages.{lengthAt, nextAt}
 use Rattle.messages.specs.Replies.{reply, replyIn, counted, isRefusal}
-use Rattle.messages.specs.Run.{Sent, answer, messagesOf, split, full, passed}
+use Rattle.messages.specs.Run.{Sent, answer, messagesOf, yielded, split, full, passed}
 use Rattle.messages.specs.Promises.{sentBy}
-use Rattle.messages.specs.Private.{yielded, dueAt, isEnd, pastOf, Serving, serving, ahead, servedOne, servedAll, ServeEnded}
+use Rattle.messages.specs.Private.{dueAt, isEnd, pastOf, Serving, serving, ahead, servedOne, servedAll}
 use Rattle.messages.proofs.ReaderLaws.{message-at, reader-yields}
 use Rattle.messages.proofs.ReplyLaws.{reply-length}
 use Rattle.messages.proofs.TurnLaws.{rulesOf, Served, answer-told, rules-kept, reply-short}

@@ -23,7 +23,7 @@ use Rattle.messages.specs.declared.Parsed.the-variants.{Refused, Asked}
 use Rattle.messages.specs.declared.Next.{Next}
 use Rattle.messages.specs.declared.Next.the-variants.{Message, Cut, End}
 use Rattle.messages.specs.declared.Answered.{Answered}
-use Rattle.messages.specs.Messages.{writeBytes, nextAt}
+use Rattle.messages.specs.Messages.{writeBytes}
 use Rattle.messages.specs.Replies.{reply, replyIn, isRefusal}
 use Rattle.messages.specs.Run.{Sent, asked, bytesOf, respond, answer, leftBy}
 use Rattle.messages.specs.Promises.{sentBy, Replied}

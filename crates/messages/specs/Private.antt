@@ -21,15 +21,9 @@ use Rattle.messages.specs.declared.Tally.{Tally}
 use Rattle.messages.specs.declared.Filled.{Filled}
 use Rattle.messages.specs.Replies.{be16, replyIn, counted, isRefusal}
 use Rattle.messages.specs.Messages.{parse, nextAt}
-use Rattle.messages.specs.Run.{Sent, cut, whole, answer, messagesOf, full, passed}
+use Rattle.messages.specs.Run.{Sent, cut, answer, messagesOf, full, passed}
 
 -- ---- the reader
-
--- What the reader's answer at a place says of the messages from there on: the end, a cut end, or a message and those after it.
-abbrev pub yielded : List ℕ → Next → List Sent
-yielded file End = []
-yielded file Cut = cut ∷ []
-yielded file (Message start len next) = whole (part file start len) ∷ messagesOf (drop next file)
 
 -- what is due at a place: nothing more, as at the end, where the buffer is full
 abbrev pub dueAt : List ℕ → ℕ → Bool → Next

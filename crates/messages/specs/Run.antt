@@ -5,11 +5,13 @@ use mathlib.Core.List.{List, [], _∷_, map, flatten}
 use lib.ListN.{length, take, drop}
 use lib.Dec.{ltb}
 use Rattle.tables.specs.Numbers.{cutShort, shortSlip}
-use Rattle.steps.specs.Stores.{over}
+use Rattle.steps.specs.Stores.{part, over}
 use Rattle.steps.specs.Steps.{Outcome, refuse, test}
 use Rattle.steps.specs.Effects.{State, Result, step, left, laidBy}
 use Rattle.messages.specs.declared.Parsed.{Parsed}
 use Rattle.messages.specs.declared.Parsed.the-variants.{Refused, Asked}
+use Rattle.messages.specs.declared.Next.{Next}
+use Rattle.messages.specs.declared.Next.the-variants.{Message, Cut, End}
 use Rattle.messages.specs.declared.Tally.{Tally}
 use Rattle.messages.specs.Messages.{parse, writeBytes}
 use Rattle.messages.specs.Replies.{replyIn, counted, isRefusal}
@@ -28,6 +30,7 @@ abbrev pub bytesOf : Sent → List ℕ
 bytesOf cut = []
 bytesOf (whole m) = writeBytes m
 
+-- what `Parsed` says, case by case: a message's own number, or its call, which is a step
 abbrev pub respond : State → Parsed → List ℕ → Outcome Result
 respond s (Refused n) bs = refuse n
 respond s (Asked c) bs = step s c bs
@@ -62,6 +65,13 @@ split (suc k) (a ∷ b ∷ l) =
 -- Each message takes two bytes at the least, so a file has no more messages than bytes.
 unfoldable pub messagesOf : List ℕ → List Sent
 messagesOf file = split (length file) file
+
+-- What the reader's answer `Next` says, case by case, of the messages from its place on: at the end none; cut short, the one message that is
+-- answered 1; else the L bytes of a message, and those that follow it.
+abbrev pub yielded : List ℕ → Next → List Sent
+yielded file End = []
+yielded file Cut = cut ∷ []
+yielded file (Message start len next) = whole (part file start len) ∷ messagesOf (drop next file)
 
 -- "Each later one gets the tables and stores that the one before it left"
 unfoldable pub turnsOf : ℕ → State → List Sent → List Turn

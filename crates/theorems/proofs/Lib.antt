@@ -6,4 +6,5 @@ pub mod Moves
 pub mod Frames
 pub mod Induction
 pub mod Whole
+pub mod Caller
 pub mod Refusals

@@ -15,8 +15,7 @@ use Rattle.messages.specs.declared.Tally.{Tally}
 use Rattle.messages.specs.declared.Answered.{Answered}
 use Rattle.messages.specs.Messages.{nextAt}
 use Rattle.messages.specs.Replies.{counted, isRefusal}
-use Rattle.messages.specs.Run.{Sent, cut, whole, answer, messagesOf, run}
-use Rattle.messages.specs.Private.{yielded}
+use Rattle.messages.specs.Run.{Sent, cut, whole, answer, messagesOf, yielded, run}
 use Rattle.messages.specs.Promises.{sentBy, sentAlone, Replied, RunEnded}
 use Rattle.messages.proofs.ReaderLaws.{reader-yields, message-at}
 use Rattle.messages.proofs.TurnLaws.{answer-told}

@@ -2,7 +2,7 @@
 use Prim.Native.Nat.{ℕ}
 use mathlib.Core.Path.{_≡_, refl, _∙_}
 use mathlib.Core.List.{List, [], _∷_}
-use lib.ListN.{length, drop}
+use lib.ListN.{drop}
 use Rattle.steps.specs.Stores.{part, over}
 use Rattle.steps.specs.Effects.{State, left, laidBy}
 use Rattle.messages.specs.declared.Next.the-variants.{Message, Cut, End}

@@ -1,6 +1,6 @@
 -- `serve` meets its contract. The loop's invariant, `Going`: the rest gives what the whole does, and the rules stand as they were tested. The
 -- measure is what is left of the file.
-use Prim.Native.Nat.{ℕ, _+_, _-_, _≤_}
+use Prim.Native.Nat.{ℕ, _-_, _≤_}
 use mathlib.Core.Path.{_≡_, refl, sym, ap, _∙_}
 use mathlib.Core.Bool.{Bool, true, false, cond}
 use native.Mathlib.Omega.{arith}
