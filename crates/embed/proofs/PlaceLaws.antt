@@ -45,7 +45,7 @@ work-small p limit len g (ShowHolder holder) h e = nowhere-small
 
 module _ (t : Tables) (fast slow : ℕ) (c : Call) where
   -- what is known where it is accepted
-  sure : IfAccepted (λ (plan : Plan). (sound t ≡ true) × PlanOk t c 0 plan) (decideAny t fast slow c 0)
+  sure : IfAccepted (λ (plan : Plan). (sound t ≡ true) × PlanOk t c 0 (c .kind) plan) (decideAny t fast slow c 0)
   sure =
       past (not (sound t)) _ refl (λ e₅. past (not (fits t fast slow)) _ refl (λ e₆.
       then-keeps (λ plan k. (not-false _ e₅, k)) (decide-ok t c 0 (not-false _ e₅))))
@@ -53,7 +53,7 @@ module _ (t : Tables) (fast slow : ℕ) (c : Call) where
   pub read-small : Small (readPlace t fast slow c)
   read-small = go (decideAny t fast slow c 0) sure
     where
-      go : (o : Outcome Plan) → IfAccepted (λ (plan : Plan). (sound t ≡ true) × PlanOk t c 0 plan) o → Small (placeOf (t .shared .p) o)
+      go : (o : Outcome Plan) → IfAccepted (λ (plan : Plan). (sound t ≡ true) × PlanOk t c 0 (c .kind) plan) o → Small (placeOf (t .shared .p) o)
       go (refuse n) k = nowhere-small
       go (accept plan) (if-accepted u) =
           let s = sound-of t (u .0) in

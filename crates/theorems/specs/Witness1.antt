@@ -1,7 +1,7 @@
 -- Demand 1: for each field of `Obeys`, `TurnObeys` and `RunObeys` a wrong answer or turn that this field rules out and no other does, computed.
 use Prim.Native.Nat.{ℕ, _<_}
 use mathlib.Core.Path.{_≡_, refl, ap}
-use mathlib.Core.Bool.{true, false≢true, true≢false}
+use mathlib.Core.Bool.{true, false, false≢true, true≢false}
 use mathlib.Core.List.{List, [], _∷_}
 use mathlib.Core.Logic.{_≢_}
 use native.Mathlib.Omega.{arith}
@@ -102,7 +102,7 @@ abbrev pub tallyOf : ℕ → ℕ → ℕ → Tally
 tallyOf m n laid = record { messages = m; refusals = n; laid = laid }
 
 abbrev pub told : ℕ → ℕ → ℕ → Answered
-told number len laid = record { number = number; len = len; laid = laid; tables = freshTables 1 1 }
+told number len laid = record { number = number; len = len; laid = laid; moved = false; tables = freshTables 1 1 }
 
 abbrev pub tried : List ℕ → Answered → State → List ℕ → ℕ → Tried
 tried out r s out′ laid =
