@@ -341,8 +341,12 @@ one-apart r more f =
     let long : length (f .rest) ≤ length (f .rest ++ more) = omega (arith, length-append (f .rest) more) in
     rw (f .is)
     (next-message (f .high) (f .low) (f .rest ++ more)
-    ∙ rw (f .tells, le-ltb (length (f .rest ++ more)) (length (f .rest)) long, take-at (f .rest) more (length (f .rest)) refl,
-    drop-at (f .rest) more (length (f .rest)) refl))
+    ∙ rw (
+      f .tells,
+      le-ltb (length (f .rest ++ more)) (length (f .rest)) long,
+      take-at (f .rest) more (length (f .rest)) refl,
+      drop-at (f .rest) more (length (f .rest)) refl,
+    ))
 
 pub replies-apart : (s : State) (xs : List Sent)
     → messagesOf (joinedReplies 70 (turnsOf 70 s xs)) ≡ map (λ (r : List ℕ). whole (drop 2 r)) (replies 70 (turnsOf 70 s xs))
