@@ -176,36 +176,34 @@ fn ahead(keep: bool, used: usize, len: usize) -> usize
 
 // Message after message from a place of the file on, each on the tables and stores that the one before it left; the tally
 // is brought up to date after each. Replies that are kept go one behind the other, until the buffer is full; else each
-// goes to the front.
+// goes to the front. The rules are tested once for all of them: every step keeps them.
 fn serve(
     mut tables: Tables,
     fast: &mut [u8],
     slow: &mut [u8],
     file: &[u8],
-    from: usize,
+    mut at: usize,
     out: &mut [u8],
     mut tally: Tally,
     keep: bool,
 ) -> Filled
     ensures { λ r. ⌜ ServeEnded keep (now (file .entry))
-        (serving from 0 (stateOf tables (now (fast .entry)) (now (slow .entry))) (now (out .entry)) tally)
+        (serving at 0 (stateOf tables (now (fast .entry)) (now (slow .entry))) (now (out .entry)) tally)
         (stateOf (r .tables) (now (fast .exit)) (now (slow .exit))) (now (out .exit)) r ⌝ }
 {
-    // Once for all of them: every step keeps the rules.
     let known = rules(tables, fast.len(), slow.len());
     let mut moved = false;
-    let mut at = from;
     let mut used = 0;
     let last = last_start(out.len());
     loop {
         let next = due_at(file, at, used > last);
         if is_end(next) {
             return Filled {
-                at: at,
-                used: used,
-                moved: moved,
-                tables: tables,
-                tally: tally,
+                at,
+                used,
+                moved,
+                tables,
+                tally,
             };
         }
         let m = bytes_in(file, next);

@@ -19,12 +19,12 @@ use Rattle.messages.proofs.turns.serve.Statement.{statement}
 use Rattle.messages.proofs.turns.serve.Tie as tie
 
 abbrev Inv-loop : tie.InvT-loop
-Inv-loop tables₀ fast₀ slow₀ file from out₀ tally₀ keep known moved₀ at₀ used₀ last tables fast slow out tally moved at used =
-    Going keep file (serving from 0 (stateOf tables₀ fast₀ slow₀) out₀ tally₀) known moved (serving at used (stateOf tables fast slow) out tally)
+Inv-loop tables₀ fast₀ slow₀ file at₀ out₀ tally₀ keep known moved₀ used₀ last tables fast slow at out tally moved used =
+    Going keep file (serving at₀ 0 (stateOf tables₀ fast₀ slow₀) out₀ tally₀) known moved (serving at used (stateOf tables fast slow) out tally)
     × (last ≡ length out₀ - 70)
 
 abbrev μ-loop : tie.MeasureT-loop
-μ-loop tables₀ fast₀ slow₀ file from out₀ tally₀ keep known moved₀ at₀ used₀ last tables fast slow out tally moved at used = length file - at
+μ-loop tables₀ fast₀ slow₀ file at₀ out₀ tally₀ keep known moved₀ used₀ last tables fast slow at out tally moved used = length file - at
 
 -- a refusal has six bytes at the most
 short : {n : ℕ} (b : Bool) → n ≡ cond b 0 6 → n ≤ 6
@@ -75,7 +75,7 @@ last-start-requires c κs = search needs
 loop-holds : tie.Need-loop-holds Inv-loop μ-loop
 loop-holds c =
     let a = c .before .before .before .before .before .before .args in (
-      rw (c .before .rules .ensures) (going-all (a .keep) (a .file .now) (a .from) (stateOf (a .tables) (a .fast .now) (a .slow .now)) (a .out .now) (a .tally)),
+      rw (c .before .rules .ensures) (going-all (a .keep) (a .file .now) (a .at) (stateOf (a .tables) (a .fast .now) (a .slow .now)) (a .out .now) (a .tally)),
       c .last-start .ensures,
     )
 
