@@ -9,12 +9,13 @@
  *   slow    REEL_FRAME_SIZE * S bytes, frames P to P + S - 1
  *   out     REEL_REPLY_SIZE bytes or more; what no reply takes remains as it was
  *   tally   REEL_TALLY_SIZE numbers: messages, refusals, bytes laid; each stops at 4294967295
+ *   used    one size_t, without a length beside it; it is only written
  *
  * Any bytes and any lengths may be passed: tables of another length, or whose bytes break a table rule, are answered
  * REEL_BROKEN_TABLES, stores of another length REEL_MISFIT_STORE, a shorter reply buffer REEL_SHORT_SLIP. A tally of
  * another length is left alone. Only these are the caller's duty, and are not tested:
  *
- *   - Each pointer leads to as many elements as its length says, is aligned for its type, and is not null, also where the
+ *   - Each pointer leads to as many elements as its length says (used to one), is aligned for its type, and is not null, also where the
  *     length is 0.
  *   - A buffer that is not const overlaps none of the others. Const ones may overlap each other.
  *   - During a call nobody else writes a buffer of it, or reads one that is not const.
@@ -181,11 +182,11 @@ void reel_run(uint8_t *tables, size_t tables_len, uint8_t *fast, size_t fast_len
               const uint8_t *file, size_t file_len, uint8_t *out, size_t out_len, uint32_t *tally, size_t tally_len);
 
 /*
- * Answers the messages of a call file from place `at` on, and lays reply after reply into out until the file ends or fewer
- * than REEL_REPLY_SIZE bytes are left. Gives the place reached, in *used the bytes of out that are used, and counts on in the
+ * Answers the messages of a call file from place `at` on, which is 0 or a place that an earlier call gave, and lays reply
+ * after reply into out until the file ends or fewer than REEL_REPLY_SIZE bytes are left. Gives the place reached, in *used the bytes of out that are used, and counts on in the
  * tally. The caller takes the replies out and goes on from that place while it is below file_len. The table rules are tested
  * once a call. If out_len is below REEL_REPLY_SIZE, every message left is answered REEL_SHORT_SLIP, nothing is laid, and the
- * place is the file's end.
+ * place is the file's end. From a place past the end nothing is answered, and the place stays.
  */
 size_t reel_replies(uint8_t *tables, size_t tables_len, uint8_t *fast, size_t fast_len, uint8_t *slow, size_t slow_len,
                     const uint8_t *file, size_t file_len, size_t at, uint8_t *out, size_t out_len, uint32_t *tally,

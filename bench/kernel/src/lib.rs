@@ -197,7 +197,8 @@ pub struct Reached {
 
 /// Runs a call file from a place on, reply after reply, until the file ends or fewer than 70 bytes
 /// of the reply buffer are left. In a buffer below 70 every message is answered 18, to the file's
-/// end. A tally of another length than 3 is left alone.
+/// end. From a place past the file's end nothing is answered, and the place stays. A tally of
+/// another length than 3 is left alone.
 pub fn replies(
     tables: &mut [u8],
     fast: &mut [u8],

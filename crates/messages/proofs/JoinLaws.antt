@@ -4,11 +4,12 @@ use Prim.Native.Nat.{ℕ, zero, suc, _+_, _-_, _*_, _/_, _%_, _≤_, _<_}
 use mathlib.Core.Path.{_≡_, refl, sym, ap, _∙_}
 use mathlib.Core.Bool.{Bool, true, false, cond}
 use mathlib.Core.List.{List, [], _∷_, _++_, map, flatten, append-assoc}
+use mathlib.Core.Logic.{_⊎_, inl, inr}
 use native.Mathlib.Omega.{arith}
 use lib.ListN.{length, take, drop, length-append, length-drop}
 use lib.Seq.{length-take-le, take-at, drop-at}
 use lib.Dec.{leb, ltb}
-use borrow.Author.Tests.{ltb-false, leb-true, leb-false, le-ltb}
+use borrow.Author.Tests.{ltb-false, leb-true, leb-false, lt-ltb, le-ltb}
 use Rattle.tables.specs.Numbers.{accepted, cutShort, shortSlip}
 use Rattle.steps.specs.Steps.{Outcome, refuse, accept, test}
 use Rattle.steps.specs.Effects.{State, Result, left, laidBy, dataOf}
@@ -20,7 +21,7 @@ use Rattle.messages.specs.declared.Tally.{Tally}
 use Rattle.messages.specs.Messages.{parse, writeBytes, lengthAt, nextAt}
 use Rattle.messages.specs.Replies.{be16, reply, replyIn, counted, isRefusal}
 use Rattle.messages.specs.Run.{Sent, cut, whole, respond, answer, Turn, turnOf, leftBy, split, messagesOf, turnsOf, endOf, run, tally, replies, joinedReplies, full, served, passed, placeAfter, stateAfter, partFrom}
-use Rattle.messages.specs.Promises.{sentBy, FillCall, FillCalls, emptied, reached, stateLeft, tallyLeft}
+use Rattle.messages.specs.Promises.{sentBy, FillCall, stateAt, FillCalls, emptied, reached, stateLeft, tallyLeft}
 use Rattle.messages.specs.Private.{isEnd, pastOf}
 use Rattle.messages.proofs.ParseLaws.{asked-long}
 use Rattle.messages.proofs.ReaderLaws.{next-message, at-end, reader-yields}
@@ -115,6 +116,46 @@ whole-replies room file s h =
     let wide : 70 ≤ room = omega arith in
     ap (joinedReplies room) (whole-part room file s h ∙ same-turns room s (messagesOf file) wide)
     ∙ same-joined room (run 70 file s .turns) wide
+
+-- ---- how far a part goes
+
+-- below 70 bytes it serves every message, and lays nothing
+pub short-served : (room : ℕ) (ts : List Turn) → room < 70 → served room 0 ts ≡ ts
+unfolding served
+short-served room [] h = refl
+short-served room (t ∷ ts) h =
+    let none : length (replyIn room (t .outcome)) ≡ 0 = ap (λ (b : Bool). length (cond b [] (reply (t .outcome)))) (lt-ltb room 70 h) in
+    rw (never-full room, none) (ap (λ (us : List Turn). t ∷ us) (short-served room ts h))
+
+pub short-joined : (room : ℕ) (ts : List Turn) → room < 70 → joinedReplies room ts ≡ []
+unfolding flatten
+short-joined room ts h =
+    ap (λ (b : Bool). flatten (map (λ (t : Turn). cond b [] (reply (t .outcome))) ts)) (lt-ltb room 70 h) ∙ none ts
+  where
+    none : (us : List Turn) → flatten (map (λ (t : Turn). cond true [] (reply (t .outcome))) us) ≡ []
+    none [] = refl
+    none (t ∷ us) = none us
+
+-- it serves every message, or goes on until the buffer is full
+pub all-or-full : (room used : ℕ) (ts : List Turn)
+    → (served room used ts ≡ ts) ⊎ (full room (used + length (joinedReplies room (served room used ts))) ≡ true)
+unfolding served flatten
+all-or-full room used [] = inl refl
+all-or-full room used (t ∷ ts) = by (full room used) refl (all-or-full room (used + length (replyIn room (t .outcome))) ts)
+  where
+    by : (b : Bool) → full room used ≡ b
+        → (served room (used + length (replyIn room (t .outcome))) ts ≡ ts)
+        ⊎ (full room (used + length (replyIn room (t .outcome)) + length (joinedReplies room (served room (used + length (replyIn room (t .outcome))) ts))) ≡ true)
+        → let us = cond b [] (t ∷ served room (used + length (replyIn room (t .outcome))) ts) in
+        (us ≡ t ∷ ts) ⊎ (full room (used + length (joinedReplies room us)) ≡ true)
+    by true f k = let e : used + 0 ≡ used = omega arith in inr (ap (full room) e ∙ f)
+    by false f (inl e) = inl (ap (λ (us : List Turn). t ∷ us) e)
+    by false f (inr g) =
+        let us = served room (used + length (replyIn room (t .outcome))) ts in
+        let e : used + length (replyIn room (t .outcome) ++ joinedReplies room us)
+        ≡ used + length (replyIn room (t .outcome)) + length (joinedReplies room us) =
+        omega (arith, length-append (replyIn room (t .outcome)) (joinedReplies room us)) in
+        inr (ap (full room) e ∙ g)
 
 -- ---- what a part leaves of the file
 
@@ -213,9 +254,9 @@ parts-joined file at s n (k ∷ ks) calls h =
     let w = partFrom room file at s in
     let p = calls .1 in
     let e = part-rest room file at s (calls .0) in
-    let q = parts-joined file (k .result .at) (k .state) (k .result .tally) ks (calls .2) h in
-    let rest : turnsAt file (k .result .at) (k .state) ≡ turnsAt file (w .place) (w .final) =
-    ap (λ (a : ℕ). turnsAt file a (k .state)) (p .place-told) ∙ ap (turnsAt file (w .place)) (p .state-out) in
+    let q = parts-joined file (k .result .at) (stateAt k) (k .result .tally) ks (calls .2) h in
+    let rest : turnsAt file (k .result .at) (stateAt k) ≡ turnsAt file (w .place) (w .final) =
+    ap (λ (a : ℕ). turnsAt file a (stateAt k)) (p .place-told) ∙ ap (turnsAt file (w .place)) (p .state-out) in
     let took : take (k .result .used) (k .out′) ≡ joinedReplies 70 (w .turns) =
     ap (take (k .result .used)) (p .buffer-out)
     ∙ take-at (joinedReplies room (w .turns)) _ (k .result .used) (sym (p .used-told))
@@ -228,7 +269,7 @@ parts-joined file at s n (k ∷ ks) calls h =
           ∙ ap (joinedReplies 70) (sym e);
       state-is =
           q .state-is
-          ∙ ap (stateAfter (k .state)) rest
+          ∙ ap (stateAfter (stateAt k)) rest
           ∙ ap (λ (x : State). stateAfter x (turnsAt file (w .place) (w .final))) (p .state-out)
           ∙ sym (state-both s (w .turns) (turnsAt file (w .place) (w .final)))
           ∙ ap (stateAfter s) (sym e);
@@ -298,7 +339,7 @@ pub parts-reach : (file : List ℕ) (at : ℕ) (s : State) (n : Tally) (ks : Lis
     → length file ≤ at + length ks → length file ≤ reached at ks
 parts-reach file at s n [] calls h = omega arith
 parts-reach file at s n (k ∷ ks) calls h =
-    parts-reach file (k .result .at) (k .state) (k .result .tally) ks (calls .2) (by (leb (length file) at) refl)
+    parts-reach file (k .result .at) (stateAt k) (k .result .tally) ks (calls .2) (by (leb (length file) at) refl)
   where
     room : ℕ
     room = length (k .out)

@@ -7,6 +7,7 @@ use lib.ListN.{length, take}
 use Rattle.steps.specs.Stores.{part, over}
 use Rattle.steps.specs.Steps.{Outcome, numberOf}
 use Rattle.steps.specs.Effects.{State, Result, left, laidBy}
+use Rattle.steps.specs.Promises.{stateOf}
 use Rattle.messages.specs.declared.Next.{Next}
 use Rattle.messages.specs.declared.Next.the-variants.{Message, Cut, End}
 use Rattle.messages.specs.declared.Tally.{Tally}
@@ -56,20 +57,25 @@ pub record PartEnded (s : State) (w : Part) (n : Tally) (out : List ℕ) (s′ :
 
 -- ---- parts of a run, one after the other: "One reply buffer serves the whole run and is emptied by the caller between turns"
 
--- a call of `fill`: the buffer that was lent, and what it left
+-- a call of `fill`: the buffer that was lent, what it gave, and the stores and the buffer that it left
 pub record FillCall : Type 0 where
   pub out : List ℕ
-  pub state : State
-  pub out′ : List ℕ
   pub result : Filled
+  pub fast′ : List ℕ
+  pub slow′ : List ℕ
+  pub out′ : List ℕ
+
+-- the tables that it gave back, and the stores
+abbrev pub stateAt : FillCall → State
+stateAt k = stateOf (k .result .tables) (k .fast′) (k .slow′)
 
 -- calls on a file with buffers of 70 bytes or more, from a place, a state and a tally on; each goes on where the one before it left off
 abbrev pub FillCalls : List ℕ → ℕ → State → Tally → List FillCall → Type 0
 FillCalls file at s n [] = Unit {0}
 FillCalls file at s n (k ∷ ks) =
     (70 ≤ length (k .out))
-    × PartEnded s (partFrom (length (k .out)) file at s) n (k .out) (k .state) (k .out′) (k .result)
-    × FillCalls file (k .result .at) (k .state) (k .result .tally) ks
+    × PartEnded s (partFrom (length (k .out)) file at s) n (k .out) (stateAt k) (k .out′) (k .result)
+    × FillCalls file (k .result .at) (stateAt k) (k .result .tally) ks
 
 -- what the caller took out of its buffers, and where the last call left off
 abbrev pub emptied : List FillCall → List ℕ
@@ -82,7 +88,7 @@ reached at (k ∷ ks) = reached (k .result .at) ks
 
 abbrev pub stateLeft : State → List FillCall → State
 stateLeft s [] = s
-stateLeft s (k ∷ ks) = stateLeft (k .state) ks
+stateLeft s (k ∷ ks) = stateLeft (stateAt k) ks
 
 abbrev pub tallyLeft : Tally → List FillCall → Tally
 tallyLeft n [] = n

@@ -256,7 +256,8 @@ pub fn run(
 }
 
 // A part of a run, from a place of the file on: reply after reply, until the file ends or fewer than 70 bytes of the
-// buffer are left. The caller empties the buffer and goes on from the place reached.
+// buffer are left. The caller empties the buffer and goes on from the place reached. With a buffer below 70 bytes every
+// message is answered 18, to the file's end.
 pub fn fill(
     tables: Tables,
     fast: &mut [u8],

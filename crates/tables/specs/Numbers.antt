@@ -84,4 +84,6 @@ tooManyFrames = 19
 
 -- The rows that a message can be turned back with, in the paper's order: 19 is for making tables alone.
 abbrev pub table : List ℕ
-table = 1 ∷ 2 ∷ 3 ∷ 4 ∷ 5 ∷ 6 ∷ 7 ∷ 8 ∷ 9 ∷ 10 ∷ 11 ∷ 12 ∷ 13 ∷ 14 ∷ 15 ∷ 16 ∷ 17 ∷ 18 ∷ []
+table =
+    cutShort ∷ foreignVersion ∷ unknownKind ∷ wrongLength ∷ brokenTables ∷ misfitStore ∷ outOfRange ∷ pageStands ∷ noPage ∷
+    noRight ∷ nothingCurrent ∷ noCopy ∷ frameHeld ∷ eightCopies ∷ lastRecent ∷ stale ∷ noFrame ∷ shortSlip ∷ []

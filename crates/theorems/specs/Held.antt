@@ -1,21 +1,50 @@
 -- Demand 3 as a caller of `fill` holds it: what it took out of its reply buffers, and the tables, stores and tally that it has at the end.
 use Prim.Native.Nat.{ℕ, _*_, _≤_}
 use mathlib.Core.Path.{_≡_}
-use mathlib.Core.List.{List, map}
-use lib.ListN.{length, drop}
+use mathlib.Core.Bool.{Bool, not, _&&_, cond}
+use mathlib.Core.List.{List, [], _∷_, _++_, map}
+use lib.ListN.{length, drop, getD}
+use lib.Dec.{eqb}
+use Rattle.tables.specs.Numbers.{nothingCurrent}
 use Rattle.tables.specs.Model.{freshTables}
 use Rattle.steps.specs.Effects.{State}
 use Rattle.steps.specs.Promises.{stateOf}
 use Rattle.messages.specs.declared.Tally.{Tally}
-use Rattle.messages.specs.Run.{whole, messagesOf, Run, run, replies, tally, joinedReplies}
+use Rattle.messages.specs.Run.{Sent, cut, whole, asked, messagesOf, Run, run, replies, tally, joinedReplies}
 use Rattle.messages.specs.Promises.{FillCall, FillCalls, emptied, reached, stateLeft, tallyLeft}
-use Rattle.theorems.specs.Demand3.{Agrees}
+use Rattle.theorems.specs.Flat.{none, Answer}
+use Rattle.theorems.specs.Demand3.{flatAnswers, answered, Agrees}
+
+-- ---- a reply among the bytes that the caller took, as its own L tells it from the next: m are the bytes after that length
+
+-- its number: the reply's fourth byte
+abbrev pub numberHeld : Sent → ℕ
+numberHeld cut = 0
+numberHeld (whole m) = getD m 1 0
+
+abbrev pub elevenHeld : Sent → Bool
+elevenHeld x = eqb (numberHeld x) nothingCurrent
+
+-- its number, and the bytes after the reply's first six
+abbrev pub answerHeld : Sent → Answer
+answerHeld cut = record { number = 0; bytes = [] }
+answerHeld (whole m) = record { number = getD m 1 0; bytes = drop 4 m }
+
+-- the replies rs to the messages xs of the kinds that the flat memory answers, and not answered 11
+unfoldable pub answersHeld : List Sent → List Sent → List Answer
+answersHeld [] rs = []
+answersHeld (x ∷ xs) [] = []
+answersHeld (x ∷ xs) (r ∷ rs) = cond (not (elevenHeld r) && answered (asked x)) (answerHeld r ∷ []) [] ++ answersHeld xs rs
+
+-- ---- the demand
 
 -- of calls ks on a file from state s₀ and tally n, and the run r over it
 pub record Held (p s : ℕ) (file : List ℕ) (s₀ : State) (n : Tally) (ks : List FillCall) (r : Run) : Type 0 where
   pub replies-held : emptied ks ≡ joinedReplies 70 (r .turns)
   -- a reply's own L tells it from the next, as a message's does
   pub replies-apart : messagesOf (emptied ks) ≡ map (λ (l : List ℕ). whole (drop 2 l)) (replies 70 (r .turns))
+  -- the two lists, by what the caller holds alone
+  pub answers-held : flatAnswers none (messagesOf file) (map elevenHeld (messagesOf (emptied ks))) ≡ answersHeld (messagesOf file) (messagesOf (emptied ks))
   pub state-held : stateLeft s₀ ks ≡ r .final
   pub tally-held : tallyLeft n ks ≡ tally (r .turns) n
   pub agrees : Agrees p s 70 file r
