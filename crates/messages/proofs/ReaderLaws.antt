@@ -1,6 +1,6 @@
 -- The reader yields the messages of the file, one after the other, and none else.
 use Prim.Native.Nat.{ℕ, zero, suc, _+_, _-_, _*_, _≤_, _<_}
-use mathlib.Core.Path.{_≡_, refl, ap, _∙_}
+use mathlib.Core.Path.{_≡_, refl, sym, ap, _∙_}
 use mathlib.Core.Bool.{Bool, true, false, cond}
 use mathlib.Core.List.{List, [], _∷_}
 use native.Mathlib.Nat.{not-suc-le-zero}
@@ -14,6 +14,7 @@ use Rattle.messages.specs.declared.Next.{Next}
 use Rattle.messages.specs.declared.Next.the-variants.{Message, Cut, End}
 use Rattle.messages.specs.Messages.{lengthAt, nextAt}
 use Rattle.messages.specs.Run.{Sent, cut, whole, split, messagesOf, yielded}
+use Rattle.messages.specs.Promises.{Yields}
 
 -- more turns than bytes change nothing
 pub enough : (k m : ℕ) (l : List ℕ) → length l ≤ k → length l ≤ m → split k l ≡ split m l
@@ -107,6 +108,10 @@ reader-yields file at = first (leb (length file) at) refl
     first : (b : Bool) → leb (length file) at ≡ b → messagesOf (drop at file) ≡ yielded file (cond b End (cond (ltb (length file) (at + 2)) Cut Rest))
     first true e = at-end file at (leb-true _ _ e)
     first false e = second (ltb (length file) (at + 2)) refl (leb-false _ _ e)
+
+-- so whoever gives that answer keeps the reader's promise
+pub yields-at : (file : List ℕ) (at : ℕ) (r : Next) → r ≡ nextAt file at → Yields file at r
+yields-at file at r e = record { told = e; meant = ap (yielded file) e ∙ sym (reader-yields file at) }
 
 -- ---- a message that the reader yields
 

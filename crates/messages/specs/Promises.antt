@@ -3,7 +3,7 @@ use Prim.Native.Nat.{ℕ, _≤_}
 use mathlib.Core.Path.{_≡_}
 use mathlib.Core.Bool.{false}
 use mathlib.Core.List.{List, [], _∷_, _++_}
-use lib.ListN.{length, take}
+use lib.ListN.{length, take, drop}
 use Rattle.steps.specs.Stores.{part, over}
 use Rattle.steps.specs.Steps.{Outcome, numberOf}
 use Rattle.steps.specs.Effects.{State, Result, left, laidBy}
@@ -16,7 +16,12 @@ use Rattle.messages.specs.declared.Ran.{Ran}
 use Rattle.messages.specs.declared.Filled.{Filled}
 use Rattle.messages.specs.Messages.{nextAt}
 use Rattle.messages.specs.Replies.{replyIn}
-use Rattle.messages.specs.Run.{Sent, cut, whole, Run, buffer, tally, joinedReplies, Part, partFrom}
+use Rattle.messages.specs.Run.{Sent, cut, whole, messagesOf, yielded, Run, buffer, tally, joinedReplies, Part, partFrom}
+
+-- what the reader yields at a place of the file: its answer, and by `yielded`, case by case, the messages from there on
+pub record Yields (file : List ℕ) (at : ℕ) (r : Next) : Type 0 where
+  pub told : r ≡ nextAt file at
+  pub meant : yielded file r ≡ messagesOf (drop at file)
 
 -- what the reader's answer at a place says of the message there: no bytes at all count as cut short
 abbrev pub sentBy : List ℕ → Next → Sent

@@ -2,11 +2,11 @@
 use crate::Next;
 use crate::Reader;
 ghost use mathlib.Core.Path.{_≡_};
-ghost use Rattle.messages.specs.Messages.{nextAt};
+ghost use Rattle.messages.specs.Promises.{Yields};
 
 // What stands at a place of the file.
 pub fn next_at(file: &[u8], at: usize) -> Next
-    ensures { λ r. ⌜ r ≡ nextAt (now (file .entry)) at ⌝ }
+    ensures { λ r. ⌜ Yields (now (file .entry)) at r ⌝ }
 {
     let end = file.len();
     if at >= end {
@@ -37,14 +37,14 @@ pub fn open<'a>(file: &'a [u8], at: usize) -> Reader<'a>
 
 // What the reader yields at its place.
 pub fn next_message<'a>(r: Reader<'a>) -> Next
-    ensures { λ x. ⌜ x ≡ nextAt (now (r .entry .file)) (r .entry .at) ⌝ }
+    ensures { λ x. ⌜ Yields (now (r .entry .file)) (r .entry .at) x ⌝ }
 {
     next_at(r.file, r.at)
 }
 
 // The same without a reader: whoever calls this holds none.
 pub fn message_at(file: &[u8], at: usize) -> Next
-    ensures { λ r. ⌜ r ≡ nextAt (now (file .entry)) at ⌝ }
+    ensures { λ r. ⌜ Yields (now (file .entry)) at r ⌝ }
 {
     next_message(open(file, at))
 }

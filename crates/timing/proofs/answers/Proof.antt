@@ -44,14 +44,14 @@ tally-after-requires c κs = search needs
 
 loop-less : tie.Need-loop-less Inv-loop μ-loop
 loop-less c =
-    let m = message-at _ _ _ _ _ (sym (c .before .before .before .before .before .before .before .before .before .before .before .before .before .before .before .next .given .1) ∙ c .before .before .before .before .before .before .before .before .before .before .before .before .before .before .before .before .before .message-at .ensures) in
+    let m = message-at _ _ _ _ _ (sym (c .before .before .before .before .before .before .before .before .before .before .before .before .before .before .before .next .given .1) ∙ c .before .before .before .before .before .before .before .before .before .before .before .before .before .before .before .before .before .message-at .ensures .told) in
     omega arith
 
 loop-again : tie.Need-loop-again Inv-loop μ-loop
 loop-again c =
     let a = c .before .before .before .before .before .before .before .before .before .answer in
     going-on (c .before .before .before .before .before .before .before .before .before .before .before .before .before .before .before .before .before .before .loop .inv) _ _ _ _ _ _ (a .result)
-    (sym (c .before .before .before .before .before .before .before .before .before .before .before .before .before .before .before .next .given .1) ∙ c .before .before .before .before .before .before .before .before .before .before .before .before .before .before .before .before .before .message-at .ensures) (a .ensures)
+    (sym (c .before .before .before .before .before .before .before .before .before .before .before .before .before .before .before .next .given .1) ∙ c .before .before .before .before .before .before .before .before .before .before .before .before .before .before .before .before .before .message-at .ensures .told) (a .ensures)
     (a .kept .1 .0) (a .kept .1 .1 .0) (a .kept .1 .1 .1 .1 .0) (c .tally-after .ensures)
 
 enum-told : tie.Need-enum-told Inv-loop μ-loop
@@ -85,7 +85,7 @@ returns : tie.Need-returns Inv-loop μ-loop
 returns c =
     let a = c .before .before .before .before .before .before .before .before .before .answer2 in
     going-cut (c .before .before .before .before .before .before .before .before .before .before .before .before .before .before .before .before .before .loop .inv) _ _ _ (a .result)
-    (sym (c .before .before .before .before .before .before .before .before .before .before .before .before .before .before .enum-told .given .1) ∙ c .before .before .before .before .before .before .before .before .before .before .before .before .before .before .before .before .message-at .ensures) (a .ensures) (c .tally-after2 .ensures)
+    (sym (c .before .before .before .before .before .before .before .before .before .before .before .before .before .before .enum-told .given .1) ∙ c .before .before .before .before .before .before .before .before .before .before .before .before .before .before .before .before .message-at .ensures .told) (a .ensures) (c .tally-after2 .ensures)
 
 enum-told-2 : tie.Need-enum-told-2 Inv-loop μ-loop
 enum-told-2 c = search needs
@@ -100,7 +100,7 @@ same-length-6 : tie.Need-same-length-6 Inv-loop μ-loop
 same-length-6 c = search needs
 
 returns-2 : tie.Need-returns-2 Inv-loop μ-loop
-returns-2 c = going-none (c .before .before .before .loop .inv) (sym (c .enum-told2 .given .1) ∙ c .before .before .message-at .ensures)
+returns-2 c = going-none (c .before .before .before .loop .inv) (sym (c .enum-told2 .given .1) ∙ c .before .before .message-at .ensures .told)
 
 pub answers-spec : {M : Type 1} → statement M
 answers-spec =

@@ -1,16 +1,17 @@
--- `next_at` meets its contract: each way out decides the tests of `nextAt`.
+-- `next_at` meets its contract: each way out decides the tests of `nextAt`; what the answer means is the law `yields-at`.
 use Prim.Native.Nat.{_+_}
 use native.Mathlib.Omega.{arith}
 use lib.ListN.{length}
 use borrow.Author.Tests.{le-ltb, lt-ltb, le-leb, lt-leb}
 use borrow.Author.Needs.{needs}
 use Rattle.messages.specs.Messages.{lengthAt, nextAt}
+use Rattle.messages.proofs.ReaderLaws.{yields-at}
 use Rattle.messages.proofs.reading.next_at.Statement.{statement}
 use Rattle.messages.proofs.reading.next_at.Tie as tie
 
 returns : tie.Need-returns
 unfolding nextAt
-returns c = simp (le-leb _ _ (c .if1 .taken))
+returns c = yields-at _ _ _ (simp (le-leb _ _ (c .if1 .taken)))
 
 sub-left : tie.Need-sub-left
 sub-left c = search needs
@@ -21,7 +22,7 @@ returns-2 c =
     let v = c .before .before .args in
     let l = v .file .now in
     let a = v .at in
-    simp (lt-leb (length l) a (omega arith), lt-ltb (length l) (a + 2) (omega arith))
+    yields-at l a _ (simp (lt-leb (length l) a (omega arith), lt-ltb (length l) (a + 2) (omega arith)))
 
 shared-slice-read-len : tie.Need-shared-slice-read-len
 shared-slice-read-len c = search needs
@@ -51,7 +52,7 @@ returns-3 c =
     let v = c .before .before .before .before .before .args in
     let l = v .file .now in
     let a = v .at in
-    simp (lt-leb (length l) a (omega arith), le-ltb (length l) (a + 2) (omega arith), lt-ltb (length l) (a + 2 + lengthAt l a) (omega arith))
+    yields-at l a _ (simp (lt-leb (length l) a (omega arith), le-ltb (length l) (a + 2) (omega arith), lt-ltb (length l) (a + 2 + lengthAt l a) (omega arith)))
 
 add-start : tie.Need-add-start
 add-start c = search needs
@@ -65,7 +66,7 @@ returns-4 c =
     let v = c .before .before .before .before .before .args in
     let l = v .file .now in
     let a = v .at in
-    simp (lt-leb (length l) a (omega arith), le-ltb (length l) (a + 2) (omega arith), le-ltb (length l) (a + 2 + lengthAt l a) (omega arith))
+    yields-at l a _ (simp (lt-leb (length l) a (omega arith), le-ltb (length l) (a + 2) (omega arith), le-ltb (length l) (a + 2 + lengthAt l a) (omega arith)))
 
 pub next-at-spec : {M : Type 1} → statement M
 next-at-spec =

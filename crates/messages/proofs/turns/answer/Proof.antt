@@ -19,7 +19,7 @@ asks : (c : tie.After-asked-in) → c .asked-in .result ≡ asked (sentAlone (c 
 asks c =
     let l = c .before .before .before .before .before .before .before .args .message .now in
     asked-by l _ (c .before .before .message-at .result) _ (c .before .bytes-in .ensures) (c .asked-in .ensures)
-    ∙ ap (λ (n : Next). asked (sentBy l n)) (c .before .before .message-at .ensures)
+    ∙ ap (λ (n : Next). asked (sentBy l n)) (c .before .before .message-at .ensures .told)
 
 -- what is known where it is decided on
 done : (c : tie.After-judge-any) →
@@ -29,14 +29,14 @@ done c =
     let a = c .before .before .before .before .before in
     let v = a .before .before .before .before .before .before .before .args in
     decided (stateOf (v .tables) (v .fast .now) (v .slow .now)) (sentAlone (v .message .now)) _ 0 _ (v .out .now) (asks a) (c .before .before .before .before .early-number .ensures)
-    _ (c .judge-any .result) (c .before .before .before .if1 .left) (c .before .write-bytes .ensures ∙ bytes-by (v .message .now) _ (a .before .before .message-at .result) (a .before .bytes-in .ensures) ∙ ap (λ (n : Next). bytesOf (sentBy (v .message .now) n)) (a .before .before .message-at .ensures))
+    _ (c .judge-any .result) (c .before .before .before .if1 .left) (c .before .write-bytes .ensures ∙ bytes-by (v .message .now) _ (a .before .before .message-at .result) (a .before .bytes-in .ensures) ∙ ap (λ (n : Next). bytesOf (sentBy (v .message .now) n)) (a .before .before .message-at .ensures .told))
     (λ _. rw (← c .before .before .call-in .ensures) (c .judge-any .ensures))
 
 message-at-requires : tie.Need-message-at-requires
 message-at-requires c κs = search needs
 
 bytes-in-requires : tie.Need-bytes-in-requires
-bytes-in-requires c κs = record { at = 0; found = c .message-at .ensures }
+bytes-in-requires c κs = record { at = 0; found = c .message-at .ensures .told }
 
 asked-in-requires : tie.Need-asked-in-requires
 asked-in-requires c κs = search needs

@@ -13,7 +13,7 @@ message-at-requires : tie.Need-message-at-requires
 message-at-requires c κs = search needs
 
 returns-2 : tie.Need-returns-2
-returns-2 c = rw (c .before .if1 .left) (c .message-at .ensures)
+returns-2 c = rw (c .before .if1 .left) (c .message-at .ensures .told)
 
 pub due-at-spec : {M : Type 1} → statement M
 due-at-spec = tie.close (tie.spec returns message-at-requires returns-2)
