@@ -221,6 +221,40 @@ static void refused(void) {
   printf("refusals: each with its number, and nothing changed\n");
 }
 
+/* A frame's register entry, high byte first. */
+static unsigned entry(struct unit u, unsigned frame) {
+  const uint8_t *p = u.tables + REEL_TABLES_REGISTER + REEL_ENTRY_SIZE * frame;
+  return 256u * p[0] + p[1];
+}
+
+/* The register names the copy on a frame. Where it names another the tables are broken, and every byte remains as it was. */
+static void wrong_register(void) {
+  static const uint8_t look[] = {0, 3, 1, REEL_KIND_LOOK_FRAME, 0};
+  struct unit u = fresh_unit(REEL_REPLY_SIZE), before = fresh_unit(REEL_REPLY_SIZE);
+  run(u, calls, sizeof calls);
+  expect(entry(u, 0) == REEL_MOST_COPIES * 5 + 0, "page 5, copy 0 is on frame 0");
+  expect(entry(u, 1) == REEL_NO_HOLDER && entry(u, REEL_REGISTER_ENTRIES - 1) == REEL_NO_HOLDER, "no other frame is held");
+
+  u.tables[REEL_TABLES_REGISTER + 1]++;
+  expect(entry(u, 0) == REEL_MOST_COPIES * 5 + 1, "copy 1 is named");
+  memcpy(before.tables, u.tables, u.tables_len);
+  memcpy(before.fast, u.fast, u.fast_len);
+  memcpy(before.slow, u.slow, u.slow_len);
+  expect(rules(u) == REEL_BROKEN_TABLES, "rules: a wrong register");
+  expect(reel_answer_number(answer(u, look, sizeof look)) == REEL_BROKEN_TABLES, "a wrong register");
+  run(u, calls, sizeof calls);
+  expect(u.tally[REEL_TALLY_REFUSALS] == MESSAGES, "run: a wrong register");
+  expect(memcmp(u.tables, before.tables, u.tables_len) == 0, "a wrong register: the tables");
+  expect(memcmp(u.fast, before.fast, u.fast_len) == 0, "a wrong register: the fast store");
+  expect(memcmp(u.slow, before.slow, u.slow_len) == 0, "a wrong register: the slow store");
+
+  u.tables[REEL_TABLES_REGISTER + 1]--;
+  expect(rules(u) == REEL_ACCEPTED, "rules: the register put right");
+  give_up(before);
+  give_up(u);
+  printf("register: a wrong register entry is answered as broken tables, and nothing changed\n");
+}
+
 int main(void) {
   expect(reel_version() == REEL_VERSION, "header and library are of one version");
   by_answer();
@@ -228,5 +262,6 @@ int main(void) {
   by_replies();
   in_place();
   refused();
+  wrong_register();
   return 0;
 }

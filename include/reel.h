@@ -22,7 +22,7 @@
  *
  * The library allocates nothing, keeps no state and calls nothing back, so it may be used by several threads at a time,
  * each on buffers of its own.
- * C functions that it needs: memcpy
+ * C functions that it needs: memcpy, memset
  */
 #ifndef REEL_H
 #define REEL_H
@@ -36,7 +36,7 @@ extern "C" {
 
 /* ---- the version: major, minor and patch */
 
-#define REEL_VERSION_MAJOR 1
+#define REEL_VERSION_MAJOR 2
 #define REEL_VERSION_MINOR 0
 #define REEL_VERSION_PATCH 0
 #define REEL_VERSION (65536 * REEL_VERSION_MAJOR + 256 * REEL_VERSION_MINOR + REEL_VERSION_PATCH)
@@ -54,23 +54,33 @@ uint32_t reel_version(void);
 
 /* ---- the tables' bytes: what a caller may look at; it changes them by messages alone */
 
-#define REEL_TABLES_SIZE 2690
-#define REEL_TABLES_P 0     /* the number of fast frames */
-#define REEL_TABLES_S 1     /* the number of slow frames */
-#define REEL_TABLES_PAGES 2 /* the records of the 64 pages, one after the other */
+#define REEL_TABLES_SIZE 3198
+#define REEL_TABLES_P 0           /* the number of fast frames */
+#define REEL_TABLES_S 1           /* the number of slow frames */
+#define REEL_TABLES_PAGES 2       /* the records of the 64 pages, one after the other */
+#define REEL_TABLES_REGISTER 2690 /* the register: a register entry for each frame number 0 to 253, one after the other */
 
 #define REEL_PAGE_SIZE 42   /* a page's record: */
 #define REEL_PAGE_RIGHTS 0  /* a right for each station: 0 none, 1 read, 2 read and write */
-#define REEL_PAGE_COPIES 16 /* eight entries, of which the first n are in use */
+#define REEL_PAGE_COPIES 16 /* eight copy entries, of which the first n are in use */
 #define REEL_PAGE_OWNER 40  /* the owner's station */
 #define REEL_PAGE_N 41      /* n, the number of copies; 0 where the page does not stand */
 
-#define REEL_COPY_SIZE 3    /* an entry: */
+#define REEL_COPY_SIZE 3    /* a copy entry: */
 #define REEL_COPY_FRAME 0   /* the frame */
 #define REEL_COPY_CURRENT 1 /* CURRENT, 0 or 1 */
 #define REEL_COPY_RECENT 2  /* MOST RECENT, 0 or 1 */
 
 #define REEL_NULL_FRAME 255 /* the frame of a null copy */
+
+/*
+ * The register says for each frame which copy is on it, as the copy entries of the pages have it. A frame's register entry is
+ * REEL_MOST_COPIES * page + copy, or REEL_NO_HOLDER where no copy is on it, so also from frame P + S on. Its high byte comes
+ * first. Where one of the 254 register entries is another, the tables are broken.
+ */
+#define REEL_REGISTER_ENTRIES 254
+#define REEL_ENTRY_SIZE 2 /* bytes of a register entry */
+#define REEL_NO_HOLDER 65535
 
 /* ---- messages and replies */
 

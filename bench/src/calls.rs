@@ -42,7 +42,7 @@ type Sender = fn(&mut Calls, usize);
 
 /// A call file that grows, and the state that its messages lead to.
 pub struct Calls {
-    pub peer: Peer,
+    pub peer: Peer<true>,
     pub file: Vec<u8>,
     pub counts: Counts,
     random: Random,
@@ -65,7 +65,7 @@ impl Calls {
         self.peer.tally = [0; 3];
     }
 
-    fn tables(&self) -> &Tables {
+    fn tables(&self) -> &Tables<true> {
         &self.peer.tables
     }
 
@@ -205,6 +205,13 @@ impl Calls {
     fn look_frame(&mut self) {
         let frame = self.random.below(254) as u8;
         self.send(&[1, 11, frame]);
+    }
+
+    /// Looks at frames, so many.
+    pub fn frames(&mut self, looks: usize) {
+        for _ in 0..looks {
+            self.look_frame();
+        }
     }
 
     fn look_or_grant(&mut self, page: usize) {

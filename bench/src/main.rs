@@ -1,9 +1,10 @@
 //! The kernel beside plain Rust, on the same calls.
 //!
-//! `bench` prints every figure. `bench WORK SIDE`, with SIDE kernel, unchecked or checked, does that
-//! work once on that side, for a count of instructions, and `bench WORK count` prints how many
-//! messages, tests or calls it has. WORK is run, answer or sound; on the kernel's side alone kept or
-//! parts, a run with its replies, and refused, look, grant or empty, the C call by itself.
+//! `bench` prints every figure. `bench WORK SIDE`, with SIDE kernel, unchecked, registered or checked,
+//! does that work once on that side, for a count of instructions, and `bench WORK count` prints how
+//! many messages, tests or calls it has. WORK is run, answer or sound, or frames1, frames8 or
+//! frames64, looks at frames on so many pages; on the kernel's side alone kept or parts, a run with
+//! its replies, and refused, look, grant or empty, the C call by itself.
 
 mod timing;
 
@@ -31,21 +32,23 @@ enum Side {
     Parts,
     /// The kernel: each message by itself, the rules tested at each.
     Answers,
-    /// Plain Rust without any test of the rules.
+    /// Plain Rust that searches the pages for a frame's holder, without any test of the rules.
     Unchecked,
-    /// Plain Rust with the test at each message.
+    /// Plain Rust with a register of holders, without any test.
+    Registered,
+    /// Plain Rust with a register, and the test at each message.
     Checked,
 }
 
 /// A state, and a call file to be answered from there.
 struct Work {
-    start: Peer,
+    start: Peer<true>,
     file: Vec<u8>,
     counts: Counts,
 }
 
 impl Work {
-    fn of(start: Peer, calls: Calls) -> Work {
+    fn of(start: Peer<true>, calls: Calls) -> Work {
         Work {
             start,
             file: calls.file,
@@ -80,14 +83,22 @@ impl Work {
         Work::of(start, calls)
     }
 
+    /// Looks at frames, on so many pages with three copies each.
+    fn frames(pages: u8) -> Work {
+        let mut calls = Calls::new(FAST, SLOW);
+        calls.spread(pages, 3);
+        calls.begin();
+        let start = calls.peer.clone();
+        calls.frames(20_000);
+        Work::of(start, calls)
+    }
+
     /// The kernel with a reply buffer of this length.
     fn unit(&self, room: usize) -> Unit {
-        let mut unit = Unit::fresh(FAST, SLOW).expect("fresh tables");
-        unit.tables = self.start.tables.bytes();
-        unit.fast.clone_from(&self.start.fast);
-        unit.slow.clone_from(&self.start.slow);
-        unit.out = vec![0; room];
-        unit
+        Unit {
+            out: vec![0; room],
+            ..unit_of(self.start.clone())
+        }
     }
 
     fn calls(&self) -> [Call; 4] {
@@ -99,14 +110,14 @@ impl Work {
             last: self.unit(kernel::SLIP),
             kept: self.unit(kernel::SLIP * self.counts.messages),
             parts: self.unit(PART),
-            peer: self.start.clone(),
+            searching: self.start.searching(),
+            registered: self.start.clone(),
         }
     }
 
     /// All sides leave the same: every reply, the tables, the stores, the tally and the count.
     fn check(&self) {
         let (mut one, mut run, mut each) = (self.unit(70), self.unit(70), self.unit(70));
-        let (mut unchecked, mut checked) = (self.start.clone(), self.start.clone());
         let mut single = self.start.clone();
         let (mut rest, mut replies) = (&self.file[..], Vec::<u8>::new());
         while !rest.is_empty() {
@@ -119,12 +130,6 @@ impl Work {
         }
         run.run(&self.file);
         let count = timing::answers(&mut each, &self.file);
-        unchecked.run_by_rust::<false>(&self.file);
-        checked.run_by_rust::<true>(&self.file);
-        assert!(
-            run.tally == unchecked.tally && run.tally == checked.tally,
-            "tallies differ"
-        );
         assert_eq!(count, run.tally[0], "counts differ");
         let Sides {
             mut kept,
@@ -138,15 +143,18 @@ impl Work {
             assert!(unit.tally == run.tally, "tallies differ");
         }
         assert!(kept.out.starts_with(&replies), "kept replies differ");
-        for unit in [&one, &run, &each] {
-            assert!(
-                unit.out == unchecked.out && unit.out == checked.out,
-                "last replies differ"
-            );
-        }
-        for unit in [&one, &run, &each, &kept, &parts] {
-            for peer in [&unchecked, &checked] {
-                assert!(unit.tables == peer.tables.bytes(), "tables differ");
+        let peers = [
+            run_of::<false, false>(self.start.searching(), &self.file),
+            run_of::<true, false>(self.start.clone(), &self.file),
+            run_of::<true, true>(self.start.clone(), &self.file),
+        ];
+        for peer in &peers {
+            assert!(run.tally == peer.tally, "tallies differ");
+            for unit in [&one, &run, &each] {
+                assert!(unit.out == peer.out, "last replies differ");
+            }
+            for unit in [&one, &run, &each, &kept, &parts] {
+                assert!(unit.tables == peer.tables, "tables differ");
                 assert!(
                     unit.fast == peer.fast && unit.slow == peer.slow,
                     "stores differ"
@@ -165,7 +173,8 @@ impl Work {
                 for unit in [&mut on.last, &mut on.kept, &mut on.parts] {
                     unit.tables.copy_from_slice(&bytes);
                 }
-                on.peer.tables.clone_from(&self.start.tables);
+                on.searching.tables = self.start.tables.searching();
+                on.registered.tables.clone_from(&self.start.tables);
                 times.push(time(self.counts.messages, || on.answer(*side, &self.file)));
             }
         }
@@ -182,12 +191,33 @@ impl Work {
     }
 }
 
-/// The kernel with reply buffers of three lengths, and the peer.
+/// What a peer works on, in bytes.
+fn unit_of<const REGISTER: bool>(peer: Peer<REGISTER>) -> Unit {
+    Unit {
+        tables: peer.tables.bytes(),
+        fast: peer.fast,
+        slow: peer.slow,
+        out: peer.out,
+        tally: peer.tally,
+    }
+}
+
+/// What a run of plain Rust leaves.
+fn run_of<const REGISTER: bool, const CHECKED: bool>(
+    mut peer: Peer<REGISTER>,
+    file: &[u8],
+) -> Unit {
+    peer.run_by_rust::<CHECKED>(file);
+    unit_of(peer)
+}
+
+/// The kernel with reply buffers of three lengths, and the peer without its register and with it.
 struct Sides {
     last: Unit,
     kept: Unit,
     parts: Unit,
-    peer: Peer,
+    searching: Peer<false>,
+    registered: Peer<true>,
 }
 
 impl Sides {
@@ -203,8 +233,9 @@ impl Sides {
             Side::Answers => {
                 timing::answers(&mut self.last, file);
             }
-            Side::Unchecked => self.peer.run_by_rust::<false>(file),
-            Side::Checked => self.peer.run_by_rust::<true>(file),
+            Side::Unchecked => self.searching.run_by_rust::<false>(file),
+            Side::Registered => self.registered.run_by_rust::<false>(file),
+            Side::Checked => self.registered.run_by_rust::<true>(file),
         }
     }
 }
@@ -300,10 +331,13 @@ fn report() {
 
     println!("\n| Nanoseconds a message or test | kernel | beside it | ratio | median |");
     println!("|---|---|---|---|---|");
-    let [run, unchecked, checked] = shift.times(100, [Side::Run, Side::Unchecked, Side::Checked]);
-    let without = "(a) run; Rust without any test of the rules";
-    row(without, &run, &unchecked);
-    let with = "(a) run; Rust with the test before every message";
+    let sides = [Side::Run, Side::Unchecked, Side::Registered, Side::Checked];
+    let [run, unchecked, registered, checked] = shift.times(100, sides);
+    let searching = "(a) run; Rust that searches, without any test of the rules";
+    row(searching, &run, &unchecked);
+    let without = "(a) run; Rust with the register, without any test of the rules";
+    row(without, &run, &registered);
+    let with = "(a) run; Rust with the register and the test before every message";
     row(with, &run, &checked);
     let [kept, parts, run] = shift.times(100, [Side::Kept, Side::Parts, Side::Run]);
     let whole = "(a) every reply kept in one buffer; run";
@@ -325,6 +359,7 @@ fn report() {
         println!("| {} | {:.1} |", call.what, best(&times));
     }
     by_size();
+    by_pages();
 }
 
 /// The times of the test of the rules, by the kernel and by Rust.
@@ -344,7 +379,7 @@ fn tests(full: &Work) -> (Vec<f64>, Vec<f64>) {
 
 /// (c) Accepted calls by pages and copies a page.
 fn by_size() {
-    println!("\n| pages | copies | run | Rust without the test | ratio | answer | Rust with the test | ratio |");
+    println!("\n| pages | copies | run | Rust that searches | ratio | answer | Rust with the test | ratio |");
     println!("|---|---|---|---|---|---|---|---|");
     for pages in [1, 8, 32, 64] {
         for copies in [1, 2, 4, 8] {
@@ -364,10 +399,29 @@ fn by_size() {
     }
 }
 
+/// (d) Looks at frames by pages.
+fn by_pages() {
+    println!("\n| pages | run | Rust that searches | ratio | Rust with the register | ratio |");
+    println!("|---|---|---|---|---|---|");
+    for pages in [1, 8, 64] {
+        let work = Work::frames(pages);
+        work.check();
+        let sides = [Side::Run, Side::Unchecked, Side::Registered];
+        let [run, unchecked, registered] = work.times(150, sides).map(|t| best(&t));
+        println!(
+            "| {pages} | {run:.1} | {unchecked:.1} | {:.2} | {registered:.1} | {:.2} |",
+            run / unchecked,
+            run / registered
+        );
+    }
+}
+
 /// One piece of work, once.
 fn once(work: &str, side: &str) {
-    let given = match work {
-        "run" | "kept" | "parts" => Work::shift(),
+    let pages = work.strip_prefix("frames").and_then(|n| n.parse().ok());
+    let given = match (work, pages) {
+        (_, Some(pages)) => Work::frames(pages),
+        ("run" | "kept" | "parts", _) => Work::shift(),
         _ => Work::full(),
     };
     let mut sides = given.sides();
@@ -381,12 +435,13 @@ fn once(work: &str, side: &str) {
         ("sound", "count") => return println!("{TESTS}"),
         (_, "count") => return println!("{}", given.counts.messages),
         ("sound", "kernel") => return assert_eq!(timing::sound(&sides.last, TESTS), TESTS),
-        ("sound", _) => return assert_eq!(sides.peer.sound_by_rust(TESTS), TESTS),
+        ("sound", _) => return assert_eq!(sides.registered.sound_by_rust(TESTS), TESTS),
         ("kept", _) => Side::Kept,
         ("parts", _) => Side::Parts,
-        ("run", "kernel") => Side::Run,
-        (_, "kernel") => Side::Answers,
+        ("answer", "kernel") => Side::Answers,
+        (_, "kernel") => Side::Run,
         (_, "unchecked") => Side::Unchecked,
+        (_, "registered") => Side::Registered,
         _ => Side::Checked,
     };
     sides.answer(side, &given.file);

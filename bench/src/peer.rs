@@ -3,6 +3,8 @@
 use std::hint::black_box;
 
 pub const NULL_FRAME: u8 = 255;
+/// What the register has of a frame that no copy is on.
+const NO_HOLDER: u16 = 65535;
 
 #[derive(Clone, Copy)]
 pub struct Entry {
@@ -19,11 +21,17 @@ pub struct Page {
     pub n: u8,
 }
 
+/// For each frame 8 * page + copy.
+type Register = [u16; 254];
+
+/// The tables. Where REGISTER, they keep the register; else it stays as fresh, and the pages are
+/// searched for the copy on a frame.
 #[derive(Clone)]
-pub struct Tables {
+pub struct Tables<const REGISTER: bool> {
     pub fast: u8,
     pub slow: u8,
     pub pages: [Page; 64],
+    register: Register,
 }
 
 /// Messages, refusals and bytes laid.
@@ -42,6 +50,11 @@ const ABSENT: Page = Page {
     n: 0,
 };
 
+/// What the register has of a frame that this copy is on.
+fn registered(page: usize, copy: usize) -> u16 {
+    (8 * page + copy) as u16
+}
+
 impl Entry {
     fn is_fresh(&self) -> bool {
         self.frame == NULL_FRAME && !self.current && !self.recent
@@ -53,7 +66,8 @@ impl Page {
         &self.copies[..usize::from(self.n)]
     }
 
-    fn sound(&self, limit: u8, seen: &mut [bool; 256]) -> bool {
+    /// The rules of page i; enters its copies into the register that is due.
+    fn sound(&self, i: usize, limit: u8, due: &mut Register) -> bool {
         if self.n == 0 {
             return self.owner == 0
                 && self.rights.iter().all(|&r| r == 0)
@@ -63,7 +77,7 @@ impl Page {
             return false;
         }
         let mut recent = false;
-        for c in self.used() {
+        for (k, c) in self.used().iter().enumerate() {
             if c.current && !c.recent {
                 return false;
             }
@@ -73,10 +87,10 @@ impl Page {
                     return false;
                 }
             } else {
-                if c.frame >= limit || seen[usize::from(c.frame)] {
+                if c.frame >= limit || due[usize::from(c.frame)] != NO_HOLDER {
                     return false;
                 }
-                seen[usize::from(c.frame)] = true;
+                due[usize::from(c.frame)] = registered(i, k);
             }
         }
         recent
@@ -86,12 +100,21 @@ impl Page {
     }
 }
 
-impl Tables {
-    pub fn fresh(fast: u8, slow: u8) -> Tables {
+impl<const REGISTER: bool> Tables<REGISTER> {
+    pub fn fresh(fast: u8, slow: u8) -> Tables<REGISTER> {
         Tables {
             fast,
             slow,
             pages: [ABSENT; 64],
+            register: [NO_HOLDER; 254],
+        }
+    }
+
+    /// The same without the register.
+    pub fn searching(&self) -> Tables<false> {
+        Tables {
+            pages: self.pages,
+            ..Tables::fresh(self.fast, self.slow)
         }
     }
 
@@ -101,12 +124,17 @@ impl Tables {
             return false;
         }
         let limit = self.fast + self.slow;
-        let mut seen = [false; 256];
-        self.pages.iter().all(|g| g.sound(limit, &mut seen))
+        let mut due = [NO_HOLDER; 254];
+        let mut pages = self.pages.iter().enumerate();
+        pages.all(|(i, g)| g.sound(i, limit, &mut due)) && (!REGISTER || self.register == due)
     }
 
     /// The page and number of the copy on a frame.
     pub fn holder(&self, frame: u8) -> Option<(u8, u8)> {
+        if REGISTER {
+            let held = self.register[usize::from(frame)];
+            return (held != NO_HOLDER).then_some(((held / 8) as u8, (held % 8) as u8));
+        }
         for (i, g) in self.pages.iter().enumerate() {
             for (j, c) in g.used().iter().enumerate() {
                 if c.frame == frame {
@@ -115,6 +143,13 @@ impl Tables {
             }
         }
         None
+    }
+
+    /// Puts into the register what it has of a frame from now on; a null copy has no frame.
+    fn enter(&mut self, frame: u8, held: u16) {
+        if REGISTER && frame != NULL_FRAME {
+            self.register[usize::from(frame)] = held;
+        }
     }
 
     /// The tables as the kernel lays them out in bytes.
@@ -127,14 +162,21 @@ impl Tables {
             }
             bytes.extend([g.owner, g.n]);
         }
+        for frame in 0..254 {
+            let held = self.holder(frame);
+            let held = held.map_or(NO_HOLDER, |(page, copy)| {
+                registered(page.into(), copy.into())
+            });
+            bytes.extend(held.to_be_bytes());
+        }
         bytes
     }
 }
 
 /// What a message works on.
 #[derive(Clone)]
-pub struct Peer {
-    pub tables: Tables,
+pub struct Peer<const REGISTER: bool> {
+    pub tables: Tables<REGISTER>,
     pub fast: Vec<u8>,
     pub slow: Vec<u8>,
     pub out: Vec<u8>,
@@ -184,8 +226,8 @@ fn shape(m: &[u8]) -> Result<(), u8> {
 }
 
 /// Kinds 1 to 5, which name a station.
-fn station_step(
-    t: &mut Tables,
+fn station_step<const REGISTER: bool>(
+    t: &mut Tables<REGISTER>,
     fast: &mut [u8],
     slow: &mut [u8],
     m: &[u8],
@@ -209,7 +251,9 @@ fn station_step(
         2 => {
             test(g.n != 0, 9)?;
             test(g.owner == station, 10)?;
-            *g = ABSENT;
+            for c in std::mem::replace(g, ABSENT).used() {
+                t.enter(c.frame, NO_HOLDER);
+            }
             Ok((0, 0))
         }
         3 => {
@@ -250,8 +294,8 @@ fn station_step(
 }
 
 /// Kinds 6 to 11.
-fn placement_step(
-    t: &mut Tables,
+fn placement_step<const REGISTER: bool>(
+    t: &mut Tables<REGISTER>,
     fast: &mut [u8],
     slow: &mut [u8],
     m: &[u8],
@@ -292,9 +336,10 @@ fn placement_step(
         let g = &mut t.pages[page];
         test(g.n < 8, 14)?;
         let from = g.copies[usize::from(number)];
-        if from.frame == NULL_FRAME {
+        let k = if from.frame == NULL_FRAME {
             frame_mut(p, fast, slow, f).fill(0);
             g.copies[0].frame = f;
+            0
         } else {
             let mut bytes = [0; 64];
             bytes.copy_from_slice(frame(p, fast, slow, from.frame));
@@ -305,7 +350,9 @@ fn placement_step(
                 recent: from.recent,
             };
             g.n += 1;
-        }
+            usize::from(g.n) - 1
+        };
+        t.enter(f, registered(page, k));
         return Ok((64, 0));
     }
     let g = &mut t.pages[page];
@@ -316,9 +363,14 @@ fn placement_step(
         7 => {
             let recents = g.used().iter().filter(|c| c.recent).count();
             test(!g.copies[k].recent || recents != 1, 15)?;
+            let freed = g.copies[k].frame;
             g.copies.copy_within(k + 1..n, k);
             g.copies[n - 1] = FRESH;
             g.n -= 1;
+            t.enter(freed, NO_HOLDER);
+            for k in k..n - 1 {
+                t.enter(t.pages[page].copies[k].frame, registered(page, k));
+            }
         }
         8 => {
             test(g.copies[k].frame != NULL_FRAME, 17)?;
@@ -330,14 +382,25 @@ fn placement_step(
     Ok((0, 0))
 }
 
-impl Peer {
-    pub fn fresh(fast: u8, slow: u8) -> Peer {
+impl<const REGISTER: bool> Peer<REGISTER> {
+    pub fn fresh(fast: u8, slow: u8) -> Peer<REGISTER> {
         Peer {
             tables: Tables::fresh(fast, slow),
             fast: vec![0; 64 * usize::from(fast)],
             slow: vec![0; 64 * usize::from(slow)],
             out: vec![0; 70],
             tally: [0; 3],
+        }
+    }
+
+    /// The same without the register.
+    pub fn searching(&self) -> Peer<false> {
+        Peer {
+            tables: self.tables.searching(),
+            fast: self.fast.clone(),
+            slow: self.slow.clone(),
+            out: self.out.clone(),
+            tally: self.tally,
         }
     }
 

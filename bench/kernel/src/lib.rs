@@ -2,9 +2,9 @@
 //! a unit that owns all it lends.
 
 /// The version of the library that this binding is for: 65536 * major + 256 * minor + patch.
-pub const VERSION: u32 = 65536;
+pub const VERSION: u32 = 2 * 65536;
 /// How many bytes the tables take. Nothing in Rust looks into them.
-pub const TABLES: usize = 2690;
+pub const TABLES: usize = 3198;
 /// The bytes of a frame, and so of a page.
 pub const FRAME: usize = 64;
 /// The most fast frames, and the most slow ones.

@@ -1,11 +1,11 @@
 -- Bytes laid one after the other: lists laid in a row, and the images of a list's elements.
-use Prim.Native.Nat.{ℕ, zero, suc, _+_, _<_}
+use Prim.Native.Nat.{ℕ, zero, suc, _+_, _*_, _<_, suc-le-suc, zero-le}
 use mathlib.Core.Path.{_≡_, sym, ap, _∙_}
 use mathlib.Core.List.{List, [], _∷_, _++_, flatMap, append-nil, append-assoc}
-use native.Mathlib.Nat.{not-suc-le-zero, le-of-suc-le-suc}
+use native.Mathlib.Nat.{not-suc-le-zero, le-of-suc-le-suc, mul-zero, mul-suc}
 use native.Mathlib.Numerals.{add-one}
 use native.Mathlib.Omega.{arith}
-use lib.ListN.{length, getD, take, drop-of-length-le}
+use lib.ListN.{length, getD, take, length-append, drop-of-length-le}
 use lib.Seq.{sets, sets-eq}
 
 module _ {A : Type 0} where
@@ -22,6 +22,15 @@ module _ {A : Type 0} where
       sets-eq vs l 0 (omega arith) ∙ rw (z, drop-of-length-le l {i = length vs} (omega arith)) (append-nil vs)
 
 module _ {A B : Type 0} (f : A → List B) where
+  -- how many, where each image has `size`
+  pub flat-length : (size : ℕ) (d : A) (l : List A) → ((i : ℕ) → i < length l → length (f (getD l i d)) ≡ size)
+      → length (flatMap f l) ≡ size * length l
+  unfolding flatMap
+  flat-length size d [] k = sym (mul-zero size)
+  flat-length size d (x ∷ xs) k =
+      rw (length-append (f x) (flatMap f xs), k zero (suc-le-suc zero-le), flat-length size d xs (λ i h. k (suc i) (suc-le-suc h)), mul-suc)
+      (omega arith)
+
   -- the images of one element more
   pub flat-more : (l : List A) (i : ℕ) (d : A) → i < length l → flatMap f (take (i + 1) l) ≡ flatMap f (take i l) ++ f (getD l i d)
   unfolding flatMap

@@ -11,7 +11,6 @@ use Rattle.tables.specs.Lists.{all}
 use Rattle.tables.specs.Numbers.{brokenTables}
 use Rattle.tables.specs.Rules.{sound}
 use Rattle.tables.proofs.ListLaws.{and-true, and-left, and-right, and-intro}
-use Rattle.tables.proofs.RuleLaws.{sound-of}
 use Rattle.steps.specs.declared.Call.{Call}
 use Rattle.steps.specs.Steps.{Outcome, refuse, accept}
 use Rattle.steps.specs.Effects.{State, Result, step, left}
@@ -19,26 +18,25 @@ use Rattle.messages.specs.Replies.{replyIn, isRefusal}
 use Rattle.messages.specs.Run.{Sent, Turn, answer, turnOf, leftBy, turnsOf, endOf, messagesOf, run, full, served, stateAfter, partFrom}
 use Rattle.embed.specs.Bytes.{tablesSize, tablesBytes, tablesFrom}
 use Rattle.embed.specs.Exports.{tablesIn, noTables, tablesOf, withTables, lentState, leftIn, allRefused}
-use Rattle.embed.proofs.RoundTrip.{bytes-length, bytes-marked, sound-shaped, sound-from-bytes}
-use Rattle.embed.proofs.WayBack.{tables-same}
+use Rattle.embed.proofs.RoundTrip.{bytes-length, bytes-marked, sound-formed, sound-from-bytes}
+use Rattle.embed.proofs.WayBack.{AreBytes, tables-same}
 
 -- the bytes of sound tables hold tables
 laid-in : (t : Tables) → sound t ≡ true → tablesIn (tablesBytes t) ≡ true
 laid-in t e =
-    let n = sound-of t e .pages-long in
-    let h = sound-shaped t e in
-    and-intro (eq-eqb _ tablesSize (bytes-length t n h)) (bytes-marked t n h)
+    let s = sound-formed t e in
+    and-intro (eq-eqb _ tablesSize (bytes-length t s)) (bytes-marked t s)
 
 -- the next call finds the tables that this one left
 pub found-again : (b : List ℕ) (t : Tables) → tablesIn b ≡ true → sound t ≡ true → tablesOf (withTables b t) ≡ t
 found-again b t z e = rw z (rw (laid-in t e) (sound-from-bytes t e))
 
 -- the tables that were there, put back, leave every byte, whatever the bytes are
-pub put-back-same : (b : List ℕ) → withTables b (tablesOf b) ≡ b
-put-back-same b = at-most (tablesIn b) refl
+pub put-back-same : (b : List ℕ) → AreBytes b → withTables b (tablesOf b) ≡ b
+put-back-same b low = at-most (tablesIn b) refl
   where
     at-most : (h : Bool) → tablesIn b ≡ h → cond h (tablesBytes (cond h (tablesFrom b) noTables)) b ≡ b
-    at-most true e = tables-same b e
+    at-most true e = tables-same b low e
     at-most false e = refl
 
 and-false : (a : Bool) → (a && false) ≡ false
@@ -46,15 +44,15 @@ and-false true = refl
 and-false false = refl
 
 -- tables that may have moved, put back only then
-pub put-moved : (b : List ℕ) (moved : Bool) (t : Tables) → (moved ≡ false → t ≡ tablesOf b)
+pub put-moved : (b : List ℕ) (moved : Bool) (t : Tables) → AreBytes b → (moved ≡ false → t ≡ tablesOf b)
     → cond (tablesIn b && moved) (tablesBytes t) b ≡ withTables b t
-put-moved b true t k = rw (and-true (tablesIn b))
-put-moved b false t k = rw (k refl, and-false (tablesIn b)) (sym (put-back-same b))
+put-moved b true t low k = rw (and-true (tablesIn b))
+put-moved b false t low k = rw (k refl, and-false (tablesIn b)) (sym (put-back-same b low))
 
 -- what a message leaves of the tables, put back: a refusal leaves every byte
-pub left-in : (b fast slow : List ℕ) (o : Outcome Result) → withTables b (left (lentState b fast slow) o .tables) ≡ leftIn b o
-left-in b fast slow (refuse n) = put-back-same b
-left-in b fast slow (accept r) = refl
+pub left-in : (b fast slow : List ℕ) (o : Outcome Result) → AreBytes b → withTables b (left (lentState b fast slow) o .tables) ≡ leftIn b o
+left-in b fast slow (refuse n) low = put-back-same b low
+left-in b fast slow (accept r) low = refl
 
 no-tables-broken : sound noTables ≡ false
 unfolding sound freshTables
@@ -81,9 +79,9 @@ refused-end room s (x ∷ xs) e =
     rw l (refused-end room s xs (rw l at (and-right (isRefusal o) _ e)))
 
 -- a run of which every message was refused, or whose file is empty, leaves every byte of the tables, whatever they were
-pub refused-run : (room : ℕ) (file b fast slow : List ℕ) → allRefused (run room file (lentState b fast slow) .turns) ≡ true
+pub refused-run : (room : ℕ) (file b fast slow : List ℕ) → AreBytes b → allRefused (run room file (lentState b fast slow) .turns) ≡ true
     → withTables b (run room file (lentState b fast slow) .final .tables) ≡ b
-refused-run room file b fast slow e = rw (refused-end room (lentState b fast slow) (messagesOf file) e) (put-back-same b)
+refused-run room file b fast slow low e = rw (refused-end room (lentState b fast slow) (messagesOf file) e) (put-back-same b low)
 
 -- a turn that a full buffer leaves out, and those behind it
 refused-one : (isFull : Bool) (room : ℕ) (s : State) (x : Sent) (behind : State → List Turn)
@@ -106,8 +104,8 @@ refused-after room used s (x ∷ xs) e =
     refused-one (full room used) room s x (λ (r : State). served room more (turnsOf room r xs)) (refused-after room more s xs) e
 
 -- nor does such a part of a run
-pub refused-part : (room : ℕ) (file : List ℕ) (at : ℕ) (b fast slow : List ℕ)
+pub refused-part : (room : ℕ) (file : List ℕ) (at : ℕ) (b fast slow : List ℕ) → AreBytes b
     → allRefused (partFrom room file at (lentState b fast slow) .turns) ≡ true
     → withTables b (partFrom room file at (lentState b fast slow) .final .tables) ≡ b
-refused-part room file at b fast slow e =
-    rw (refused-after room 0 (lentState b fast slow) (messagesOf (drop at file)) e) (put-back-same b)
+refused-part room file at b fast slow low e =
+    rw (refused-after room 0 (lentState b fast slow) (messagesOf (drop at file)) e) (put-back-same b low)

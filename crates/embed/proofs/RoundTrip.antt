@@ -1,9 +1,8 @@
 -- Tables laid out take tablesSize bytes with each mark 0 or 1, and read back they are the same tables.
 use Prim.Native.Nat.{ℕ, zero, suc, _+_, _*_, _<_, suc-le-suc, zero-le}
 use mathlib.Core.Bool.{Bool, true, false}
-use mathlib.Core.Path.{_≡_, refl, sym, ap₂, _∙_}
+use mathlib.Core.Path.{_≡_, refl, ap₂, _∙_}
 use mathlib.Core.List.{List, [], _∷_, _++_, flatMap, append-nil, append-assoc}
-use native.Mathlib.Nat.{mul-zero, mul-suc}
 use native.Mathlib.Omega.{arith}
 use lib.Dec.{eqb}
 use lib.ListN.{length, getD, length-append}
@@ -13,11 +12,14 @@ use Rattle.tables.specs.declared.Copy.{Copy}
 use Rattle.tables.specs.declared.Page.{Page}
 use Rattle.tables.specs.declared.Tables.{Tables}
 use Rattle.tables.specs.Lists.{all}
-use Rattle.tables.specs.Model.{frames, pageAt, noCopyEntry, noPageRecord}
+use Rattle.tables.specs.Model.{frames, noHolder, pageAt, noCopyEntry, noPageRecord}
 use Rattle.tables.specs.Rules.{shaped, pageRule, sound}
 use Rattle.tables.proofs.ListLaws.{and-left, and-right, and-intro, all-at, all-of}
 use Rattle.tables.proofs.RuleLaws.{sound-of}
-use Rattle.embed.specs.Bytes.{pageSize, tablesSize, markByte, markFrom, isMark, copyBytes, pageBytes, tablesBytes, fromEach, copyFrom, pageFrom, tablesFrom, eachIs, copyMarked, pageMarked, marked}
+use Rattle.tables.proofs.RegisterLaws.{register-fits}
+use Rattle.messages.specs.Replies.{be16}
+use Rattle.embed.specs.Bytes.{pageSize, tablesSize, markByte, markFrom, isMark, copyBytes, pageBytes, tablesBytes, fromEach, copyFrom, pageFrom, entryFrom, tablesFrom, eachIs, copyMarked, pageMarked, marked}
+use Rattle.embed.proofs.LayLaws.{flat-length}
 
 -- ---- values of one size in a row
 
@@ -28,14 +30,6 @@ pub record Kept {A : Type 0} (size : ℕ) (to : A → List ℕ) (from : List ℕ
   pub passed : (rest : List ℕ) → test (to x ++ rest) ≡ true
 
 module _ {A : Type 0} (size : ℕ) (to : A → List ℕ) (from : List ℕ → A) (test : List ℕ → Bool) (d : A) where
-  -- their length
-  pub row-length : (l : List A) → ((i : ℕ) → i < length l → Kept size to from test (getD l i d)) → length (flatMap to l) ≡ size * length l
-  unfolding flatMap
-  row-length [] k = sym (mul-zero size)
-  row-length (x ∷ xs) k =
-      rw (length-append (to x) (flatMap to xs), k zero (suc-le-suc zero-le) .long, row-length xs (λ i h. k (suc i) (suc-le-suc h)), mul-suc)
-      (omega arith)
-
   -- read back, whatever follows
   pub row-back : (l : List A) (rest : List ℕ) → ((i : ℕ) → i < length l → Kept size to from test (getD l i d))
       → fromEach (length l) size from (flatMap to l ++ rest) ≡ l
@@ -78,7 +72,7 @@ copy-kept c =
 
 module _ (g : Page) (rights-long : length (g .rights) ≡ 16) (copies-long : length (g .copies) ≡ 8) where
   pub copies-length : length (flatMap copyBytes (g .copies)) ≡ 24
-  copies-length = row-length 3 copyBytes copyFrom copyMarked noCopyEntry (g .copies) (λ i h. copy-kept _) ∙ rw copies-long
+  copies-length = flat-length copyBytes 3 noCopyEntry (g .copies) (λ i h. refl) ∙ rw copies-long
 
   pub page-length : length (pageBytes g) ≡ pageSize
   unfolding pageBytes
@@ -118,37 +112,64 @@ page-kept g e =
     let c = eqb-true (length (g .copies)) 8 (and-right (eqb (length (g .rights)) 16) _ e) in
     record { long = page-length g r c; back = page-back g r c; passed = page-passed g r c }
 
-module _ (t : Tables) (pages-long : length (t .pages) ≡ 64) (pages-shaped : all shaped (t .pages) ≡ true) where
+-- there is no test on an entry of the register
+entry-kept : (e : ℕ) → e < 65536 → Kept 2 be16 entryFrom (λ (b : List ℕ). true) e
+entry-kept e h = record { long = refl; back = λ rest. omega arith; passed = λ rest. refl }
+
+pub register-length : (r : List ℕ) → length r ≡ 254 → length (flatMap be16 r) ≡ 508
+register-length r h = flat-length be16 2 noHolder r (λ i l. refl) ∙ rw h
+
+-- tables whose arrays are as long as declared, and whose entries of the register are numbers of two bytes
+pub record Formed (t : Tables) : Type 0 where
+  pub pages-long : length (t .pages) ≡ 64
+  pub pages-shaped : all shaped (t .pages) ≡ true
+  pub register-long : length (t .register) ≡ 254
+  pub register-low : (f : ℕ) → f < 254 → getD (t .register) f noHolder < 65536
+
+module _ (t : Tables) (s : Formed t) where
   pages-kept : (p : ℕ) → p < length (t .pages) → Kept pageSize pageBytes pageFrom pageMarked (getD (t .pages) p noPageRecord)
-  pages-kept p h = page-kept _ (all-at shaped (t .pages) p noPageRecord pages-shaped h)
+  pages-kept p h = page-kept _ (all-at shaped (t .pages) p noPageRecord (s .pages-shaped) h)
+
+  pages-length : length (flatMap pageBytes (t .pages)) ≡ pageSize * 64
+  pages-length = flat-length pageBytes pageSize noPageRecord (t .pages) (λ p h. pages-kept p h .long) ∙ rw (s .pages-long)
 
   pub bytes-length : length (tablesBytes t) ≡ tablesSize
   unfolding tablesBytes
-  bytes-length = omega (arith, row-length pageSize pageBytes pageFrom pageMarked noPageRecord (t .pages) pages-kept)
+  bytes-length = simp length-append (omega (arith, pages-length, register-length (t .register) (s .register-long)))
 
   pub from-bytes : tablesFrom (tablesBytes t) ≡ t
   unfolding tablesBytes tablesFrom
   from-bytes =
-      let e = row-back pageSize pageBytes pageFrom pageMarked noPageRecord (t .pages) [] pages-kept in
-      let pages : fromEach 64 pageSize pageFrom (flatMap pageBytes (t .pages)) ≡ t .pages = rw (pages-long, append-nil) at e in
-      rw pages
+      let ps = flatMap pageBytes (t .pages) in
+      let es = flatMap be16 (t .register) in
+      let p = row-back pageSize pageBytes pageFrom pageMarked noPageRecord (t .pages) es pages-kept in
+      let pages : fromEach 64 pageSize pageFrom (ps ++ es) ≡ t .pages = rw (s .pages-long) at p in
+      let e = row-back 2 be16 entryFrom _ noHolder (t .register) [] (λ f h. entry-kept _ (s .register-low f (rw (s .register-long) at h))) in
+      let register : fromEach 254 2 entryFrom es ≡ t .register = rw (s .register-long, append-nil) at e in
+      rw (pages, drop-at ps es (pageSize * 64) pages-length, register)
 
   pub bytes-marked : marked (tablesBytes t) ≡ true
   unfolding tablesBytes marked
   bytes-marked =
-      let e = row-passed pageSize pageBytes pageFrom pageMarked noPageRecord (t .pages) [] pages-kept in
-      rw (pages-long, append-nil) at e
+      let e = row-passed pageSize pageBytes pageFrom pageMarked noPageRecord (t .pages) (flatMap be16 (t .register)) pages-kept in
+      rw (s .pages-long) at e
 
 rule-shaped : (limit : ℕ) (g : Page) → pageRule limit g ≡ true → shaped g ≡ true
 unfolding pageRule
 rule-shaped limit g e = and-left (shaped g) _ e
 
--- sound tables have their shape
-pub sound-shaped : (t : Tables) → sound t ≡ true → all shaped (t .pages) ≡ true
-sound-shaped t e =
+-- sound tables are formed so
+pub sound-formed : (t : Tables) → sound t ≡ true → Formed t
+sound-formed t e =
     let s = sound-of t e in
-    all-of shaped (t .pages) noPageRecord (λ p h. rule-shaped (frames t) (pageAt t p) (s .page-ok p (rw (s .pages-long) at h)))
+    let ok : (p : ℕ) → p < length (t .pages) → pageRule (frames t) (pageAt t p) ≡ true = λ p h. s .page-ok p (rw (s .pages-long) at h) in
+    record {
+      pages-long = s .pages-long;
+      pages-shaped = all-of shaped (t .pages) noPageRecord (λ p h. rule-shaped (frames t) (pageAt t p) (ok p h));
+      register-long = s .register-long;
+      register-low = register-fits t s;
+    }
 
 -- so they are what their bytes give back
 pub sound-from-bytes : (t : Tables) → sound t ≡ true → tablesFrom (tablesBytes t) ≡ t
-sound-from-bytes t e = from-bytes t (sound-of t e .pages-long) (sound-shaped t e)
+sound-from-bytes t e = from-bytes t (sound-formed t e)

@@ -1,15 +1,16 @@
 -- Bytes that hold tables, read and laid out again, are the very bytes.
-use Prim.Native.Nat.{ℕ, zero, suc, _+_, _*_, _≤_}
+use Prim.Native.Nat.{ℕ, zero, suc, _+_, _*_, _/_, _%_, _≤_, _<_}
 use mathlib.Core.Bool.{Bool, true}
 use mathlib.Core.Path.{_≡_, refl, ap, _∙_}
 use mathlib.Core.List.{List, [], _∷_, _++_, flatMap}
 use native.Mathlib.Nat.{mul-zero, mul-suc}
 use native.Mathlib.Omega.{arith}
-use lib.ListN.{length, getD, take, drop, length-drop}
-use lib.Seq.{take-add, take-all, drop-drop, getD-drop}
+use lib.ListN.{length, getD, take, drop, length-drop, take-append-drop}
+use lib.Seq.{take-add, drop-drop, getD-drop}
 use borrow.Author.Tests.{eqb-true, ltb-true}
 use Rattle.tables.proofs.ListLaws.{and-left, and-right}
-use Rattle.embed.specs.Bytes.{pageSize, tablesSize, markByte, markFrom, isMark, copyBytes, pageBytes, tablesBytes, fromEach, copyFrom, pageFrom, tablesFrom, eachIs, copyMarked, pageMarked, marked}
+use Rattle.messages.specs.Replies.{be16}
+use Rattle.embed.specs.Bytes.{pageSize, tablesSize, markByte, markFrom, isMark, copyBytes, pageBytes, tablesBytes, fromEach, copyFrom, pageFrom, entryFrom, tablesFrom, eachIs, copyMarked, pageMarked, marked}
 use Rattle.embed.specs.Exports.{tablesSized, tablesIn}
 
 -- values of one size in a row, where each is laid out as the bytes that it was read from
@@ -51,18 +52,36 @@ page-same b h e =
     take-add 16 26 b ∙ ap (λ (l : List ℕ). take 16 b ++ l) (take-add 24 2 (drop 16 b) ∙ rw (drop-drop 24 16 b)) in
     rw (copies, cut, end)
 
-whole : (b : List ℕ) → length b ≡ tablesSize → marked b ≡ true → tablesBytes (tablesFrom b) ≡ b
+-- Each number is a byte. An entry of the register is the same two numbers again only where they are bytes; lent bytes always are.
+abbrev pub AreBytes : List ℕ → Type 0
+AreBytes b = (i : ℕ) → getD b i 0 < 256
+
+register-same : (k : ℕ) (b : List ℕ) → length b ≡ 2 * k → AreBytes b → flatMap be16 (fromEach k 2 entryFrom b) ≡ b
+unfolding flatMap fromEach
+register-same zero [] n low = refl
+register-same zero (x ∷ b) n low = absurd (omega arith)
+register-same (suc k) [] n low = absurd (omega arith)
+register-same (suc k) (x ∷ []) n low = absurd (omega arith)
+register-same (suc k) (x ∷ y ∷ b) n low =
+    let high : (x * 256 + y) / 256 % 256 ≡ x = omega (arith, low 0, low 1) in
+    let rest : (x * 256 + y) % 256 ≡ y = omega (arith, low 1) in
+    rw (high, rest, register-same k b (omega arith) (λ i. low (suc (suc i))))
+
+whole : (b : List ℕ) → length b ≡ tablesSize → AreBytes b → marked b ≡ true → tablesBytes (tablesFrom b) ≡ b
 unfolding tablesBytes tablesFrom marked
-whole [] n e = absurd (omega arith)
-whole (p ∷ []) n e = absurd (omega arith)
-whole (p ∷ s ∷ l) n e =
-    let far : length l ≡ pageSize * 64 = omega arith in
-    rw (row-same pageSize pageBytes pageFrom pageMarked page-same 64 l (omega arith) e, take-all (pageSize * 64) l (omega arith))
+whole [] n low e = absurd (omega arith)
+whole (p ∷ []) n low e = absurd (omega arith)
+whole (p ∷ s ∷ l) n low e =
+    let at = pageSize * 64 in
+    let far : length (drop at l) ≡ 2 * 254 = rw (length-drop at l) (omega arith) in
+    let pages = row-same pageSize pageBytes pageFrom pageMarked page-same 64 l (omega arith) e in
+    let register = register-same 254 (drop at l) far (λ i. rw (getD-drop at l i 0) (low (suc (suc (at + i))))) in
+    rw (pages, register, take-append-drop at l)
 
 -- bytes that hold tables are as many as tables take
 pub in-sized : (b : List ℕ) → tablesIn b ≡ true → length b ≡ tablesSize
 in-sized b e = eqb-true (length b) tablesSize (and-left (tablesSized b) (marked b) e)
 
 -- tables that are put back unchanged are the bytes that they were
-pub tables-same : (b : List ℕ) → tablesIn b ≡ true → tablesBytes (tablesFrom b) ≡ b
-tables-same b e = whole b (in-sized b e) (and-right (tablesSized b) (marked b) e)
+pub tables-same : (b : List ℕ) → AreBytes b → tablesIn b ≡ true → tablesBytes (tablesFrom b) ≡ b
+tables-same b low e = whole b (in-sized b e) low (and-right (tablesSized b) (marked b) e)

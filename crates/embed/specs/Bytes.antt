@@ -1,4 +1,5 @@
--- The tables as bytes: P, S, then each page, which is the sixteen rights, the eight entries of three bytes, the owner and n.
+-- The tables as bytes: P, S, then each page, which is the sixteen rights, the eight entries of three bytes, the owner and n,
+-- then the register, two bytes, big-endian, for each frame number.
 use Prim.Native.Nat.{ℕ, zero, suc, _+_, _*_}
 use mathlib.Core.Bool.{Bool, true, not, _&&_, cond}
 use mathlib.Core.List.{List, [], _∷_, _++_, flatMap}
@@ -8,15 +9,19 @@ use Rattle.tables.specs.declared.Copy.{Copy}
 use Rattle.tables.specs.declared.Page.{Page}
 use Rattle.tables.specs.declared.Tables.{Tables}
 use Rattle.tables.specs.Model.{sized}
+use Rattle.messages.specs.Replies.{be16}
 
 -- ---- sizes
 
--- how many bytes a page takes, and the tables
+-- how many bytes a page takes, where the register begins, and how many bytes the tables take
 abbrev pub pageSize : ℕ
 pageSize = 42
 
+abbrev pub registerAt : ℕ
+registerAt = 2 + 64 * pageSize
+
 abbrev pub tablesSize : ℕ
-tablesSize = 2 + 64 * pageSize
+tablesSize = registerAt + 2 * 254
 
 -- ---- laid out
 
@@ -31,7 +36,7 @@ unfoldable pub pageBytes : Page → List ℕ
 pageBytes g = g .rights ++ (flatMap copyBytes (g .copies) ++ (g .owner ∷ g .n ∷ []))
 
 unfoldable pub tablesBytes : Tables → List ℕ
-tablesBytes t = t .shared .p ∷ t .shared .s ∷ flatMap pageBytes (t .pages)
+tablesBytes t = t .shared .p ∷ t .shared .s ∷ flatMap pageBytes (t .pages) ++ flatMap be16 (t .register)
 
 -- ---- read back
 
@@ -49,8 +54,12 @@ copyFrom b = record { frame = getD b 0 0; current = markFrom (getD b 1 0); recen
 unfoldable pub pageFrom : List ℕ → Page
 pageFrom b = record { rights = take 16 b; copies = fromEach 8 3 copyFrom (drop 16 b); owner = getD b 40 0; n = getD b 41 0 }
 
+-- an entry of the register
+abbrev pub entryFrom : List ℕ → ℕ
+entryFrom b = getD b 0 0 * 256 + getD b 1 0
+
 unfoldable pub tablesFrom : List ℕ → Tables
-tablesFrom b = record { shared = sized (getD b 0 0) (getD b 1 0); pages = fromEach 64 pageSize pageFrom (drop 2 b) }
+tablesFrom b = record { shared = sized (getD b 0 0) (getD b 1 0); pages = fromEach 64 pageSize pageFrom (drop 2 b); register = fromEach 254 2 entryFrom (drop registerAt b) }
 
 -- ---- the marks
 

@@ -1,6 +1,8 @@
 // The kernel for programs in C or Rust. The tables are lent as bytes, so a caller needs no
 // type of ours: P, S, then for each of the 64 pages the sixteen rights, the
-// eight entries (frame, CURRENT, MOST RECENT; each mark is 0 or 1), the owner and n.
+// eight entries (frame, CURRENT, MOST RECENT; each mark is 0 or 1), the owner and n; then the
+// register, for each of the 254 frame numbers two bytes, big-endian: 8 times the page and the
+// copy, in one, or 65535 for none.
 use messages::Tally;
 use messages::answer;
 use messages::fill;
@@ -21,20 +23,24 @@ ghost use lib.ListN.{length, take, drop};
 ghost use lib.Seq.{sets};
 ghost use Rattle.steps.specs.Effects.{readCall, readPlace};
 ghost use Rattle.steps.specs.Promises.{lent, rulesNumber};
+ghost use Rattle.messages.specs.Replies.{be16};
 ghost use Rattle.messages.specs.Run.{answer, run, partFrom};
 ghost use Rattle.messages.specs.Promises.{sentAlone};
-ghost use Rattle.embed.specs.Bytes.{pageSize, tablesSize, markByte, copyBytes, pageBytes, tablesBytes, fromEach, copyFrom, pageFrom, tablesFrom, copyMarked, pageMarked, marked};
+ghost use Rattle.embed.specs.Bytes.{pageSize, registerAt, tablesSize, markByte, copyBytes, pageBytes, tablesBytes, fromEach, copyFrom, pageFrom, entryFrom, tablesFrom, copyMarked, pageMarked, marked};
 ghost use Rattle.embed.specs.Private.{Small};
 ghost use Rattle.embed.specs.Exports.{version, tablesIn, noTables, tablesOf, withTables, freshInto, tallyOf, withTally, storeNumber, placeNumber, packed, lentState, AnswerLent, RunLent, RepliesLent};
 
 // How many bytes a page takes.
 const PAGE_SIZE: usize = 42;
 
+// Where the register begins.
+const REGISTER_AT: usize = 2 + 64 * PAGE_SIZE;
+
 // How many bytes the tables take.
-const TABLES_SIZE: usize = 2 + 64 * PAGE_SIZE;
+const TABLES_SIZE: usize = REGISTER_AT + 2 * 254;
 
 // The version of what C and Rust see: these functions, and the tables as bytes.
-const MAJOR: u32 = 1;
+const MAJOR: u32 = 2;
 
 const MINOR: u32 = 0;
 
@@ -95,6 +101,26 @@ fn page_from(bytes: &[u8], at: usize) -> Page
     }
 }
 
+fn entry_from(bytes: &[u8], at: usize) -> u16
+    requires { ⌜ at + 2 ≤ length (now bytes) ⌝ }
+    ensures { λ r. ⌜ r ≡ entryFrom (drop at (now (bytes .entry))) ⌝ }
+{
+    bytes[at] as u16 * 256 + bytes[at + 1] as u16
+}
+
+fn register_from(bytes: &[u8]) -> [u16; 254]
+    requires { ⌜ length (now bytes) ≡ tablesSize ⌝ }
+    ensures { λ r. ⌜ r ≡ fromEach 254 2 entryFrom (drop registerAt (now (bytes .entry))) ⌝ }
+{
+    let mut register = [0; 254];
+    let mut i: usize = 0;
+    while i < 254 {
+        register[i] = entry_from(bytes, REGISTER_AT + 2 * i);
+        i += 1;
+    }
+    register
+}
+
 fn tables_from(bytes: &[u8]) -> Tables
     requires { ⌜ length (now bytes) ≡ tablesSize ⌝ }
     ensures { λ r. ⌜ r ≡ tablesFrom (now (bytes .entry)) ⌝ }
@@ -113,6 +139,7 @@ fn tables_from(bytes: &[u8]) -> Tables
             s: bytes[1],
         },
         pages: pages,
+        register: register_from(bytes),
     }
 }
 
@@ -207,6 +234,19 @@ fn put_page(g: Page, bytes: &mut [u8], at: usize)
     bytes[at + 41] = g.n;
 }
 
+fn put_register(register: [u16; 254], bytes: &mut [u8])
+    requires { ⌜ length (now bytes) ≡ tablesSize ⌝ }
+    ensures { λ _. ⌜ now (bytes .exit) ≡ sets (now (bytes .entry)) registerAt (flatMap be16 register) ⌝ }
+{
+    let mut i: usize = 0;
+    while i < 254 {
+        let entry = register[i];
+        bytes[REGISTER_AT + 2 * i] = (entry / 256) as u8;
+        bytes[REGISTER_AT + 2 * i + 1] = (entry % 256) as u8;
+        i += 1;
+    }
+}
+
 fn put_tables(tables: Tables, bytes: &mut [u8])
     requires { ⌜ length (now bytes) ≡ tablesSize ⌝ }
     ensures { λ _. ⌜ now (bytes .exit) ≡ tablesBytes tables ⌝ }
@@ -219,6 +259,8 @@ fn put_tables(tables: Tables, bytes: &mut [u8])
         put_page(g, bytes, 2 + PAGE_SIZE * i);
         i += 1;
     }
+    let register = tables.register;
+    put_register(register, bytes);
 }
 
 // ---- lent bytes of any length

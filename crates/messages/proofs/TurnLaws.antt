@@ -15,8 +15,7 @@ use Rattle.steps.specs.declared.Decision.{Decision}
 use Rattle.steps.specs.Stores.{part, over}
 use Rattle.steps.specs.Steps.{Outcome, refuse, accept, test, numberOf, decideAny}
 use Rattle.steps.specs.Effects.{State, Result, step, left, laidBy, dataOf}
-use Rattle.steps.specs.Promises.{stateOf, rulesNumber, decisionOf, Lent, lent}
-use Rattle.steps.specs.Private.{tablesAfter}
+use Rattle.steps.specs.Promises.{stateOf, rulesNumber, decisionOf, Lent, lent, settled}
 use Rattle.steps.proofs.StepLaws.{carries, step-unruled, step-ruled, data-short, step-told}
 use Rattle.messages.specs.declared.Parsed.{Parsed}
 use Rattle.messages.specs.declared.Parsed.the-variants.{Refused, Asked}
@@ -102,7 +101,7 @@ pub record Served (s : State) (o : Outcome Result) (out : List ℕ) (number laid
 pub record Decided (s : State) (x : Sent) (out bs : List ℕ) (d : Decision) : Type 0 where
   pub roomy : 70 ≤ length out
   pub few : d .len ≤ 64
-  pub served : (t′ : Tables) (fast′ slow′ out′ : List ℕ) → t′ ≡ tablesAfter (s .tables) d
+  pub served : (t′ : Tables) (fast′ slow′ out′ : List ℕ) → t′ ≡ settled (s .tables) d
       → lent fast′ slow′ out′ ≡ repliedWith d bs (lent (s .fast) (s .slow) out)
       → Served s (answer (length out) s x) out (d .number) (d .laid) (d .len) (stateOf t′ fast′ slow′) out′
 

@@ -67,14 +67,14 @@ pub struct Answered {
     pub number: u8,
     pub len: usize,
     pub laid: u16,
-    pub moved: bool,
     pub tables: Tables,
+    pub moved: bool,
 }
 
 // What a run leaves.
 pub struct Ran {
-    pub moved: bool,
     pub tables: Tables,
+    pub moved: bool,
     pub tally: Tally,
 }
 
@@ -82,7 +82,7 @@ pub struct Ran {
 pub struct Filled {
     pub at: usize,
     pub used: usize,
-    pub moved: bool,
     pub tables: Tables,
+    pub moved: bool,
     pub tally: Tally,
 }

@@ -13,7 +13,7 @@ use lib.Dec.{leb}
 use borrow.Author.Tests.{eqb-true, eqb-false, leb-false, not-true}
 use Rattle.tables.specs.declared.Copy.{Copy}
 use Rattle.tables.specs.Lists.{all, count}
-use Rattle.tables.specs.Rules.{onFrame}
+use Rattle.tables.specs.Model.{onFrame}
 use Rattle.tables.proofs.ListLaws.{and-left, and-right, not-so, all-first, all-rest, count-hit, count-miss, count-rest}
 use Rattle.steps.specs.Stores.{part, splice, block, lay, layCurrent}
 use Rattle.steps.specs.Promises.{currentWithin}

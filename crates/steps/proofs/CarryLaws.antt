@@ -13,6 +13,7 @@ use Rattle.tables.specs.declared.Page.{Page}
 use Rattle.tables.specs.Lists.{all}
 use Rattle.tables.specs.Model.{inUse, noCopyEntry}
 use Rattle.tables.proofs.ListLaws.{or-left, or-right, all-at}
+use Rattle.tables.proofs.Loops.{use-low}
 use Rattle.steps.specs.declared.Work.{Work}
 use Rattle.steps.specs.declared.Decision.{Decision}
 use Rattle.steps.specs.Stores.{over}
@@ -20,7 +21,6 @@ use Rattle.steps.specs.Effects.{laidIn, shownOf}
 use Rattle.steps.specs.Promises.{lent, currentWithin, workWithin, within, carried}
 use Rattle.steps.specs.Private.{Room}
 use Rattle.steps.proofs.StoreLaws.{taken-apart}
-use Rattle.steps.proofs.CopyLaws.{use-low}
 use Rattle.steps.proofs.Blocks.{current-low}
 
 -- ---- the first test

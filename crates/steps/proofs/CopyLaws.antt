@@ -1,38 +1,25 @@
--- Loops over the copies of a page: what is still to be done is told by `drop j (inUse g)`. In order: one copy more; bytes laid into each
--- CURRENT copy; the entries that show the copies.
+-- Loops over the copies of a page: what is still to be done is told by `drop j (inUse g)`. In order: bytes laid into each CURRENT
+-- copy; the entries that show the copies.
 use Prim.Native.Nat.{ℕ, _+_, _*_, _≤_, _<_}
 use mathlib.Core.Path.{_≡_, refl, sym, ap, _∙_}
 use mathlib.Core.List.{List, [], _∷_}
 use native.Mathlib.Omega.{arith}
-use lib.ListN.{length, drop, getD, length-take}
-use lib.Seq.{getD-take}
+use lib.ListN.{length, drop, getD}
 use Rattle.tables.specs.declared.Copy.{Copy}
 use Rattle.tables.specs.declared.Page.{Page}
 use Rattle.tables.specs.Model.{inUse, noCopyEntry}
-use Rattle.tables.proofs.Loops.{drop-more, drop-end}
+use Rattle.tables.proofs.Loops.{drop-end, use-more}
 use Rattle.steps.specs.Stores.{splice, layCurrent}
 use Rattle.steps.specs.Effects.{entries}
 use Rattle.steps.proofs.StoreLaws.{splice-next, splice-none}
 
--- an index of a copy in use is below n
-pub use-low : (g : Page) (j : ℕ) → j < length (inUse g) → j < g .n
-use-low g j h =
-    let b : length (inUse g) ≤ g .n = simp length-take (omega arith) in
-    omega arith
-
 module _ (g : Page) (j : ℕ) where
-  -- one copy more
-  pub use-more : j < length (inUse g) → drop j (inUse g) ≡ getD (g .copies) j noCopyEntry ∷ drop (j + 1) (inUse g)
-  use-more h =
-      drop-more (inUse g) j noCopyEntry h
-      ∙ ap {B = List Copy} (λ (c : Copy). c ∷ drop (j + 1) (inUse g)) (getD-take (g .n) (g .copies) j noCopyEntry (use-low g j h))
-
   -- ---- bytes laid into each CURRENT copy
   module _ (o : ℕ) (b : List ℕ) where
     pub lay-turn : (st st′ all : List ℕ) → j < length (inUse g) → st′ ≡ layCurrent st (getD (g .copies) j noCopyEntry ∷ []) o b
         → layCurrent st (drop j (inUse g)) o b ≡ all → layCurrent st′ (drop (j + 1) (inUse g)) o b ≡ all
     unfolding layCurrent
-    lay-turn st st′ all h e r = rw e (sym (ap (λ (cs : List Copy). layCurrent st cs o b) (use-more h)) ∙ r)
+    lay-turn st st′ all h e r = rw e (sym (ap (λ (cs : List Copy). layCurrent st cs o b) (use-more g j h)) ∙ r)
 
     pub lay-ended : (st all : List ℕ) → length (inUse g) ≤ j → layCurrent st (drop j (inUse g)) o b ≡ all → st ≡ all
     unfolding layCurrent
@@ -48,7 +35,7 @@ module _ (g : Page) (j : ℕ) where
       let s : 1 + 3 * (j + 1) ≡ 1 + 3 * j + 3 = omega arith in
       rw (e, s)
       (splice-next out (1 + 3 * j) b (entries (drop (j + 1) (inUse g))) w
-      ∙ sym (ap (λ (cs : List Copy). splice out (1 + 3 * j) (entries cs)) (use-more h)) ∙ r)
+      ∙ sym (ap (λ (cs : List Copy). splice out (1 + 3 * j) (entries cs)) (use-more g j h)) ∙ r)
 
   pub entries-ended : (out all : List ℕ) → length (inUse g) ≤ j → splice out (1 + 3 * j) (entries (drop j (inUse g))) ≡ all → out ≡ all
   unfolding entries

@@ -1,5 +1,5 @@
 -- Loops over the copies in use of a page: at index j what is left to do is told by `drop j (inUse g)`.
--- In order: one copy more; a loop that counts the copies of which f holds; the frame of the first CURRENT copy.
+-- In order: a loop that counts the copies of which f holds; the frame of the first CURRENT copy.
 use Prim.Native.Nat.{ℕ, _+_, _≤_, _<_}
 use mathlib.Core.Path.{_≡_}
 use mathlib.Core.Bool.{Bool, true, false}
@@ -10,9 +10,8 @@ use Rattle.tables.specs.declared.Copy.{Copy}
 use Rattle.tables.specs.declared.Page.{Page}
 use Rattle.tables.specs.Lists.{count}
 use Rattle.tables.specs.Model.{inUse}
-use Rattle.tables.proofs.Loops.{drop-end}
+use Rattle.tables.proofs.Loops.{drop-end, use-more}
 use Rattle.steps.specs.Steps.{copyAt, firstCurrent}
-use Rattle.steps.proofs.CopyLaws.{use-more}
 
 -- ---- of how many copies f holds
 

@@ -21,10 +21,11 @@ use Rattle.tables.specs.Lists.{all, count, listed}
 use Rattle.tables.specs.Numbers.{noPage, noRight, noCopy, table}
 use Rattle.tables.specs.Model.{frames, isNull, inUse, absent, pageAt}
 use Rattle.tables.specs.Rules.{free, isCurrent, copyRule, sound}
-use Rattle.tables.specs.Search.{holderOf, isFree, shown}
+use Rattle.tables.specs.Search.{isFree, shown}
+use Rattle.tables.specs.Register.{registered}
 use Rattle.tables.proofs.ListLaws.{and-intro, and-left, and-right, or-left, or-right, all-imp, count-le}
 use Rattle.tables.proofs.RuleLaws.{good-copy, current-frame, StandingPage, copy-at, length-in-use, sound-of, standing-at}
-use Rattle.tables.proofs.HolderLaws.{free-holder}
+use Rattle.tables.proofs.RegisterLaws.{registered-free}
 use Rattle.tables.proofs.Allowed.{FrameOk, Allowed}
 use Rattle.steps.specs.declared.Kind.{Kind}
 use Rattle.steps.specs.declared.Kind.the-variants.{Create, DeletePage, Grant, Read, Write, MakeCopy, DeleteCopy, SetCurrent, RemoveCurrent, LookPage, LookFrame}
@@ -117,7 +118,8 @@ pub record PlanOk (t : Tables) (c : Call) (size : ℕ) (k : Kind) (plan : Plan) 
   pub shows : (st : List ℕ) → length st ≡ 64 * frames t → length (shownOf (pageAt t (c .page)) (plan .work) (plan .len) st) ≡ plan .len
 
 module _ (t : Tables) (c : Call) (size : ℕ) (near : c .page < 64)
-    (stands : absent (pageAt t (c .page)) ≡ false → StandingPage (frames t) (pageAt t (c .page))) where
+    (stands : absent (pageAt t (c .page)) ≡ false → StandingPage (frames t) (pageAt t (c .page)))
+    (told : (f : ℕ) → f < frames t → free t f ≡ isFree (registered t f)) where
   abbrev g : Page
   g = pageAt t (c .page)
 
@@ -165,7 +167,7 @@ module _ (t : Tables) (c : Call) (size : ℕ) (near : c .page < 64)
   perform-ok : (k : Kind) → nameOutside c ≡ false → (has frame k && leb (frames t) (c .frame)) ≡ false
       → (has offset k && badSpan (c .offset) (cond (has bytes k) size (c .count))) ≡ false
       → IfAccepted (PlanOk t c size k)
-      (perform (record { frames = frames t; page = g; holder = cond (has frame k) (holderOf t (c .frame)) Free }) c size k)
+      (perform (record { frames = frames t; page = g; holder = registered t (c .frame) }) c size k)
   unfolding perform shownOf names code among
   perform-ok Create name far span =
       let low = ltb-false 15 (c .station) (or-left (ltb 15 (c .station)) _ (or-left (ltb 15 (c .station) || ltb 63 (c .page)) _ name)) in
@@ -196,10 +198,10 @@ module _ (t : Tables) (c : Call) (size : ℕ) (near : c .page < 64)
       (mul-le-mul {n₂ = 64} {m₂ = 8} (omega arith) (omega arith))
       (and-intro (le-leb (c .offset + size) 64 span) (currents-within (stands some))) (λ st. refl)))
   perform-ok MakeCopy name far span =
-      past-numbered g (c .copy) (λ some less. past (not (isFree (holderOf t (c .frame)))) _ refl (λ is.
+      past-numbered g (c .copy) (λ some less. past (not (isFree (registered t (c .frame)))) _ refl (λ is.
       past (eqb (g .n) 8) _ refl (λ room.
-      copy-ok MakeCopy (c .copy) (c .frame) less (leb-false (frames t) (c .frame) far) (free-holder t (c .frame) ∙ not-false _ is) some
-      (eqb-false (g .n) 8 room))))
+      let low = leb-false (frames t) (c .frame) far in
+      copy-ok MakeCopy (c .copy) (c .frame) less low (told (c .frame) low ∙ not-false _ is) some (eqb-false (g .n) 8 room))))
   perform-ok DeleteCopy name far span =
       past-numbered g (c .copy) (λ _ less.
       past (copyAt g (c .copy) .recent && eqb (recents g) 1) _ refl (λ last.
@@ -217,7 +219,7 @@ module _ (t : Tables) (c : Call) (size : ℕ) (near : c .page < 64)
       let long = length-in-use (stands some) in
       let data-long = length-entries (inUse g) in
       show-ok LookPage (1 + 3 * length (inUse g)) ShowPage (omega arith) (omega arith) refl (λ st l. omega arith))
-  perform-ok LookFrame name far span = show-ok LookFrame 3 (ShowHolder _) (omega arith) (omega arith) refl (λ st l. three (holderOf t (c .frame)))
+  perform-ok LookFrame name far span = show-ok LookFrame 3 (ShowHolder _) (omega arith) (omega arith) refl (λ st l. three (registered t (c .frame)))
     where
       three : (h : Holder) → length (shown h) ≡ 3
       three (At p k) = refl
@@ -230,7 +232,7 @@ unfolding decideOn
 decide-ok t c size e =
     past (nameOutside c) _ refl (λ name. past (frameOutside (frames t) c) _ refl (λ far. past (spanOutside size c) _ refl (λ span.
     let near = page-near c name in
-    perform-ok t c size near (λ some. standing-at t (c .page) (sound-of t e) near some) (c .kind) name far span)))
+    perform-ok t c size near (λ some. standing-at t (c .page) (sound-of t e) near some) (λ f l. registered-free t f e l) (c .kind) name far span)))
 
 -- an accepted read shows bytes of the lowest-numbered CURRENT copy
 pub read-shows : (v : View) (c : Call) (size : ℕ) → c .kind ≡ Read

@@ -2,34 +2,28 @@
 -- In order: `decided-at`, where the record of page number % 64 is read and the holder is sought from `searchStart` on; `ruled-is`, with 5 and 6
 -- before it; `decides-any`, what a caller has of a decision on any tables.
 use Prim.Native.Nat.{ℕ, _%_, _<_}
-use mathlib.Core.Path.{_≡_, refl, sym, ap, ap₂, _∙_}
-use mathlib.Core.Bool.{Bool, true, false, not, _&&_, cond}
+use mathlib.Core.Path.{_≡_, refl, sym, ap, _∙_}
+use mathlib.Core.Bool.{Bool, true, false, not, cond}
 use native.Mathlib.Omega.{arith}
-use lib.ListN.{length}
-use lib.Seq.{take-all}
-use lib.Dec.{leb, ltb}
-use borrow.Author.Tests.{leb-false, lt-ltb, ne-eqb}
+use borrow.Author.Tests.{ne-eqb}
 use Rattle.tables.specs.declared.Page.{Page}
 use Rattle.tables.specs.declared.Tables.{Tables}
-use Rattle.tables.specs.declared.Holder.{Holder}
-use Rattle.tables.specs.declared.Holder.the-variants.{Free}
 use Rattle.tables.specs.Numbers.{accepted, brokenTables, misfitStore, outOfRange}
 use Rattle.tables.specs.Model.{frames, pageAt}
 use Rattle.tables.specs.Rules.{sound}
-use Rattle.tables.specs.Search.{inPages, holderOf}
+use Rattle.tables.specs.Register.{registered}
 use Rattle.tables.specs.Changes.{changed, edited, after}
 use Rattle.tables.specs.Keep.{unchanged}
-use Rattle.tables.proofs.ListLaws.{or-left, or-right}
+use Rattle.tables.proofs.ListLaws.{or-left}
 use Rattle.tables.proofs.KeepLaws.{unchanged-after}
 use Rattle.steps.specs.declared.Call.{Call}
 use Rattle.steps.specs.declared.View.{View}
 use Rattle.steps.specs.declared.Decision.{Decision}
-use Rattle.steps.specs.Kinds.{frame, has}
-use Rattle.steps.specs.Calls.{nameOutside, frameOutside}
+use Rattle.steps.specs.Calls.{nameOutside}
 use Rattle.steps.specs.Stores.{fits}
 use Rattle.steps.specs.Steps.{Outcome, refuse, accept, Plan, test, decideOn, viewOf, decide, decideAny, numberOf}
 use Rattle.steps.specs.Promises.{rulesNumber, decisionOf}
-use Rattle.steps.specs.Private.{outside, verdictOf, decision, decidedOn, holderFrom, searchStart, decidedAt, ruled, Decides}
+use Rattle.steps.specs.Private.{outside, verdictOf, decision, decidedOn, decidedAt, ruled, Decides}
 use Rattle.steps.proofs.RangeLaws.{one-test}
 use Rattle.steps.proofs.DecideLaws.{page-near}
 
@@ -42,27 +36,17 @@ module _ (t : Tables) (c : Call) where
   same-page : c .page < 64 → pageAt t (c .page % 64) ≡ pageAt t (c .page)
   same-page h = ap (pageAt t) (let m : c .page % 64 ≡ c .page = omega arith in m)
 
-module _ (t : Tables) (c : Call) (size : ℕ) (long : length (t .pages) ≡ 64) where
+module _ (t : Tables) (c : Call) (size : ℕ) where
   -- what the code looks at
   abbrev seen : View
-  seen = record { frames = frames t; page = pageAt t (c .page % 64); holder = holderFrom t (c .frame) (searchStart (t .shared) c) }
-
-  holder-same : frameOutside (frames t) c ≡ false → seen .holder ≡ viewOf t c .holder
-  unfolding inPages
-  holder-same = go (has frame (c .kind))
-    where
-      go : (b : Bool) → (b && leb (frames t) (c .frame)) ≡ false
-          → holderFrom t (c .frame) (cond (b && ltb (c .frame) (frames t)) 0 64) ≡ cond b (holderOf t (c .frame)) Free
-      go true e = rw (lt-ltb (c .frame) (frames t) (leb-false (frames t) (c .frame) e), take-all 64 (t .pages) (omega arith))
-      go false e = refl
+  seen = record { frames = frames t; page = pageAt t (c .page % 64); holder = registered t (c .frame) }
 
   -- the same outcome: 7 is refused whatever is looked at
   same : (b : Bool) → outside (frames t) size c ≡ b → decideOn seen c size ≡ decide t c size
   same true e = one-test seen c size ∙ rw e (sym (one-test (viewOf t c) c size ∙ rw e))
   same false e =
-      let p = same-page t c (page-near c (or-left (nameOutside c) _ e)) in
-      let h = holder-same (or-left (frameOutside (frames t) c) _ (or-right (nameOutside c) _ e)) in
-      ap₂ (λ (g : Page) (w : Holder). decideOn (record { frames = frames t; page = g; holder = w }) c size) p h
+      ap (λ (g : Page). decideOn (record { frames = frames t; page = g; holder = registered t (c .frame) }) c size)
+      (same-page t c (page-near c (or-left (nameOutside c) _ e)))
 
   pub decided-at : decidedAt t c size ≡ decisionOf t c (decide t c size)
   unfolding decidedOn
@@ -87,7 +71,7 @@ ruled-is t fl sl c size d h = go (sound t) (fits t fl sl)
 -- ---- what a caller has of it
 
 module _ (t : Tables) (c : Call) where
-  decides : (o : Outcome Plan) → (numberOf o ≡ accepted → c .page < 64) → Decides t c o (decisionOf t c o)
+  decides : (o : Outcome Plan) → (numberOf o ≡ accepted → (sound t ≡ true) × (c .page < 64)) → Decides t c o (decisionOf t c o)
   unfolding unchanged
   decides (refuse n) q =
       record {
@@ -96,7 +80,7 @@ module _ (t : Tables) (c : Call) where
         len-told = refl;
         work-told = refl;
         tables-told = refl;
-        before-told = λ z. same-page t c (q z);
+        before-told = λ z. same-page t c (q z .1);
       }
   decides (accept plan) q =
       record {
@@ -104,22 +88,22 @@ module _ (t : Tables) (c : Call) where
         laid-told = refl;
         len-told = refl;
         work-told = refl;
-        tables-told = rw (same-page t c (q refl)) (go (unchanged (pageAt t (c .page)) (plan .edit)) refl);
-        before-told = λ z. same-page t c (q z);
+        tables-told = rw (same-page t c (q refl .1)) (go (unchanged (pageAt t (c .page)) (plan .edit)) refl);
+        before-told = λ z. same-page t c (q z .1);
       }
     where
       go : (b : Bool) → unchanged (pageAt t (c .page)) (plan .edit) ≡ b
           → cond (not b) (after t (edited t (c .page) (plan .edit))) t ≡ after t (edited t (c .page) (plan .edit))
-      go true e = sym (unchanged-after t (c .page) (plan .edit) e)
+      go true e = sym (unchanged-after t (c .page) (plan .edit) (q refl .0) e)
       go false e = refl
 
   pub decides-any : (fl sl size : ℕ) (d : Decision) → d ≡ decisionOf t c (decideAny t fl sl c size) → Decides t c (decideAny t fl sl c size) d
   unfolding decideOn
-  decides-any fl sl size d e = rw e (decides (decideAny t fl sl c size) (near (sound t) (fits t fl sl) (nameOutside c) _ refl))
+  decides-any fl sl size d e = rw e (decides (decideAny t fl sl c size) (near (sound t) (fits t fl sl) (nameOutside c) _ refl refl))
     where
-      near : (a b n : Bool) (o : Outcome Plan) → nameOutside c ≡ n
-          → numberOf (test (not a) brokenTables (test (not b) misfitStore (test n outOfRange o))) ≡ accepted → c .page < 64
-      near true true false o q z = page-near c q
-      near true true true o q z = absurd (omega arith)
-      near true false n o q z = absurd (omega arith)
-      near false b n o q z = absurd (omega arith)
+      near : (a b n : Bool) (o : Outcome Plan) → sound t ≡ a → nameOutside c ≡ n
+          → numberOf (test (not a) brokenTables (test (not b) misfitStore (test n outOfRange o))) ≡ accepted → (sound t ≡ true) × (c .page < 64)
+      near true true false o s q z = (s, page-near c q)
+      near true true true o s q z = absurd (omega arith)
+      near true false n o s q z = absurd (omega arith)
+      near false b n o s q z = absurd (omega arith)

@@ -3,10 +3,7 @@ pub mod RangeLaws
 pub mod CountLaws
 pub mod VerdictLaws
 pub mod JudgeLaws
-pub mod ByRef
 pub mod Rows
-pub mod SearchLaws
-pub mod Sizes
 pub mod StoreLaws
 pub mod CopyLaws
 pub mod Blocks

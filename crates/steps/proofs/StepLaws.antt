@@ -27,8 +27,8 @@ use Rattle.steps.specs.Kinds.{leastLength}
 use Rattle.steps.specs.Stores.{fits, block, held, zeros, over}
 use Rattle.steps.specs.Steps.{Outcome, refuse, accept, test, mapped, Plan, copyAt, decide, decideAny, numberOf}
 use Rattle.steps.specs.Effects.{laidIn, shownOf, State, joined, Result, carriedOut, step, left, laidBy, dataOf}
-use Rattle.steps.specs.Promises.{stateOf, rulesNumber, decisionOf, Lent, lent, workWithin, within, carried, Stepped}
-use Rattle.steps.specs.Private.{tablesAfter, Decides}
+use Rattle.steps.specs.Promises.{stateOf, rulesNumber, decisionOf, Lent, lent, workWithin, within, carried, Stepped, settled}
+use Rattle.steps.specs.Private.{Decides}
 use Rattle.steps.proofs.JudgeLaws.{decides-any}
 use Rattle.steps.proofs.StoreLaws.{length-part}
 use Rattle.steps.proofs.Blocks.{length-lay, length-write}
@@ -222,7 +222,7 @@ pub record Carries (s : State) (c : Call) (bs out : List ℕ) (d : Decision) : T
   pub number-is : d .number ≡ numberOf (step s c bs)
   pub laid-is : d .laid ≡ laidBy (step s c bs)
   pub len-is : d .len ≡ length (dataOf (step s c bs))
-  pub tables-is : tablesAfter (s .tables) d ≡ left s (step s c bs) .tables
+  pub tables-is : settled (s .tables) d ≡ left s (step s c bs) .tables
   pub left-is : carried d bs (lent (s .fast) (s .slow) out)
       ≡ lent (left s (step s c bs) .fast) (left s (step s c bs) .slow) (over (dataOf (step s c bs)) out)
 
@@ -262,7 +262,7 @@ carries s c bs out d room is = go _ refl (sure s c bs) q
     q = decides-any (s .tables) c (length (s .fast)) (length (s .slow)) (length bs) d is
 
     told : (r : Outcome Result) → step s c bs ≡ r → d .number ≡ numberOf r → d .laid ≡ laidBy r → d .len ≡ length (dataOf r)
-        → tablesAfter (s .tables) d ≡ left s r .tables
+        → settled (s .tables) d ≡ left s r .tables
         → carried d bs (lent (s .fast) (s .slow) out) ≡ lent (left s r .fast) (left s r .slow) (over (dataOf r) out) → Carries s c bs out d
     told r e n l k t w =
         record {
@@ -286,7 +286,7 @@ carries s c bs out d room is = go _ refl (sure s c bs) q
 
 -- so it has what `step` promises, with the tables that it leaves
 pub stepped : (s : State) (c : Call) (bs out : List ℕ) (d : Decision) → Carries s c bs out d → (t′ : Tables) (x′ y′ out′ : List ℕ)
-    → t′ ≡ tablesAfter (s .tables) d → lent x′ y′ out′ ≡ carried d bs (lent (s .fast) (s .slow) out)
+    → t′ ≡ settled (s .tables) d → lent x′ y′ out′ ≡ carried d bs (lent (s .fast) (s .slow) out)
     → Stepped s (step s c bs) out (stateOf t′ x′ y′) out′ (record { number = d .number; laid = d .laid; len = d .len; tables = t′ })
 stepped s c bs out d k t′ x′ y′ out′ e w =
     let v = w ∙ k .left-is in

@@ -1,7 +1,7 @@
 -- Document 01, "The steps": what each kind of call names. One row a kind: the lengths of its messages, its arguments and what it is
 -- tested for follow from it.
 use Prim.Native.Nat.{ℕ, _+_, _-_}
-use mathlib.Core.Bool.{Bool, true, false, _||_, cond}
+use mathlib.Core.Bool.{Bool, false, _||_, cond}
 use mathlib.Core.List.{List, [], _∷_}
 use lib.ListN.{length, getD}
 use lib.Dec.{eqb}

@@ -1,10 +1,10 @@
 -- What the private functions of this layer ask of each other and promise. For the proofs alone: no exported contract names it.
-use Prim.Native.Nat.{ℕ, _+_, _-_, _*_, _%_, _≤_, _<_}
-use mathlib.Core.Bool.{Bool, false, not, _&&_, _||_, cond}
+use Prim.Native.Nat.{ℕ, _+_, _*_, _%_, _≤_, _<_}
+use mathlib.Core.Bool.{Bool, false, not, _||_, cond}
 use mathlib.Core.List.{List}
 use mathlib.Core.Path.{_≡_}
-use lib.ListN.{length, take, drop}
-use lib.Dec.{ltb, eqb}
+use lib.ListN.{length}
+use lib.Dec.{eqb}
 use Rattle.tables.specs.declared.Page.{Page}
 use Rattle.tables.specs.declared.Shared.{Shared}
 use Rattle.tables.specs.declared.Tables.{Tables}
@@ -12,7 +12,7 @@ use Rattle.tables.specs.declared.Holder.{Holder}
 use Rattle.tables.specs.declared.Edit.the-variants.{Kept}
 use Rattle.tables.specs.Numbers.{accepted}
 use Rattle.tables.specs.Model.{inUse, absent, pageAt}
-use Rattle.tables.specs.Search.{inPages}
+use Rattle.tables.specs.Register.{registered}
 use Rattle.tables.specs.Changes.{changed, edited, after}
 use Rattle.tables.specs.Keep.{unchanged}
 use Rattle.steps.specs.declared.Call.{Call}
@@ -20,7 +20,6 @@ use Rattle.steps.specs.declared.Work.the-variants.{Nothing}
 use Rattle.steps.specs.declared.Verdict.{Verdict}
 use Rattle.steps.specs.declared.Decision.{Decision}
 use Rattle.steps.specs.declared.Place.{Place}
-use Rattle.steps.specs.Kinds.{frame, has}
 use Rattle.steps.specs.Calls.{nameOutside, frameOutside, spanOutside}
 use Rattle.steps.specs.Steps.{Outcome, refuse, accept, Plan, test, copyAt, currents, firstCurrent, numbered, decideOn, pageFor, numberOf}
 use Rattle.steps.specs.Promises.{laidOf, lenOf, workOf, settled}
@@ -79,19 +78,9 @@ frameCount a = a .p + a .s
 unfoldable pub decidedOn : Shared → Page → Holder → Call → ℕ → Decision
 decidedOn a g h c size = decision (c .page) g (verdictOf (decideOn (record { frames = frameCount a; page = g; holder = h }) c size))
 
--- ---- the search
-
--- among the pages from page i on
-abbrev pub holderFrom : Tables → ℕ → ℕ → Holder
-holderFrom t f i = inPages f i (take (64 - i) (drop i (t .pages)))
-
--- where it starts: nowhere, if the call names no frame in range
-abbrev pub searchStart : Shared → Call → ℕ
-searchStart a c = cond (has frame (c .kind) && ltb (c .frame) (frameCount a)) 0 64
-
 -- the decision on the tables, as the code comes to it: a page number above 63 is refused whatever the record is
 abbrev pub decidedAt : Tables → Call → ℕ → Decision
-decidedAt t c size = decidedOn (t .shared) (pageAt t (c .page % 64)) (holderFrom t (c .frame) (searchStart (t .shared) c)) c size
+decidedAt t c size = decidedOn (t .shared) (pageAt t (c .page % 64)) (registered t (c .frame)) c size
 
 -- 5 or 6 before a decision
 abbrev pub ruled : ℕ → Decision → Decision
@@ -114,15 +103,11 @@ abbrev pub tablesLeft : Tables → Call → Outcome Plan → Tables
 tablesLeft t c (refuse n) = t
 tablesLeft t c (accept plan) = after t (edited t (pageFor t c) (plan .edit))
 
--- the tables after a decision: they stay where they are, or its change is put into them
-abbrev pub tablesAfter : Tables → Decision → Tables
-tablesAfter t d = cond (d .moved) (settled t d) t
-
 -- of a decision d of a call c on tables t that comes to o
 pub record Decides (t : Tables) (c : Call) (o : Outcome Plan) (d : Decision) : Type 0 where
   pub number-told : d .number ≡ numberOf o
   pub laid-told : d .laid ≡ laidOf o
   pub len-told : d .len ≡ lenOf o
   pub work-told : d .work ≡ workOf o
-  pub tables-told : tablesAfter t d ≡ tablesLeft t c o
+  pub tables-told : settled t d ≡ tablesLeft t c o
   pub before-told : numberOf o ≡ accepted → d .before ≡ pageAt t (pageFor t c)

@@ -79,9 +79,9 @@ decisionOf t c o =
       work = workOf o;
     }
 
--- the tables with a decision's change put into them
+-- the tables after a decision: with its change put into them, where they move
 abbrev pub settled : Tables → Decision → Tables
-settled t d = after t (d .change)
+settled t d = cond (d .moved) (after t (d .change)) t
 
 -- ---- what was decided, carried out
 

@@ -8,21 +8,21 @@ use lib.Dec.{leb, eqb}
 use Rattle.tables.specs.declared.Copy.{Copy}
 use Rattle.tables.specs.declared.Page.{Page}
 use Rattle.tables.specs.declared.Tables.{Tables}
-use Rattle.tables.specs.declared.Holder.the-variants.{Free}
+use Rattle.tables.specs.declared.Holder.{Holder}
 use Rattle.tables.specs.declared.Edit.{Edit}
 use Rattle.tables.specs.declared.Edit.the-variants.{Kept, Created, Deleted, Granted, Staled, Placed, Added, Removed, Marked}
 use Rattle.tables.specs.Lists.{count}
 use Rattle.tables.specs.Numbers.{accepted, brokenTables, misfitStore, outOfRange, pageStands, noPage, noRight, nothingCurrent, noCopy, frameHeld, eightCopies, lastRecent, stale, noFrame}
 use Rattle.tables.specs.Model.{frames, isNull, inUse, absent, noCopyEntry, pageAt}
 use Rattle.tables.specs.Rules.{isCurrent, isRecent, sound}
-use Rattle.tables.specs.Search.{holderOf, isFree}
+use Rattle.tables.specs.Search.{isFree}
+use Rattle.tables.specs.Register.{registered}
 use Rattle.steps.specs.declared.Kind.{Kind}
 use Rattle.steps.specs.declared.Kind.the-variants.{Create, DeletePage, Grant, Read, Write, MakeCopy, DeleteCopy, SetCurrent, RemoveCurrent, LookPage, LookFrame}
 use Rattle.steps.specs.declared.Call.{Call}
 use Rattle.steps.specs.declared.View.{View}
 use Rattle.steps.specs.declared.Work.{Work}
 use Rattle.steps.specs.declared.Work.the-variants.{Nothing, Clear, Duplicate, Spread, Show, ShowPage, ShowHolder}
-use Rattle.steps.specs.Kinds.{frame, has}
 use Rattle.steps.specs.Calls.{nameOutside, frameOutside, spanOutside}
 use Rattle.steps.specs.Stores.{fits}
 
@@ -142,14 +142,13 @@ decideOn v c size =
 abbrev pub pageFor : Tables → Call → ℕ
 pageFor t c = c .page
 
--- what it looks at: the record of its page, and the holder of its frame; where it names none, none is sought
+-- what it looks at, with the holder of its frame as `look` tells it
+abbrev pub viewBy : (Tables → ℕ → Holder) → Tables → Call → View
+viewBy look t c = record { frames = frames t; page = pageAt t (pageFor t c); holder = look t (c .frame) }
+
+-- "Looking at a frame then reads the register": that this is what the search gives is `registered-is`, and for a step `step-searched`
 abbrev pub viewOf : Tables → Call → View
-viewOf t c =
-    record {
-      frames = frames t;
-      page = pageAt t (pageFor t c);
-      holder = cond (has frame (c .kind)) (holderOf t (c .frame)) Free;
-    }
+viewOf t c = viewBy registered t c
 
 -- what it comes to on tables that keep the rules, with stores that fit
 abbrev pub decide : Tables → Call → ℕ → Outcome Plan

@@ -18,7 +18,6 @@ use crate::copies::set_current;
 use crate::looks::look_page;
 use crate::pages::create;
 use crate::pages::owner_step;
-use crate::range::names_frame;
 use crate::range::outside;
 use tables::Change;
 use tables::Edit;
@@ -28,12 +27,10 @@ use tables::Shared;
 use tables::Tables;
 ghost use mathlib.Core.Path.{_≡_};
 ghost use Prim.Native.Nat.{_<_};
-ghost use Rattle.tables.specs.declared.Holder.the-variants.{At};
-ghost use Rattle.tables.specs.Model.{inUse, pageAt};
-ghost use Rattle.tables.specs.Search.{copyOn};
+ghost use Rattle.tables.specs.Model.{pageAt};
 ghost use Rattle.steps.specs.Steps.{refuse, accept, decideOn, decide, decideAny};
 ghost use Rattle.steps.specs.Promises.{rulesNumber, decisionOf, settled};
-ghost use Rattle.steps.specs.Private.{verdictOf, ruled, frameCount, decidedOn, holderFrom, searchStart, decidedAt};
+ghost use Rattle.steps.specs.Private.{verdictOf, ruled, frameCount, decidedOn, decidedAt};
 
 // Turned back with a number of document 01's table.
 pub(crate) fn refused(number: u8) -> Verdict
@@ -131,31 +128,7 @@ fn decided(shared: Shared, page: Page, holder: Holder, call: Call, size: usize) 
     }
 }
 
-// The page from which the search for the holder of the call's frame starts: past the last one where the call names no frame
-// in range, and so none is sought.
-fn search_start(shared: Shared, call: Call) -> usize
-    ensures { λ r. ⌜ r ≡ searchStart shared call ⌝ }
-{
-    let kind = call.kind;
-    if names_frame(kind) & ((call.frame as u16) < frame_count(shared)) {
-        0
-    } else {
-        64
-    }
-}
-
-// Copy k of page i as a holder.
-fn held(i: usize, k: u8) -> Holder
-    requires { ⌜ i < 64 ⌝ }
-    ensures { λ r. ⌜ r ≡ At i k ⌝ }
-{
-    Holder::At {
-        page: i as u8,
-        copy: k,
-    }
-}
-
-// The four functions that follow read the tables through a reference, so that they are not copied.
+// The two functions that follow read the tables through a reference, so that they are not copied.
 
 // The record of a page.
 fn page_at(tables: &Tables, i: usize) -> Page
@@ -165,38 +138,13 @@ fn page_at(tables: &Tables, i: usize) -> Page
     tables.pages[i]
 }
 
-// The number of a page's first copy on a frame; 8 where none is.
-fn copy_on(tables: &Tables, frame: u8, i: usize) -> u8
-    requires { ⌜ i < 64 ⌝ }
-    ensures { λ r. ⌜ r ≡ copyOn frame 0 (inUse (pageAt (now (tables .entry)) i)) ⌝ }
-{
-    let page = page_at(tables, i);
-    page.copy_on(frame)
-}
-
-// The first copy on the frame, among the pages from `start` on.
-fn search(tables: &Tables, frame: u8, start: usize) -> Holder
-    ensures { λ r. ⌜ r ≡ holderFrom (now (tables .entry)) frame start ⌝ }
-{
-    let mut i = start;
-    while i < 64 {
-        let k = copy_on(tables, frame, i);
-        if k < 8 {
-            return held(i, k);
-        }
-        i += 1;
-    }
-    Holder::Free
-}
-
 // What a call comes to. A page number above 63 is refused whatever the record is.
 fn judge_at(tables: &Tables, call: Call, size: usize) -> Decision
     ensures { λ r. ⌜ r ≡ decidedAt (now (tables .entry)) call size ⌝ }
 {
     let shared = tables.shared;
     let page = page_at(tables, (call.page % 64) as usize);
-    let start = search_start(shared, call);
-    let holder = search(tables, call.frame, start);
+    let holder = tables.registered(call.frame);
     decided(shared, page, holder, call, size)
 }
 
@@ -260,10 +208,14 @@ pub fn judge_any(
     ruled(number, d)
 }
 
-// The tables with what was decided put into them; a caller that sees `moved` false keeps its own. Small, so that it is part of its caller.
+// The tables with what was decided put into them, where it moves them. A caller that sees `moved` false can spare the call. Small, so
+// that it is part of its caller.
 pub fn settle(tables: Tables, d: Decision) -> Tables
     ensures { λ r. ⌜ r ≡ settled tables d ⌝ }
 {
     let change = d.change;
-    tables.after(change)
+    if d.moved {
+        return tables.after(change);
+    }
+    tables
 }

@@ -6,18 +6,20 @@ use native.Mathlib.Decide.{ℕ-discrete}
 use native.Mathlib.Nat.{le-refl}
 use native.Mathlib.Omega.{arith}
 use lib.Dec.{eqb}
-use lib.ListN.{getD, set, length-set}
+use lib.ListN.{length, getD, set, length-set}
 use lib.Seq.{getD-set-same, getD-set-other}
-use borrow.Author.Tests.{eqb-true, ne-eqb}
+use borrow.Author.Tests.{eqb-true, ne-eqb, lt-ltb}
 use Rattle.tables.specs.declared.Page.{Page}
 use Rattle.tables.specs.declared.Tables.{Tables}
 use Rattle.tables.specs.declared.Edit.{Edit}
 use Rattle.tables.specs.declared.Edit.the-variants.{Kept, Created, Deleted, Granted, Staled, Placed, Added, Removed, Marked}
-use Rattle.tables.specs.Lists.{count}
-use Rattle.tables.specs.Model.{frames, inUse, absent, freshPage, noPageRecord, pageAt, withPage}
-use Rattle.tables.specs.Rules.{onFrame, uses, free, pageRule, sound}
-use Rattle.tables.specs.Changes.{created, granted, changed, edited, after}
-use Rattle.tables.proofs.RuleLaws.{StandingPage, of-standing, fresh-page-ok, Sound, sound-of, of-sound, standing-at}
+use Rattle.tables.specs.Lists.{all, count}
+use Rattle.tables.specs.Model.{frames, inUse, absent, freshPage, noPageRecord, pageAt, onFrame}
+use Rattle.tables.specs.Rules.{uses, free, pageRule, sound}
+use Rattle.tables.specs.Changes.{created, granted, changed, edited, withPage, after}
+use Rattle.tables.proofs.ListLaws.{all-of}
+use Rattle.tables.proofs.RuleLaws.{StandingPage, of-standing, fresh-page-ok, Sound, sound-of, of-sound, pages-ruled, few-uses, standing-at}
+use Rattle.tables.proofs.RegisterLaws.{length-after, register-after}
 use Rattle.tables.proofs.FreshLaws.{fresh-on}
 use Rattle.tables.proofs.UsesLaws.{uses-set}
 use Rattle.tables.proofs.Allowed.{Allowed}
@@ -32,14 +34,24 @@ module _ (t : Tables) (p : ℕ) (h : p < 64) (s : Sound t) where
       record {
         fast-ok = s .fast-ok;
         slow-ok = s .slow-ok;
-        pages-long = length-set (t .pages) p g ∙ s .pages-long;
+        pages-long = long;
         page-ok = λ k l. at k l (ℕ-discrete k p);
         once = once;
+        register-long = rw (lt-ltb p 64 h) (length-after p (pageAt t p) g (t .register) ∙ s .register-long);
+        register-ok = λ f l. rw (lt-ltb p 64 h)
+            (register-after (t .pages) p g f (rw (s .pages-long) h) (few-uses (frames t) (t .pages) (pages-ruled t s) (s .once) f l)
+            (few-uses (frames t) (set (t .pages) p g) ruled once f l) (t .register) (rw (s .register-long) l) (s .register-ok f l));
       }
     where
+      long : length (set (t .pages) p g) ≡ 64
+      long = length-set (t .pages) p g ∙ s .pages-long
+
       at : (k : ℕ) → k < 64 → Dec (k ≡ p) → pageRule (frames t) (getD (set (t .pages) p g) k noPageRecord) ≡ true
       at k l (yes e) = rw (e, getD-set-same (t .pages) p g noPageRecord (rw (s .pages-long) h)) ok
       at k l (no d) = rw (getD-set-other (t .pages) p k g noPageRecord d) (s .page-ok k l)
+
+      ruled : all (pageRule (frames t)) (set (t .pages) p g) ≡ true
+      ruled = all-of (pageRule (frames t)) (set (t .pages) p g) noPageRecord (λ k l. at k (rw long at l) (ℕ-discrete k p))
 
   -- one with no copy on another frame
   fewer : (g : Page) → pageRule (frames t) g ≡ true

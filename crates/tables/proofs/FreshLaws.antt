@@ -1,12 +1,14 @@
 -- Fresh tables meet the table rules, and no frame of theirs is used.
 use Prim.Native.Nat.{ℕ, zero, suc, _+_, _≤_}
 use mathlib.Core.Bool.{true}
-use mathlib.Core.Path.{_≡_, refl}
+use mathlib.Core.Path.{_≡_, refl, sym, ap, _∙_}
 use native.Mathlib.Omega.{arith}
 use lib.ListN.{replicate, length-replicate, getD-replicate}
 use Rattle.tables.specs.Lists.{count}
-use Rattle.tables.specs.Model.{inUse, freshPage, freshTables, noPageRecord}
-use Rattle.tables.specs.Rules.{onFrame, uses, sound}
+use Rattle.tables.specs.Model.{noHolder, inUse, freshPage, freshTables, noPageRecord, onFrame}
+use Rattle.tables.specs.Rules.{uses, sound}
+use Rattle.tables.specs.Register.{entryOf}
+use Rattle.tables.proofs.HolderLaws.{nobody}
 use Rattle.tables.proofs.RuleLaws.{fresh-page-ok, of-sound}
 
 -- an absent page has no copy
@@ -31,4 +33,6 @@ fresh-sound p s hp hs =
       pages-long = length-replicate 64 freshPage;
       page-ok = λ k h. rw (getD-replicate 64 k freshPage noPageRecord h) (fresh-page-ok (p + s));
       once = λ f h. let k = uses-fresh f 64 in omega arith;
+      register-long = length-replicate 254 noHolder;
+      register-ok = λ f h. getD-replicate 254 f noHolder noHolder h ∙ ap entryOf (sym (nobody f 0 (replicate 64 freshPage) (uses-fresh f 64)));
     })

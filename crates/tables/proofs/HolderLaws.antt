@@ -1,4 +1,4 @@
--- A free frame is one that the search for a frame's holder does not find.
+-- The search for a frame's holder: whom it passes over, and that a free frame is one that it does not find.
 use Prim.Native.Nat.{ℕ, _+_}
 use mathlib.Core.Bool.{Bool, true, false, _&&_, cond}
 use mathlib.Core.List.{List, [], _∷_}
@@ -11,12 +11,33 @@ use Rattle.tables.specs.declared.Copy.{Copy}
 use Rattle.tables.specs.declared.Page.{Page}
 use Rattle.tables.specs.declared.Tables.{Tables}
 use Rattle.tables.specs.declared.Holder.{Holder}
-use Rattle.tables.specs.declared.Holder.the-variants.{At}
+use Rattle.tables.specs.declared.Holder.the-variants.{At, Free}
 use Rattle.tables.specs.Lists.{count}
-use Rattle.tables.specs.Model.{inUse}
-use Rattle.tables.specs.Rules.{onFrame, uses, free}
+use Rattle.tables.specs.Model.{inUse, onFrame}
+use Rattle.tables.specs.Rules.{uses, free}
 use Rattle.tables.specs.Search.{inCopies, inPages, holderOf, isFree}
 use Rattle.tables.proofs.ListLaws.{and-left, and-right, iff-eq, and-intro}
+
+-- ---- whom it passes over
+
+-- copies that are not on frame f are passed over
+pub skip : (f p k : ℕ) (cs : List Copy) (h : Holder) → count (onFrame f) cs ≡ 0 → inCopies f p k cs h ≡ h
+unfolding inCopies count
+skip f p k [] h e = refl
+skip f p k (c ∷ cs) h e = by (onFrame f c) (skip f p (k + 1) cs h) e
+  where
+    by : (b : Bool) → (count (onFrame f) cs ≡ 0 → inCopies f p (k + 1) cs h ≡ h) → cond b 1 0 + count (onFrame f) cs ≡ 0
+        → cond b (At p k) (inCopies f p (k + 1) cs h) ≡ h
+    by true rest e = absurd (omega arith)
+    by false rest e = rest (omega arith)
+
+-- a frame that no copy is on has no holder
+pub nobody : (f b : ℕ) (gs : List Page) → uses f gs ≡ 0 → inPages f b gs ≡ Free
+unfolding inPages uses
+nobody f b [] e = refl
+nobody f b (g ∷ gs) e = skip f b 0 (inUse g) (inPages f (b + 1) gs) (omega arith) ∙ nobody f (b + 1) gs (omega arith)
+
+-- ---- a free frame
 
 sum-zero : (a b : ℕ) → (eqb a 0 && eqb b 0) ≡ eqb (a + b) 0
 sum-zero a b =
@@ -38,7 +59,7 @@ free-copies f p c (x ∷ xs) later = by (onFrame f x) (free-copies f p (c + 1) x
     by true k = rw (ne-eqb (1 + count (onFrame f) xs) 0 (λ z. omega arith))
     by false k = rw (zero-add (count (onFrame f) xs)) k
 
-free-pages : (f p : ℕ) (gs : List Page) → isFree (inPages f p gs) ≡ eqb (uses f gs) 0
+pub free-pages : (f p : ℕ) (gs : List Page) → isFree (inPages f p gs) ≡ eqb (uses f gs) 0
 unfolding inPages uses
 free-pages f p [] = refl
 free-pages f p (g ∷ gs) =

@@ -13,10 +13,13 @@ use Rattle.tables.specs.declared.Tables.{Tables}
 use Rattle.tables.specs.declared.Edit.{Edit}
 use Rattle.tables.specs.declared.Edit.the-variants.{Kept, Created, Deleted, Granted, Staled, Placed, Added, Removed, Marked}
 use Rattle.tables.specs.Lists.{all}
-use Rattle.tables.specs.Model.{noCopyEntry, pageAt}
+use Rattle.tables.specs.Model.{noCopyEntry, noPageRecord, pageAt}
+use Rattle.tables.specs.Rules.{sound}
 use Rattle.tables.specs.Changes.{staleCopy, markedCopy, withCopies, changed, edited, after}
 use Rattle.tables.specs.Keep.{staysRecent, agree, isMarked, unchanged}
 use Rattle.tables.proofs.ListLaws.{and-left, and-right}
+use Rattle.tables.proofs.RuleLaws.{sound-of}
+use Rattle.tables.proofs.RegisterLaws.{register-same}
 
 copy-stays : (c : Copy) → staysRecent c ≡ true → staleCopy c ≡ c
 copy-stays c e = ap (λ (b : Bool). record { frame = c .frame; current = c .current; recent = b }) (go (c .recent) (c .current) e)
@@ -60,7 +63,7 @@ unchanged-same g (Added frame recent) e = absurd (false≢true e)
 unchanged-same g (Removed k) e = absurd (false≢true e)
 unchanged-same g (Marked k current) e = ap (withCopies g (g .n)) (marks-stay (g .copies) k current e)
 
--- the tables are then as they were
-pub unchanged-after : (t : Tables) (p : ℕ) (c : Edit) → unchanged (pageAt t p) c ≡ true → after t (edited t p c) ≡ t
+-- sound tables are then as they were
+pub unchanged-after : (t : Tables) (p : ℕ) (c : Edit) → sound t ≡ true → unchanged (pageAt t p) c ≡ true → after t (edited t p c) ≡ t
 unfolding after
-unchanged-after t p c e = rw (unchanged-same (pageAt t p) c e, set-getD (t .pages) p _)
+unchanged-after t p c ok e = rw (unchanged-same (pageAt t p) c e, set-getD (t .pages) p noPageRecord, register-same t (sound-of t ok) p)

@@ -10,5 +10,10 @@ pub mod PageChanges
 pub mod ChangeSound
 pub mod Loops
 pub mod Filling
+pub mod PassLaws
+pub mod RegisterLaws
+pub mod SumLaws
 pub mod ScanLaws
 pub mod KeepLaws
+pub mod ByRef
+pub mod Rows

@@ -57,6 +57,14 @@ pub bit-le : (b : Bool) → cond b 1 0 ≤ 1
 bit-le true = omega arith
 bit-le false = omega arith
 
+-- ---- the default of `getD`
+
+-- within a list what stands past its end does not matter
+pub any-default : {A : Type 0} (l : List A) (i : ℕ) (d e : A) → i < length l → getD l i d ≡ getD l i e
+any-default [] i d e h = absurd (not-suc-le-zero h)
+any-default (x ∷ xs) zero d e h = refl
+any-default (x ∷ xs) (suc i) d e h = any-default xs i d e (le-of-suc-le-suc h)
+
 -- ---- a test of every element
 
 module _ {A : Type 0} (f : A → Bool) where
@@ -191,6 +199,18 @@ module _ {A : Type 0} (f : A → Bool) where
           → (i : ℕ) × (i < suc (length xs)) × (f (getD (x ∷ xs) i d) ≡ true)
       by true e k h = (zero, suc-le-suc zero-le, e)
       by false e k h = let w = k (omega arith) in (suc (w .0), suc-le-suc (w .1), w .2)
+
+  -- where the test holds at no index, of none
+  pub count-none : (l : List A) (d : A) → ((i : ℕ) → i < length l → f (getD l i d) ≡ false) → count f l ≡ 0
+  unfolding count
+  count-none [] d h = refl
+  count-none (x ∷ xs) d h = rw (h zero (suc-le-suc zero-le), count-none xs d (λ i k. h (suc i) (suc-le-suc k)))
+
+  -- where it holds at each, of all
+  pub count-all : (l : List A) (d : A) → ((i : ℕ) → i < length l → f (getD l i d) ≡ true) → count f l ≡ length l
+  unfolding count
+  count-all [] d h = refl
+  count-all (x ∷ xs) d h = rw (h zero (suc-le-suc zero-le), count-all xs d (λ i k. h (suc i) (suc-le-suc k))) (omega arith)
 
 -- of the images of the elements
 pub count-map : {A B : Type 0} (f : B → Bool) (g : A → Bool) (h : A → B) (l : List A) → ((a : A) → f (h a) ≡ g a) → count f (map h l) ≡ count g l

@@ -1,4 +1,4 @@
--- A loop that goes through a list: at index j what is left is `drop j` of it.
+-- A loop that goes through a list, or the copies of a page: at index j what is left is `drop j` of it.
 use Prim.Native.Nat.{ℕ, _+_, _≤_, _<_}
 use mathlib.Core.Path.{_≡_, ap, _∙_}
 use mathlib.Core.List.{List, [], _∷_}
@@ -6,6 +6,9 @@ use native.Mathlib.Numerals.{add-one}
 use native.Mathlib.Omega.{arith}
 use lib.ListN.{length, getD, take, drop, length-take, drop-of-length-le}
 use lib.Seq.{drop-cons, getD-take}
+use Rattle.tables.specs.declared.Copy.{Copy}
+use Rattle.tables.specs.declared.Page.{Page}
+use Rattle.tables.specs.Model.{inUse, noCopyEntry}
 
 module _ {A : Type 0} where
   -- one element more
@@ -23,3 +26,15 @@ module _ {A : Type 0} where
 
   pub first-end : (n : ℕ) (l : List A) (j : ℕ) → n ≤ j → drop j (take n l) ≡ []
   first-end n l j h = drop-end (take n l) j (simp length-take (omega arith))
+
+-- an index of a copy in use is below n
+pub use-low : (g : Page) (j : ℕ) → j < length (inUse g) → j < g .n
+use-low g j h =
+    let b : length (inUse g) ≤ g .n = simp length-take (omega arith) in
+    omega arith
+
+-- one copy of a page more
+pub use-more : (g : Page) (j : ℕ) → j < length (inUse g) → drop j (inUse g) ≡ getD (g .copies) j noCopyEntry ∷ drop (j + 1) (inUse g)
+use-more g j h =
+    drop-more (inUse g) j noCopyEntry h
+    ∙ ap {B = List Copy} (λ (c : Copy). c ∷ drop (j + 1) (inUse g)) (getD-take (g .n) (g .copies) j noCopyEntry (use-low g j h))

@@ -12,8 +12,8 @@ use Rattle.tables.specs.declared.Copy.{Copy}
 use Rattle.tables.specs.declared.Page.{Page}
 use Rattle.tables.specs.declared.Edit.the-variants.{Granted, Staled, Placed, Added, Removed, Marked}
 use Rattle.tables.specs.Lists.{all, count}
-use Rattle.tables.specs.Model.{isNull, inUse, freshCopy, noCopyEntry}
-use Rattle.tables.specs.Rules.{onFrame, isFresh, copyRule, isRecent, isCurrent, atMost}
+use Rattle.tables.specs.Model.{isNull, inUse, freshCopy, noCopyEntry, onFrame}
+use Rattle.tables.specs.Rules.{isFresh, copyRule, isRecent, isCurrent, atMost}
 use Rattle.tables.specs.Changes.{created, withCopies, staleCopy, newCopy, closeGap, markedCopy, changed}
 use Rattle.tables.proofs.ListLaws.{and-intro, not-so, all-of, all-append, all-drop, all-imp, all-map, all-set, count-append, count-at, count-le, count-map, count-set, count-some}
 use Rattle.tables.proofs.RuleLaws.{GoodCopy, good-copy, of-good-copy, current-placed, StandingPage, length-in-use, copy-at, fresh-copy}

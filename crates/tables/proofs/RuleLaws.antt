@@ -1,19 +1,22 @@
 -- What the table rules say, part by part, and back: of a copy, of a page, of the tables.
 use Prim.Native.Nat.{ℕ, _≤_, _<_}
 use mathlib.Core.Bool.{Bool, true, false, not, _&&_, _||_, cond, true≢false}
+use mathlib.Core.List.{List, [], _∷_}
 use mathlib.Core.Path.{_≡_, refl, sym, ap, _∙_}
 use native.Mathlib.Omega.{arith}
 use lib.Dec.{leb, ltb, eqb}
-use lib.ListN.{length, getD, drop}
+use lib.ListN.{length, getD, take, drop, length-take}
 use lib.Seq.{length-take-le, getD-take}
-use borrow.Author.Tests.{ltb-true, leb-true, eqb-true, eqb-false, not-true, lt-ltb, le-leb, eq-eqb, ne-eqb}
+use borrow.Author.Tests.{ltb-true, ltb-false, leb-true, eqb-true, eqb-false, not-true, lt-ltb, le-leb, eq-eqb, ne-eqb}
 use Rattle.tables.specs.declared.Copy.{Copy}
 use Rattle.tables.specs.declared.Page.{Page}
 use Rattle.tables.specs.declared.Tables.{Tables}
-use Rattle.tables.specs.Lists.{all, count}
-use Rattle.tables.specs.Model.{frames, isNull, inUse, absent, freshCopy, freshPage, noCopyEntry, noPageRecord, pageAt}
+use Rattle.tables.specs.Lists.{all, count, allBelow}
+use Rattle.tables.specs.Model.{frames, noHolder, isNull, inUse, absent, onFrame, freshCopy, freshPage, noCopyEntry, noPageRecord, pageAt}
 use Rattle.tables.specs.Rules.{uses, isFresh, copyRule, isRecent, atMost, standingRule, absentRule, shaped, pageRule, alone, sound}
-use Rattle.tables.proofs.ListLaws.{and-left, and-right, and-intro, or-left, or-right, not-so, all-at, all-of, below-at, below-of}
+use Rattle.tables.specs.Search.{holderOf}
+use Rattle.tables.specs.Register.{entryOf, rightRegister}
+use Rattle.tables.proofs.ListLaws.{and-left, and-right, and-intro, or-left, or-right, not-so, all-first, all-rest, all-at, all-of, below-at, below-of}
 
 -- ---- a copy
 
@@ -148,6 +151,49 @@ pub fresh-page-ok : (limit : ℕ) → pageRule limit freshPage ≡ true
 unfolding pageRule absentRule freshPage all
 fresh-page-ok limit = refl
 
+-- ---- the copies of any page
+
+-- each meets the rule of a copy
+pub copies-ruled : (limit : ℕ) (g : Page) → pageRule limit g ≡ true → all (copyRule limit (g .n)) (inUse g) ≡ true
+unfolding all
+copies-ruled limit g e = go (absent g) refl
+  where
+    go : (b : Bool) → absent g ≡ b → all (copyRule limit (g .n)) (inUse g) ≡ true
+    go true q = rw (ap (λ (n : ℕ). take n (g .copies)) (eqb-true (g .n) 0 q))
+    go false q = standing limit g e q .copies-ok
+
+-- they are eight at the most
+pub eight : (limit : ℕ) (g : Page) → pageRule limit g ≡ true → length (inUse g) ≤ 8
+unfolding pageRule
+eight limit g e =
+    let s = and-left (shaped g) _ e in
+    let l : length (g .copies) ≡ 8 = eqb-true _ 8 (and-right (eqb (length (g .rights)) 16) _ s) in
+    let m = length-take (g .n) (g .copies) in
+    omega arith
+
+-- none is on a frame past the last one
+module _ (limit f : ℕ) (past : limit ≤ f) (small : f < 255) where
+  copy-past : (n : ℕ) (c : Copy) → GoodCopy limit n c → onFrame f c ≡ false
+  copy-past n c o = by (isNull c) refl
+    where
+      by : (b : Bool) → isNull c ≡ b → eqb (c .frame) f ≡ false
+      by true e = let k = eqb-true (c .frame) 255 e in ne-eqb (c .frame) f (λ z. omega arith)
+      by false e = let k = o .placed e in ne-eqb (c .frame) f (λ z. omega arith)
+
+  copies-past : (n : ℕ) (cs : List Copy) → all (copyRule limit n) cs ≡ true → count (onFrame f) cs ≡ 0
+  unfolding count
+  copies-past n [] e = refl
+  copies-past n (c ∷ cs) e =
+      rw (copy-past n c (good-copy limit n c (all-first (copyRule limit n) c cs e)), copies-past n cs (all-rest (copyRule limit n) c cs e))
+
+  pub uses-past : (gs : List Page) → all (pageRule limit) gs ≡ true → uses f gs ≡ 0
+  unfolding uses
+  uses-past [] e = refl
+  uses-past (g ∷ gs) e =
+      let own = copies-past (g .n) (inUse g) (copies-ruled limit g (all-first (pageRule limit) g gs e)) in
+      let rest = uses-past gs (all-rest (pageRule limit) g gs e) in
+      omega arith
+
 -- ---- the tables
 
 -- the table rules
@@ -157,14 +203,18 @@ pub record Sound (t : Tables) : Type 0 where
   pub pages-long : length (t .pages) ≡ 64
   pub page-ok : (p : ℕ) → p < 64 → pageRule (frames t) (pageAt t p) ≡ true
   pub once : (f : ℕ) → f < frames t → uses f (t .pages) ≤ 1
+  pub register-long : length (t .register) ≡ 254
+  pub register-ok : (f : ℕ) → f < 254 → getD (t .register) f noHolder ≡ entryOf (holderOf t f)
 
 -- the parts of the table rules
 pub sound-of : (t : Tables) → sound t ≡ true → Sound t
-unfolding sound alone
+unfolding sound alone rightRegister
 sound-of t e =
     let e₁ = and-right (leb (t .shared .p) 127) _ e in
     let e₂ = and-right (leb (t .shared .s) 127) _ e₁ in
     let e₃ = and-right (eqb (length (t .pages)) 64) _ e₂ in
+    let e₄ = and-right (all (pageRule (frames t)) (t .pages)) _ e₃ in
+    let e₅ = and-right (allBelow (frames t) (λ f. leb (uses f (t .pages)) 1)) _ e₄ in
     let l : length (t .pages) ≡ 64 = eqb-true _ 64 (and-left (eqb (length (t .pages)) 64) _ e₂) in
     record {
       fast-ok = leb-true (t .shared .p) 127 (and-left (leb (t .shared .p) 127) _ e);
@@ -174,16 +224,35 @@ sound-of t e =
           all-at (pageRule (frames t)) (t .pages) p noPageRecord (and-left (all (pageRule (frames t)) (t .pages)) _ e₃) (rw l h);
       once = λ f h.
           leb-true (uses f (t .pages)) 1
-          (below-at (frames t) (λ f. leb (uses f (t .pages)) 1) f (and-right (all (pageRule (frames t)) (t .pages)) _ e₃) h);
+          (below-at (frames t) (λ f. leb (uses f (t .pages)) 1) f (and-left (allBelow (frames t) (λ f. leb (uses f (t .pages)) 1)) _ e₄) h);
+      register-long = eqb-true _ 254 (and-left (eqb (length (t .register)) 254) _ e₅);
+      register-ok = λ f h.
+          eqb-true _ _
+          (below-at 254 (λ f. eqb (getD (t .register) f noHolder) (entryOf (holderOf t f))) f (and-right (eqb (length (t .register)) 254) _ e₅) h);
     }
 
 -- and the rules from their parts
 pub of-sound : (t : Tables) → Sound t → sound t ≡ true
-unfolding sound alone
+unfolding sound alone rightRegister
 of-sound t s =
     and-intro (le-leb _ _ (s .fast-ok)) (and-intro (le-leb _ _ (s .slow-ok)) (and-intro (eq-eqb _ _ (s .pages-long))
     (and-intro (all-of (pageRule (frames t)) (t .pages) noPageRecord (λ p h. s .page-ok p (rw (s .pages-long) at h)))
-    (below-of (frames t) (λ f. leb (uses f (t .pages)) 1) (λ f h. le-leb _ _ (s .once f h))))))
+    (and-intro (below-of (frames t) (λ f. leb (uses f (t .pages)) 1) (λ f h. le-leb _ _ (s .once f h)))
+    (and-intro (eq-eqb _ _ (s .register-long))
+    (below-of 254 (λ f. eqb (getD (t .register) f noHolder) (entryOf (holderOf t f))) (λ f h. eq-eqb _ _ (s .register-ok f h))))))))
+
+-- all pages of sound tables
+pub pages-ruled : (t : Tables) → Sound t → all (pageRule (frames t)) (t .pages) ≡ true
+pages-ruled t s = all-of (pageRule (frames t)) (t .pages) noPageRecord (λ p h. s .page-ok p (rw (s .pages-long) at h))
+
+-- no number below 254 is a frame under two copies
+pub few-uses : (limit : ℕ) (gs : List Page) → all (pageRule limit) gs ≡ true → ((f : ℕ) → f < limit → uses f gs ≤ 1)
+    → (f : ℕ) → f < 254 → uses f gs ≤ 1
+few-uses limit gs ok once f h = by (ltb f limit) refl
+  where
+    by : (b : Bool) → ltb f limit ≡ b → uses f gs ≤ 1
+    by true e = once f (ltb-true f limit e)
+    by false e = let l = ltb-false f limit e in let z = uses-past limit f (omega arith) (omega arith) gs ok in omega arith
 
 -- a page that stands, of sound tables
 pub standing-at : (t : Tables) (p : ℕ) → Sound t → p < 64 → absent (pageAt t p) ≡ false → StandingPage (frames t) (pageAt t p)

@@ -1,230 +1,207 @@
--- The one pass over the pages answers what the table rules say.
+-- The one pass over the pages and the register answers what the table rules say.
 use Prim.Native.Nat.{ℕ, zero, suc, _+_, _≤_, _<_}
 use mathlib.Core.Path.{_≡_, refl, sym, ap, _∙_}
-use mathlib.Core.Bool.{Bool, true, false, not, _&&_, _||_, cond, true≢false, false≢true}
+use mathlib.Core.Bool.{Bool, true, false, not, _&&_, cond}
 use mathlib.Core.List.{List, [], _∷_}
 use native.Mathlib.Decide.{ℕ-discrete}
-use native.Mathlib.Nat.{zero-add}
 use native.Mathlib.Omega.{arith}
-use lib.ListN.{length, getD, set, take, replicate, length-set, length-replicate, getD-replicate}
-use lib.Seq.{getD-set-same, getD-set-other, set-getD}
-use lib.Dec.{leb, eqb}
-use borrow.Author.Tests.{not-true, eq-eqb, ne-eqb, eqb-true, le-leb, leb-true}
+use lib.ListN.{length, getD}
+use lib.Dec.{leb, ltb, eqb}
+use borrow.Author.Tests.{eqb-true, eq-eqb, ne-eqb, leb-true, le-leb, lt-ltb, ltb-true}
 use Rattle.tables.specs.declared.Copy.{Copy}
 use Rattle.tables.specs.declared.Page.{Page}
+use Rattle.tables.specs.declared.Holder.{Holder}
 use Rattle.tables.specs.Lists.{all, count}
-use Rattle.tables.specs.Model.{isNull, inUse, absent}
-use Rattle.tables.specs.Rules.{uses, onFrame, isRecent, copyRule, pageRule, alone}
-use Rattle.tables.specs.PrivateMarks.{noMarks, mark, marks, unmarked, scanCopies, scanPage, scanPages}
-use Rattle.tables.proofs.ListLaws.{and-left, and-right, and-intro, iff-eq, bit-le, below-at, below-of}
-use Rattle.tables.proofs.RuleLaws.{good-copy, standing}
+use Rattle.tables.specs.Model.{noHolder, onFrame, inUse, noPageRecord}
+use Rattle.tables.specs.Search.{inCopies, inPages}
+use Rattle.tables.specs.Rules.{uses, pageRule, alone}
+use Rattle.tables.specs.Register.{entry, entryOf, rightRegister}
+use Rattle.tables.specs.PrivatePass.{names, namesAll, scanPages, framesOfAll, taken}
+use Rattle.tables.proofs.ListLaws.{and-left, and-right, and-intro, iff-eq, all-at, all-first, all-rest, below-at, below-of}
+use Rattle.tables.proofs.RuleLaws.{eight, few-uses}
+use Rattle.tables.proofs.HolderLaws.{skip, nobody, free-pages}
+use Rattle.tables.proofs.RegisterLaws.{low-pages, entry-low}
+use Rattle.tables.proofs.SumLaws.{sumBelow, sum-same, sum-equal, taken-sum, uses-sum}
 
--- ---- the marks
+-- ---- the entries of copies name them just where each frame's entry is that of its only holder
 
--- 1 where frame f is marked
-abbrev hit : List Bool → ℕ → ℕ
-hit seen f = cond (getD seen f false) 1 0
+-- What the entry of frame f says of copies of page p, numbered from k on, before pages that use it n times and of which it has the holder h:
+-- at most one of all is on it, and that one is what the search finds.
+record Told (r : List ℕ) (p k : ℕ) (cs : List Copy) (n : ℕ) (h : Holder) (f : ℕ) : Type 0 where
+  once : count (onFrame f) cs + n ≤ 1
+  tells : 1 ≤ count (onFrame f) cs + n → getD r f noHolder ≡ entryOf (inCopies f p k cs h)
 
--- a mark for each number of a byte, and none for null copies
-record Clean (seen : List Bool) : Type 0 where
-  long : length seen ≡ 256
-  null : getD seen 255 false ≡ false
+-- the same of pages, numbered from p on
+record Points (r : List ℕ) (p : ℕ) (gs : List Page) (f : ℕ) : Type 0 where
+  once : uses f gs ≤ 1
+  tells : 1 ≤ uses f gs → getD r f noHolder ≡ entryOf (inPages f p gs)
 
-mark-null : (seen : List Bool) → Clean seen → mark seen 255 ≡ seen
-mark-null seen k = ap (set seen 255) (sym (k .null)) ∙ set-getD seen 255 false
+none : (m : ℕ) → (1 ≤ m → ⊥) → m ≡ 0
+none zero h = refl
+none (suc m) h = absurd (h (omega arith))
 
-module _ (seen : List Bool) (k : Clean seen) (g : ℕ) (small : g < 255) where
-  marked-as : mark seen g ≡ set seen g true
-  marked-as = ap (λ (b : Bool). set seen g (not b)) (ne-eqb g 255 (λ e. omega arith))
+-- ---- from the pass
 
-  mark-clean : Clean (mark seen g)
-  mark-clean =
-      record {
-        long = length-set seen g _ ∙ k .long;
-        null = getD-set-other seen g 255 _ false (λ e. omega arith) ∙ k .null;
-      }
-
-  -- frame g is marked, and the others are as they were
-  mark-hit : getD seen g false ≡ false → (f : ℕ) → hit (mark seen g) f ≡ cond (eqb g f) 1 0 + hit seen f
-  mark-hit new f = go (ℕ-discrete f g)
+module _ (limit : ℕ) (r : List ℕ) (f : ℕ) (small : f < 254) where
+  -- Entries that name copies of page p, numbered from k on, are no lower than that of the first of them: so they do not name two on one frame.
+  told : (p k : ℕ) (cs : List Copy) (n : ℕ) (h : Holder) → namesAll r p k cs ≡ true → k + length cs ≤ 8
+      → n ≤ 1 → (1 ≤ n → getD r f noHolder ≡ entryOf h) → (1 ≤ n → entry (p + 1) 0 ≤ getD r f noHolder)
+      → Told r p k cs n h f × (1 ≤ count (onFrame f) cs + n → entry p k ≤ getD r f noHolder)
+  unfolding namesAll count inCopies
+  told p k [] n h e few one tells least =
+      (record { once = omega arith; tells = λ z. tells (omega arith) }, λ z. let l = least (omega arith) in omega arith)
+  told p k (c ∷ cs) n h e few one tells least =
+      by (onFrame f c) refl (told p (k + 1) cs n h (and-right (names r (c .frame) (entry p k)) _ e) (omega arith) one tells least)
     where
-      go : Dec (f ≡ g) → hit (mark seen g) f ≡ cond (eqb g f) 1 0 + hit seen f
-      go (yes e) =
-          let z : getD (set seen g true) g false ≡ true = getD-set-same seen g true false (rw (k .long) (omega arith)) in
-          rw (e, marked-as, z, eq-eqb g g refl, new)
-      go (no d) =
-          let z : getD (set seen g true) f false ≡ getD seen f false = getD-set-other seen g f true false d in
-          rw (marked-as, z, ne-eqb g f (λ e. d (sym e))) (sym (zero-add _))
+      own : onFrame f c ≡ true → getD r f noHolder ≡ entry p k
+      own q =
+          let s : c .frame ≡ f = eqb-true (c .frame) f q in
+          eqb-true (getD r f noHolder) (entry p k) (rw (s, lt-ltb f 254 small) at (and-left (names r (c .frame) (entry p k)) _ e))
 
--- ---- one copy, which meets its rule
+      by : (b : Bool) → onFrame f c ≡ b → Told r p (k + 1) cs n h f × (1 ≤ count (onFrame f) cs + n → entry p (k + 1) ≤ getD r f noHolder)
+          → Told r p k (c ∷ cs) n h f × (1 ≤ count (onFrame f) (c ∷ cs) + n → entry p k ≤ getD r f noHolder)
+      by true q w =
+          let z : count (onFrame f) cs + n ≡ 0 =
+          none (count (onFrame f) cs + n) (λ s. let a = w .1 s in let b = own q in omega arith) in
+          (record { once = rw q (omega arith); tells = λ s. rw q (own q) }, λ s. let b = own q in omega arith)
+      by false q w = (
+        record { once = rw q (let a = w .0 .once in omega arith); tells = λ s. rw q (w .0 .tells (let a = rw q at s in omega arith)) },
+        λ s. let a = w .1 (let a = rw q at s in omega arith) in omega arith,
+      )
 
-module _ (limit n : ℕ) (low : limit ≤ 254) (seen : List Bool) (k : Clean seen) (c : Copy) (ok : copyRule limit n c ≡ true) where
-  null-frame : isNull c ≡ true → c .frame ≡ 255
-  null-frame e = eqb-true (c .frame) 255 e
+  pointed : (p : ℕ) (gs : List Page) → scanPages limit r p gs ≡ true → Points r p gs f × (1 ≤ uses f gs → entry p 0 ≤ getD r f noHolder)
+  unfolding scanPages inPages uses
+  pointed p [] e = (record { once = omega arith; tells = λ z. absurd (omega arith) }, λ z. absurd (omega arith))
+  pointed p (g ∷ gs) e =
+      let here = and-left (pageRule limit g && namesAll r p 0 (inUse g)) _ e in
+      let rest = pointed (p + 1) gs (and-right (pageRule limit g && namesAll r p 0 (inUse g)) _ e) in
+      let few = eight limit g (and-left (pageRule limit g) _ here) in
+      let w = told p 0 (inUse g) (uses f gs) (inPages f (p + 1) gs) (and-right (pageRule limit g) _ here) (omega arith) (rest .0 .once) (rest .0 .tells) (rest .1) in
+      (record { once = w .0 .once; tells = w .0 .tells }, w .1)
 
-  copy-clean : Clean (mark seen (c .frame))
-  copy-clean = go (isNull c) refl
+scanned-ok : (limit : ℕ) (r : List ℕ) (p : ℕ) (gs : List Page) → scanPages limit r p gs ≡ true → all (pageRule limit) gs ≡ true
+unfolding scanPages all
+scanned-ok limit r p [] e = refl
+scanned-ok limit r p (g ∷ gs) e =
+    let here = and-left (pageRule limit g && namesAll r p 0 (inUse g)) _ e in
+    and-intro (and-left (pageRule limit g) _ here) (scanned-ok limit r (p + 1) gs (and-right (pageRule limit g && namesAll r p 0 (inUse g)) _ e))
+
+-- ---- and back
+
+module _ (limit : ℕ) (r : List ℕ) where
+  names-of : (p k : ℕ) (cs : List Copy) (n : ℕ → ℕ) (h : ℕ → Holder) → ((f : ℕ) → f < 254 → Told r p k cs (n f) (h f) f) → namesAll r p k cs ≡ true
+  unfolding namesAll inCopies count
+  names-of p k [] n h tells = refl
+  names-of p k (c ∷ cs) n h tells = and-intro (by (ltb (c .frame) 254) refl) (names-of p (k + 1) cs n h (λ f l. tail f (onFrame f c) refl (tells f l)))
     where
-      go : (b : Bool) → isNull c ≡ b → Clean (mark seen (c .frame))
-      go true e = rw (null-frame e, mark-null seen k) k
-      go false e = mark-clean seen k (c .frame) (let h = good-copy limit n c ok .placed e in omega arith)
+      own : onFrame (c .frame) c ≡ true
+      own = eq-eqb (c .frame) (c .frame) refl
 
-  copy-hit : getD seen (c .frame) false ≡ false → (f : ℕ) → f < limit → hit (mark seen (c .frame)) f ≡ cond (onFrame f c) 1 0 + hit seen f
-  copy-hit new f h = go (isNull c) refl
+      by : (b : Bool) → ltb (c .frame) 254 ≡ b → cond b (eqb (getD r (c .frame) noHolder) (entry p k)) true ≡ true
+      by true e =
+          let t = tells (c .frame) (ltb-true (c .frame) 254 e) .tells (rw own (omega arith)) in
+          eq-eqb (getD r (c .frame) noHolder) (entry p k) (rw own at t)
+      by false e = refl
+
+      tail : (f : ℕ) (b : Bool) → onFrame f c ≡ b → Told r p k (c ∷ cs) (n f) (h f) f → Told r p (k + 1) cs (n f) (h f) f
+      tail f true q t =
+          let a = rw q at (t .once) in
+          record { once = omega arith; tells = λ z. absurd (omega arith) }
+      tail f false q t =
+          let a = rw q at (t .once) in
+          record { once = omega arith; tells = λ z. rw q at (t .tells (rw q (omega arith))) }
+
+  scan-of : (p : ℕ) (gs : List Page) → all (pageRule limit) gs ≡ true → ((f : ℕ) → f < 254 → Points r p gs f) → scanPages limit r p gs ≡ true
+  unfolding scanPages inPages uses
+  scan-of p [] e points = refl
+  scan-of p (g ∷ gs) e points =
+      and-intro
+      (and-intro (all-first (pageRule limit) g gs e)
+      (names-of p 0 (inUse g) (λ f. uses f gs) (λ f. inPages f (p + 1) gs)
+      (λ f l. record { once = points f l .once; tells = points f l .tells })))
+      (scan-of (p + 1) gs (all-rest (pageRule limit) g gs e) (λ f l. rest f (points f l)))
     where
-      go : (b : Bool) → isNull c ≡ b → hit (mark seen (c .frame)) f ≡ cond (onFrame f c) 1 0 + hit seen f
-      go true e = rw (null-frame e, mark-null seen k, ne-eqb 255 f (λ q. omega arith)) (sym (zero-add _))
-      go false e = mark-hit seen k (c .frame) (let w = good-copy limit n c ok .placed e in omega arith) new f
+      rest : (f : ℕ) → Points r p (g ∷ gs) f → Points r (p + 1) gs f
+      rest f t =
+          record {
+            once = let a = t .once in omega arith;
+            tells = λ z.
+                let a = t .once in
+                t .tells (omega arith) ∙ ap entryOf (skip f p 0 (inUse g) (inPages f (p + 1) gs) (omega arith));
+          }
 
-  -- a frame that is met once at the most is not marked yet
-  copy-new : ((f : ℕ) → f < limit → cond (onFrame f c) 1 0 + hit seen f ≤ 1) → getD seen (c .frame) false ≡ false
-  copy-new once = go (isNull c) refl
+-- ---- the rules
+
+module _ (limit : ℕ) (low : limit ≤ 254) (gs : List Page) (r : List ℕ) (many : length gs ≡ 64) (long : length r ≡ 254) where
+  -- 1 where the entry of frame f names a copy
+  abbrev named-at : ℕ → ℕ
+  named-at f = cond (not (eqb (getD r f noHolder) noHolder)) 1 0
+
+  -- where it is that of the frame's holder, this is how many copies are on it
+  held-at : all (pageRule limit) gs ≡ true → (f : ℕ) → uses f gs ≤ 1 → getD r f noHolder ≡ entryOf (inPages f 0 gs) → uses f gs ≡ named-at f
+  held-at ok f once e = by (ℕ-discrete (uses f gs) 0)
     where
-      no-mark : (b : Bool) → 1 + cond b 1 0 ≤ 1 → b ≡ false
-      no-mark true h = absurd (omega arith)
-      no-mark false h = refl
+      by : Dec (uses f gs ≡ 0) → uses f gs ≡ named-at f
+      by (yes z) =
+          let q : getD r f noHolder ≡ noHolder = e ∙ ap entryOf (nobody f 0 gs z) in
+          rw (q, z)
+      by (no d) =
+          let few = low-pages f 0 64 gs (omega arith) (λ i l. eight limit (getD gs i noPageRecord) (all-at (pageRule limit) gs i noPageRecord ok l)) in
+          let l = entry-low (inPages f 0 gs) few (free-pages f 0 gs ∙ ne-eqb (uses f gs) 0 d) in
+          rw (ne-eqb (getD r f noHolder) noHolder (λ z. omega arith)) (omega (arith, d))
 
-      go : (b : Bool) → isNull c ≡ b → getD seen (c .frame) false ≡ false
-      go true e = rw (null-frame e) (k .null)
-      go false e =
-          no-mark (getD seen (c .frame) false)
-          (rw (eq-eqb (c .frame) (c .frame) refl) at (once (c .frame) (good-copy limit n c ok .placed e)))
+  sums : all (pageRule limit) gs ≡ true → framesOfAll gs ≡ sumBelow 254 (λ f. uses f gs)
+  sums ok = sym (uses-sum limit low gs ok)
 
--- ---- the copies of a page
+  entries : taken r ≡ sumBelow 254 named-at
+  entries = taken-sum r ∙ ap (λ (n : ℕ). sumBelow n named-at) long
 
--- the marks count the copies
-record Scanned (limit : ℕ) (seen : List Bool) (cs : List Copy) : Type 0 where
-  hits : (f : ℕ) → f < limit → hit (marks seen cs) f ≡ count (onFrame f) cs + hit seen f
-  clean : Clean (marks seen cs)
-
-module _ (limit n : ℕ) (low : limit ≤ 254) where
-  scanned : (cs : List Copy) (seen : List Bool) → Clean seen → all (copyRule limit n) cs ≡ true → unmarked seen cs ≡ true → Scanned limit seen cs
-  unfolding unmarked marks all count
-  scanned [] seen k e u = record { hits = λ f h. sym (zero-add _); clean = k }
-  scanned (c ∷ cs) seen k e u =
-      let ok : copyRule limit n c ≡ true = and-left (copyRule limit n c) _ e in
-      let new : getD seen (c .frame) false ≡ false = not-true (getD seen (c .frame) false) (and-left (not (getD seen (c .frame) false)) _ u) in
-      let r : Scanned limit (mark seen (c .frame)) cs =
-      scanned cs (mark seen (c .frame)) (copy-clean limit n low seen k c ok) (and-right (copyRule limit n c) _ e)
-      (and-right (not (getD seen (c .frame) false)) _ u) in
-      record {
-        hits = λ f h. let a = r .hits f h in let b = copy-hit limit n low seen k c ok new f h in omega arith;
-        clean = r .clean;
-      }
-
-  unmarked-of : (cs : List Copy) (seen : List Bool) → Clean seen → all (copyRule limit n) cs ≡ true
-      → ((f : ℕ) → f < limit → count (onFrame f) cs + hit seen f ≤ 1) → unmarked seen cs ≡ true
-  unfolding unmarked all count
-  unmarked-of [] seen k e once = refl
-  unmarked-of (c ∷ cs) seen k e once =
-      let ok : copyRule limit n c ≡ true = and-left (copyRule limit n c) _ e in
-      let new : getD seen (c .frame) false ≡ false = copy-new limit n low seen k c ok (λ f h. let o = once f h in omega arith) in
-      and-intro (ap not new)
-      (unmarked-of cs (mark seen (c .frame)) (copy-clean limit n low seen k c ok) (and-right (copyRule limit n c) _ e)
-      (λ f h. let a = copy-hit limit n low seen k c ok new f h in let o = once f h in omega arith))
-
--- what the pass over the copies answers
-regroup : (r u a m q : Bool) → (r && (u && (a && (m && q)))) ≡ ((r && a) && ((u && m) && q))
-regroup false u a m q = refl
-regroup true false false m q = refl
-regroup true false true m q = refl
-regroup true true false m q = refl
-regroup true true true m q = refl
-
-some-recent : (before own : Bool) (later : ℕ) → ((before || own) || leb 1 later) ≡ (before || leb 1 (cond own 1 0 + later))
-some-recent true own later = refl
-some-recent false true later = sym (le-leb 1 (1 + later) (omega arith))
-some-recent false false later = ap (leb 1) (sym (zero-add later))
-
-pub scan-copies : (limit n : ℕ) (cs : List Copy) (seen : List Bool) (before : Bool)
-    → scanCopies limit n seen before cs
-    ≡ (all (copyRule limit n) cs && (unmarked seen cs && (before || leb 1 (count isRecent cs))))
-unfolding scanCopies unmarked all count
-scan-copies limit n [] seen true = refl
-scan-copies limit n [] seen false = refl
-scan-copies limit n (c ∷ cs) seen before =
-    rw (scan-copies limit n cs (mark seen (c .frame)) (before || c .recent), some-recent before (c .recent) (count isRecent cs))
-    (regroup (copyRule limit n c) (not (getD seen (c .frame) false)) (all (copyRule limit n) cs) (unmarked (mark seen (c .frame)) cs)
-    (before || leb 1 (cond (c .recent) 1 0 + count isRecent cs)))
-
--- with d for the unused entries: the rule of a standing page ends in a, d and q, and m is that its frames had no mark
-pub scan-fails : (a m q d : Bool) → (a && (m && q)) ≡ false → ((a && (d && q)) && m) ≡ false
-scan-fails false m q d e = refl
-scan-fails true false q false e = refl
-scan-fails true false false true e = refl
-scan-fails true false true true e = refl
-scan-fails true true false false e = refl
-scan-fails true true false true e = refl
-scan-fails true true true d e = absurd (true≢false e)
-
-pub scan-passes : (a m q d : Bool) → (a && (m && q)) ≡ true → ((a && (d && q)) && m) ≡ d
-scan-passes false m q d e = absurd (false≢true e)
-scan-passes true false q d e = absurd (false≢true e)
-scan-passes true true false d e = absurd (false≢true e)
-scan-passes true true true false e = refl
-scan-passes true true true true e = refl
-
--- ---- all pages
-
-module _ (limit : ℕ) (low : limit ≤ 254) where
-  copies-ruled : (g : Page) → pageRule limit g ≡ true → all (copyRule limit (g .n)) (inUse g) ≡ true
-  unfolding all
-  copies-ruled g e = go (absent g) refl
+  -- as many entries name copies as copies are on frames: so a frame that nobody is on has none
+  free-entry : (ok : all (pageRule limit) gs ≡ true) → ((f : ℕ) → f < 254 → Points r 0 gs f) → framesOfAll gs ≡ taken r
+      → (f : ℕ) → f < 254 → uses f gs ≡ 0 → getD r f noHolder ≡ noHolder
+  free-entry ok points same f l z = by (eqb (getD r f noHolder) noHolder) refl (sym z ∙ sum-equal 254 (λ f. uses f gs) named-at le (sym (sums ok) ∙ same ∙ entries) f l)
     where
-      go : (b : Bool) → absent g ≡ b → all (copyRule limit (g .n)) (inUse g) ≡ true
-      go true q = rw (ap (λ (n : ℕ). take n (g .copies)) (eqb-true (g .n) 0 q))
-      go false q = standing limit g e q .copies-ok
+      le : (f : ℕ) → f < 254 → uses f gs ≤ named-at f
+      le f l = go (ℕ-discrete (uses f gs) 0)
+        where
+          go : Dec (uses f gs ≡ 0) → uses f gs ≤ named-at f
+          go (yes z) = omega arith
+          go (no d) = let e = held-at ok f (points f l .once) (points f l .tells (omega (arith, d))) in omega arith
 
-  scanned-page : (g : Page) (seen : List Bool) → Clean seen → scanPage limit seen g ≡ true → Scanned limit seen (inUse g)
-  scanned-page g seen k e =
-      scanned limit (g .n) low (inUse g) seen k (copies-ruled g (and-left (pageRule limit g) _ e)) (and-right (pageRule limit g) _ e)
+      by : (b : Bool) → eqb (getD r f noHolder) noHolder ≡ b → _≡_ {A = ℕ} 0 (cond (not b) 1 0) → getD r f noHolder ≡ noHolder
+      by true e q = eqb-true (getD r f noHolder) noHolder e
+      by false e q = absurd (omega arith)
 
-  scanned-pages : (gs : List Page) (seen : List Bool) → Clean seen → scanPages limit seen gs ≡ true
-      → (all (pageRule limit) gs ≡ true) × ((f : ℕ) → f < limit → uses f gs + hit seen f ≤ 1)
-  unfolding scanPages all uses
-  scanned-pages [] seen k e = (refl, λ f h. let b = bit-le (getD seen f false) in omega arith)
-  scanned-pages (g ∷ gs) seen k e =
-      let one : scanPage limit seen g ≡ true = and-left (scanPage limit seen g) _ e in
-      let r : Scanned limit seen (inUse g) = scanned-page g seen k one in
-      let rest = scanned-pages gs (marks seen (inUse g)) (r .clean) (and-right (scanPage limit seen g) _ e) in
-      (and-intro (and-left (pageRule limit g) _ one) (rest .0), λ f h. let a = r .hits f h in let b = rest .1 f h in omega arith)
-
-  pages-of : (gs : List Page) (seen : List Bool) → Clean seen → all (pageRule limit) gs ≡ true
-      → ((f : ℕ) → f < limit → uses f gs + hit seen f ≤ 1) → scanPages limit seen gs ≡ true
-  unfolding scanPages all uses
-  pages-of [] seen k e once = refl
-  pages-of (g ∷ gs) seen k e once =
-      let ruled : pageRule limit g ≡ true = and-left (pageRule limit g) _ e in
-      let s : scanPage limit seen g ≡ true =
-      and-intro ruled
-      (unmarked-of limit (g .n) low (inUse g) seen k (copies-ruled g ruled) (λ f h. let o = once f h in omega arith)) in
-      let r : Scanned limit seen (inUse g) = scanned-page g seen k s in
-      and-intro s
-      (pages-of gs (marks seen (inUse g)) (r .clean) (and-right (pageRule limit g) _ e)
-      (λ f h. let a = r .hits f h in let o = once f h in omega arith))
-
-  -- from no marks at all, the pass says whether every page meets its rule and no frame is under two copies
-  pub scan-rules : (gs : List Page) → scanPages limit noMarks gs ≡ (all (pageRule limit) gs && alone limit gs)
-  unfolding alone noMarks
-  scan-rules gs =
-      iff-eq (scanPages limit noMarks gs) (all (pageRule limit) gs && alone limit gs)
+  pub scan-rules : (scanPages limit r 0 gs && eqb (framesOfAll gs) (taken r)) ≡ (all (pageRule limit) gs && (alone limit gs && rightRegister gs r))
+  unfolding alone rightRegister
+  scan-rules =
+      iff-eq (scanPages limit r 0 gs && eqb (framesOfAll gs) (taken r)) (all (pageRule limit) gs && (alone limit gs && rightRegister gs r))
       (λ e.
-      let r = scanned-pages gs noMarks none e in
-      let once : (f : ℕ) → f < limit → leb (uses f gs) 1 ≡ true =
-      λ f h. le-leb (uses f gs) 1 (let o = r .1 f h in let z = empty f in omega arith) in
-      and-intro (r .0) (below-of limit (λ f. leb (uses f gs) 1) once))
+      let scanned = and-left (scanPages limit r 0 gs) _ e in
+      let same = eqb-true (framesOfAll gs) (taken r) (and-right (scanPages limit r 0 gs) _ e) in
+      let ok = scanned-ok limit r 0 gs scanned in
+      let points : (f : ℕ) → f < 254 → Points r 0 gs f = λ f l. pointed limit r f l 0 gs scanned .0 in
+      and-intro ok
+      (and-intro (below-of limit (λ f. leb (uses f gs) 1) (λ f l. le-leb (uses f gs) 1 (points f (omega arith) .once)))
+      (and-intro (eq-eqb (length r) 254 long)
+      (below-of 254 (λ f. eqb (getD r f noHolder) (entryOf (inPages f 0 gs)))
+      (λ f l. eq-eqb (getD r f noHolder) (entryOf (inPages f 0 gs)) (told-at ok points same f l))))))
       (λ e.
-      let once : (f : ℕ) → f < limit → uses f gs ≤ 1 =
-      λ f h. leb-true (uses f gs) 1 (below-at limit (λ x. leb (uses x gs) 1) f (and-right (all (pageRule limit) gs) _ e) h) in
-      pages-of gs noMarks none (and-left (all (pageRule limit) gs) _ e) (λ f h. let o = once f h in let z = empty f in omega arith))
+      let ok = and-left (all (pageRule limit) gs) _ e in
+      let once = and-left (alone limit gs) _ (and-right (all (pageRule limit) gs) _ e) in
+      let right = and-right (alone limit gs) _ (and-right (all (pageRule limit) gs) _ e) in
+      let few : (f : ℕ) → f < 254 → uses f gs ≤ 1 =
+      few-uses limit gs ok (λ f l. leb-true (uses f gs) 1 (below-at limit (λ f. leb (uses f gs) 1) f once l)) in
+      let told : (f : ℕ) → f < 254 → getD r f noHolder ≡ entryOf (inPages f 0 gs) =
+      λ f l. eqb-true _ _ (below-at 254 (λ f. eqb (getD r f noHolder) (entryOf (inPages f 0 gs))) f (and-right (eqb (length r) 254) _ right) l) in
+      and-intro (scan-of limit r 0 gs ok (λ f l. record { once = few f l; tells = λ z. told f l }))
+      (eq-eqb (framesOfAll gs) (taken r)
+      (sums ok ∙ sum-same 254 (λ f. uses f gs) named-at (λ f l. held-at ok f (few f l) (told f l)) ∙ sym entries)))
     where
-      none : Clean noMarks
-      none = record { long = length-replicate 256 false; null = getD-replicate 256 255 false false (omega arith) }
-
-      no-mark : (n f : ℕ) → getD (replicate n false) f false ≡ false
-      no-mark zero f = refl
-      no-mark (suc n) zero = refl
-      no-mark (suc n) (suc f) = no-mark n f
-
-      empty : (f : ℕ) → hit noMarks f ≡ 0
-      empty f = rw (no-mark 256 f)
+      told-at : all (pageRule limit) gs ≡ true → ((f : ℕ) → f < 254 → Points r 0 gs f) → framesOfAll gs ≡ taken r
+          → (f : ℕ) → f < 254 → getD r f noHolder ≡ entryOf (inPages f 0 gs)
+      told-at ok points same f l = go (ℕ-discrete (uses f gs) 0)
+        where
+          go : Dec (uses f gs ≡ 0) → getD r f noHolder ≡ entryOf (inPages f 0 gs)
+          go (yes z) = free-entry ok points same f l z ∙ ap entryOf (sym (nobody f 0 gs z))
+          go (no d) = points f l .tells (omega (arith, d))

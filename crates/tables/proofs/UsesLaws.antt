@@ -10,8 +10,8 @@ use borrow.Author.Tests.{eq-eqb}
 use Rattle.tables.specs.declared.Copy.{Copy}
 use Rattle.tables.specs.declared.Page.{Page}
 use Rattle.tables.specs.Lists.{count}
-use Rattle.tables.specs.Model.{inUse, noPageRecord}
-use Rattle.tables.specs.Rules.{onFrame, uses}
+use Rattle.tables.specs.Model.{inUse, noPageRecord, onFrame}
+use Rattle.tables.specs.Rules.{uses}
 use Rattle.tables.proofs.ListLaws.{count-hit}
 
 -- one page replaced: the copies of the old record no longer count, those of the new one do

@@ -10,7 +10,8 @@ use Rattle.tables.specs.declared.Tables.{Tables}
 use Rattle.tables.specs.declared.Change.{Change}
 use Rattle.tables.specs.declared.Edit.{Edit}
 use Rattle.tables.specs.declared.Edit.the-variants.{Kept, Created, Deleted, Granted, Staled, Placed, Added, Removed, Marked}
-use Rattle.tables.specs.Model.{freshCopy, freshPage, noCopyEntry, pageAt, withPage}
+use Rattle.tables.specs.Model.{freshCopy, freshPage, noCopyEntry, pageAt}
+use Rattle.tables.specs.Register.{registerAfter}
 
 -- step 1: "the page stands with one null copy; the station is owner with right 2, others 0". The null copy is recent
 unfoldable pub created : ℕ → Page
@@ -68,6 +69,15 @@ changed g (Marked k current) = withCopies g (g .n) (set (g .copies) k (markedCop
 -- a change of the tables: the record of page p edited
 abbrev pub edited : Tables → ℕ → Edit → Change
 edited t p e = record { page = p; becomes = changed (pageAt t p) e }
+
+-- the tables with g as the record of page p, and the register as that leaves it
+abbrev pub withPage : Tables → ℕ → Page → Tables
+withPage t p g =
+    record {
+      shared = t .shared;
+      pages = set (t .pages) p g;
+      register = cond (ltb p 64) (registerAfter p (pageAt t p) g (t .register)) (t .register);
+    }
 
 -- "Each change of the tables takes them and gives back the new ones."
 unfoldable pub after : Tables → Change → Tables

@@ -1,8 +1,9 @@
 pub mod Lists
 pub mod Numbers
 pub mod Model
-pub mod Rules
 pub mod Search
+pub mod Register
+pub mod Rules
 pub mod Changes
 pub mod Keep
-pub mod PrivateMarks
+pub mod PrivatePass

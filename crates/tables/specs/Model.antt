@@ -2,7 +2,7 @@
 use Prim.Native.Nat.{ℕ, _+_}
 use mathlib.Core.Bool.{Bool, false, _&&_, cond}
 use mathlib.Core.List.{List, []}
-use lib.ListN.{replicate, getD, set, take}
+use lib.ListN.{replicate, getD, take}
 use lib.Dec.{leb, eqb}
 use Rattle.tables.specs.declared.Copy.{Copy}
 use Rattle.tables.specs.declared.Page.{Page}
@@ -19,6 +19,10 @@ frames t = t .shared .p + t .shared .s
 abbrev pub isNull : Copy → Bool
 isNull c = eqb (c .frame) 255
 
+-- whether a copy is on frame f; 255 is no frame, and asks for null copies
+abbrev pub onFrame : ℕ → Copy → Bool
+onFrame f c = eqb (c .frame) f
+
 -- "eight copy entries, of which the first n are in use": the page's copies, numbered from 0
 abbrev pub inUse : Page → List Copy
 inUse g = take (g .n) (g .copies)
@@ -33,6 +37,10 @@ absent g = eqb (g .n) 0
 abbrev pub freshCopy : Copy
 freshCopy = record { frame = 255; current = false; recent = false }
 
+-- the entry of a frame that nobody is on
+abbrev pub noHolder : ℕ
+noHolder = 65535
+
 -- an absent page
 unfoldable pub freshPage : Page
 freshPage = record { rights = replicate 16 0; copies = replicate 8 freshCopy; owner = 0; n = 0 }
@@ -42,7 +50,7 @@ abbrev pub sized : ℕ → ℕ → Shared
 sized p s = record { p = p; s = s }
 
 unfoldable pub freshTables : ℕ → ℕ → Tables
-freshTables p s = record { shared = sized p s; pages = replicate 64 freshPage }
+freshTables p s = record { shared = sized p s; pages = replicate 64 freshPage; register = replicate 254 noHolder }
 
 -- 19: "fresh with P or S above 127; returns fresh tables with P = S = 0"
 abbrev pub made : ℕ → ℕ → Made
@@ -61,7 +69,3 @@ noPageRecord = record { rights = []; copies = []; owner = 0; n = 0 }
 
 abbrev pub pageAt : Tables → ℕ → Page
 pageAt t p = getD (t .pages) p noPageRecord
-
--- the tables with g as the record of page p
-abbrev pub withPage : Tables → ℕ → Page → Tables
-withPage t p g = record { shared = t .shared; pages = set (t .pages) p g }

@@ -8,11 +8,8 @@ use Rattle.tables.specs.declared.Copy.{Copy}
 use Rattle.tables.specs.declared.Page.{Page}
 use Rattle.tables.specs.declared.Tables.{Tables}
 use Rattle.tables.specs.Lists.{all, count, allBelow}
-use Rattle.tables.specs.Model.{frames, isNull, inUse, absent}
-
--- whether a copy is on frame f; 255 is no frame, and asks for null copies
-abbrev pub onFrame : ℕ → Copy → Bool
-onFrame f c = eqb (c .frame) f
+use Rattle.tables.specs.Model.{frames, isNull, inUse, absent, onFrame}
+use Rattle.tables.specs.Register.{rightRegister}
 
 -- how many copies are on frame f
 unfoldable pub uses : ℕ → List Page → ℕ
@@ -63,8 +60,8 @@ pageRule limit g = shaped g && cond (absent g) (absentRule g) (standingRule limi
 unfoldable pub alone : ℕ → List Page → Bool
 alone limit gs = allBelow limit (λ f. leb (uses f gs) 1)
 
--- the table rules: "P and S in range", "Pages 0 to 63", each page's, and those on frames
+-- the table rules: "P and S in range", "Pages 0 to 63", each page's, those on frames, and that "the register is right"
 unfoldable pub sound : Tables → Bool
 sound t =
     leb (t .shared .p) 127 && (leb (t .shared .s) 127 && (eqb (length (t .pages)) 64
-    && (all (pageRule (frames t)) (t .pages) && alone (frames t) (t .pages))))
+    && (all (pageRule (frames t)) (t .pages) && (alone (frames t) (t .pages) && rightRegister (t .pages) (t .register)))))

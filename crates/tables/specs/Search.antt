@@ -9,8 +9,7 @@ use Rattle.tables.specs.declared.Page.{Page}
 use Rattle.tables.specs.declared.Tables.{Tables}
 use Rattle.tables.specs.declared.Holder.{Holder}
 use Rattle.tables.specs.declared.Holder.the-variants.{At, Free}
-use Rattle.tables.specs.Model.{inUse}
-use Rattle.tables.specs.Rules.{onFrame}
+use Rattle.tables.specs.Model.{inUse, onFrame}
 
 -- among the copies of page p, numbered from c on; `later` is what the pages after p give
 unfoldable pub inCopies : ℕ → ℕ → ℕ → List Copy → Holder → Holder
@@ -34,8 +33,3 @@ shown Free = 0 ∷ 255 ∷ 255 ∷ []
 -- whether that number is 0; `free-holder` says that this is so exactly where "no copy has it"
 abbrev pub isFree : Holder → Bool
 isFree h = eqb (getD (shown h) 0 0) 0
-
--- the number of the first of some copies, numbered from j on, that is on frame f; 8 where none is
-unfoldable pub copyOn : ℕ → ℕ → List Copy → ℕ
-copyOn f j [] = 8
-copyOn f j (c ∷ cs) = cond (onFrame f c) j (copyOn f (j + 1) cs)

@@ -1,10 +1,13 @@
-// The tables layer of document 01: the page records, the table rules, the search for a frame's
-// holder, and every change of the tables. It needs no store.
+// The tables layer of document 01: the page records, the register of frames, the table rules, the search for
+// a frame's holder, and every change of the tables. It needs no store.
 mod record;
+mod register;
 mod rules;
 mod search;
 
 use record::fresh_page;
+use register::occupy;
+use register::vacate;
 ghost use mathlib.Core.Path.{_≡_};
 ghost use Rattle.tables.specs.Model.{made};
 ghost use Rattle.tables.specs.Changes.{after};
@@ -14,6 +17,9 @@ pub const TOO_MANY_FRAMES: u8 = 19;
 
 // The frame of a null copy.
 pub const NULL_FRAME: u8 = 255;
+
+// The entry in the register of a frame that nobody is on.
+pub(crate) const NO_HOLDER: u16 = 65535;
 
 // A copy entry: its frame, and the marks CURRENT and MOST RECENT.
 pub struct Copy {
@@ -36,10 +42,11 @@ pub struct Shared {
     pub s: u8,
 }
 
-// The tables: what is shared, and the 64 pages.
+// The tables: what is shared, the 64 pages, and the register: for each frame the copy on it, as 8 × page + copy.
 pub struct Tables {
     pub shared: Shared,
     pub pages: [Page; 64],
+    pub register: [u16; 254],
 }
 
 // What making tables answers: 0 or 19, and the tables.
@@ -89,6 +96,7 @@ impl Tables {
                 tables: Tables {
                     shared: Shared { p, s },
                     pages: [g; 64],
+                    register: [NO_HOLDER; 254],
                 },
             };
         }
@@ -97,6 +105,7 @@ impl Tables {
             tables: Tables {
                 shared: Shared { p: 0, s: 0 },
                 pages: [g; 64],
+                register: [NO_HOLDER; 254],
             },
         }
     }
@@ -108,7 +117,10 @@ impl Tables {
         let p = change.page as usize;
         let g = change.becomes;
         if p < 64 {
+            let old = self.pages[p];
             self.pages[p] = g;
+            vacate(&mut self.register, old);
+            occupy(&mut self.register, change.page, g);
         }
         self
     }

@@ -10,7 +10,6 @@ ghost use Prim.Native.Nat.{_-_, _≤_};
 ghost use lib.ListN.{length, set, getD};
 ghost use Rattle.tables.specs.Lists.{all};
 ghost use Rattle.tables.specs.Model.{freshCopy, freshPage, noCopyEntry, inUse};
-ghost use Rattle.tables.specs.Search.{copyOn};
 ghost use Rattle.tables.specs.Changes.{created, staleCopy, newCopy, withCopy, withCopies, closeGap, markedCopy, changed};
 ghost use Rattle.tables.specs.Keep.{unchanged, staysRecent, isMarked};
 
@@ -140,21 +139,6 @@ impl Page {
     {
         let n = self.n;
         if n < 8 { n as usize } else { 8 }
-    }
-
-    // The number of the page's first copy on the frame; 8 where none is.
-    pub fn copy_on(self, frame: u8) -> u8
-        ensures { λ r. ⌜ r ≡ copyOn frame 0 (inUse self) ⌝ }
-    {
-        let n = self.in_use();
-        let mut j: usize = 0;
-        while j < n {
-            if self.copies[j].frame == frame {
-                return j as u8;
-            }
-            j += 1;
-        }
-        8
     }
 
     fn staled(mut self) -> Page

@@ -1,16 +1,18 @@
-// The test of the table rules, in one pass over the pages with a mark for each frame met.
+// The test of the table rules, in one pass over the pages and the register.
 use crate::Copy;
+use crate::NO_HOLDER;
 use crate::NULL_FRAME;
 use crate::Page;
 use crate::Tables;
+use crate::register::entry;
 ghost use mathlib.Core.Path.{_≡_};
-ghost use mathlib.Core.Bool.{true, false, not, _&&_};
-ghost use Prim.Native.Nat.{_+_, _≤_};
-ghost use lib.ListN.{length, getD, take, drop};
+ghost use mathlib.Core.Bool.{false, _&&_};
+ghost use Prim.Native.Nat.{_≤_};
+ghost use lib.ListN.{length, take, drop};
 ghost use Rattle.tables.specs.Lists.{all};
 ghost use Rattle.tables.specs.Model.{inUse};
 ghost use Rattle.tables.specs.Rules.{isFresh, copyRule, atMost, absentRule, standingRule, sound};
-ghost use Rattle.tables.specs.PrivateMarks.{mark, unmarked, scanCopies, scanPage, MarksAdded};
+ghost use Rattle.tables.specs.PrivatePass.{names, namesAll, scanCopies, scanPage, framesOf, taken};
 
 fn is_fresh(c: Copy) -> bool
     ensures { λ r. ⌜ r ≡ isFresh c ⌝ }
@@ -43,21 +45,22 @@ fn copy_ok(c: Copy, n: u8, limit: u8) -> bool
     c.frame < limit
 }
 
-// Marks the frame, and says whether it had no mark.
-fn mark_frame(seen: &mut [bool; 256], frame: u8) -> bool
-    ensures { λ r. ⌜ (now (seen .exit) ≡ mark (now (seen .entry)) frame) × (r ≡ not (getD (now (seen .entry)) frame false)) ⌝ }
+// The entry of a frame is this one; a null copy has no frame.
+fn names(register: &[u16; 254], frame: u8, entry: u16) -> bool
+    requires { ⌜ length (now register) ≡ 254 ⌝ }
+    ensures { λ r. ⌜ r ≡ names (now (register .entry)) frame entry ⌝ }
 {
     let f = frame as usize;
-    let fresh = !seen[f];
-    seen[f] = frame != NULL_FRAME;
-    fresh
+    if f < 254 {
+        return register[f] == entry;
+    }
+    true
 }
 
-// The first n copies keep their rules, are on frames without a mark, which they get, and at least one is MOST RECENT.
-fn copies_ok(seen: &mut [bool; 256], copies: [Copy; 8], n: u8, limit: u8) -> bool
-    requires { ⌜ n ≤ 8 ⌝ }
-    ensures { λ r. ⌜ r ≡ scanCopies limit n (now (seen .entry)) false (take n copies) ⌝ }
-    ensures { λ r. ⌜ MarksAdded r (now (seen .entry)) (now (seen .exit)) (take n copies) ⌝ }
+// The first n copies of page p keep their rules, their entries name them, and at least one is MOST RECENT.
+fn copies_ok(register: &[u16; 254], p: u8, copies: [Copy; 8], n: u8, limit: u8) -> bool
+    requires { ⌜ (length (now register) ≡ 254) × (n ≤ 8) ⌝ }
+    ensures { λ r. ⌜ r ≡ scanCopies limit n (now (register .entry)) p 0 false (take n copies) ⌝ }
 {
     let end = n as usize;
     let mut recent = false;
@@ -67,7 +70,7 @@ fn copies_ok(seen: &mut [bool; 256], copies: [Copy; 8], n: u8, limit: u8) -> boo
         if !copy_ok(c, n, limit) {
             return false;
         }
-        if !mark_frame(seen, c.frame) {
+        if !names(register, c.frame, entry(p, j as u8)) {
             return false;
         }
         recent = recent | c.recent;
@@ -105,9 +108,9 @@ fn absent_ok(g: Page) -> bool
     unused_ok(copies, 0)
 }
 
-fn standing_ok(seen: &mut [bool; 256], g: Page, limit: u8) -> bool
-    ensures { λ r. ⌜ r ≡ (standingRule limit g && unmarked (now (seen .entry)) (inUse g)) ⌝ }
-    ensures { λ r. ⌜ MarksAdded r (now (seen .entry)) (now (seen .exit)) (inUse g) ⌝ }
+fn standing_ok(register: &[u16; 254], p: u8, g: Page, limit: u8) -> bool
+    requires { ⌜ length (now register) ≡ 254 ⌝ }
+    ensures { λ r. ⌜ r ≡ (standingRule limit g && namesAll (now (register .entry)) p 0 (inUse g)) ⌝ }
 {
     let rights = g.rights;
     let copies = g.copies;
@@ -121,24 +124,50 @@ fn standing_ok(seen: &mut [bool; 256], g: Page, limit: u8) -> bool
     if n > 8 {
         return false;
     }
-    if !copies_ok(seen, copies, n, limit) {
+    if !copies_ok(register, p, copies, n, limit) {
         return false;
     }
     unused_ok(copies, n as usize)
 }
 
-fn page_ok(seen: &mut [bool; 256], g: Page, limit: u8) -> bool
-    ensures { λ r. ⌜ r ≡ scanPage limit (now (seen .entry)) g ⌝ }
-    ensures { λ r. ⌜ MarksAdded r (now (seen .entry)) (now (seen .exit)) (inUse g) ⌝ }
+fn page_ok(register: &[u16; 254], p: u8, g: Page, limit: u8) -> bool
+    requires { ⌜ length (now register) ≡ 254 ⌝ }
+    ensures { λ r. ⌜ r ≡ scanPage limit (now (register .entry)) p g ⌝ }
 {
     if g.n == 0 {
         return absent_ok(g);
     }
-    standing_ok(seen, g, limit)
+    standing_ok(register, p, g, limit)
+}
+
+// On how many frames the copies of a page are that keeps its rule.
+fn frames_of(g: Page) -> usize
+    ensures { λ r. ⌜ (r ≡ framesOf g) × (r ≤ 255) ⌝ }
+{
+    if g.copies[0].frame == NULL_FRAME {
+        return 0;
+    }
+    g.n as usize
+}
+
+// How many entries name a copy. Branch-free, in vectors.
+fn taken(register: &[u16; 254]) -> u16
+    requires { ⌜ length (now register) ≡ 254 ⌝ }
+    ensures { λ r. ⌜ r ≡ taken (now (register .entry)) ⌝ }
+{
+    let mut k: u16 = 0;
+    let mut f: usize = 0;
+    while f < 254 {
+        if register[f] != NO_HOLDER {
+            k += 1;
+        }
+        f += 1;
+    }
+    k
 }
 
 impl Tables {
-    // All table rules, for any tables, in one pass over the pages.
+    // All table rules, for any tables, in one pass over the pages and the register.
     pub fn sound(self) -> bool
         ensures { λ r. ⌜ r ≡ sound self ⌝ }
     {
@@ -151,15 +180,16 @@ impl Tables {
             return false;
         }
         let limit = fast + slow;
-        let mut seen = [false; 256];
+        let mut held: usize = 0;
         let mut i: usize = 0;
         while i < 64 {
             let g = self.pages[i];
-            if !page_ok(&mut seen, g, limit) {
+            if !page_ok(&self.register, i as u8, g, limit) {
                 return false;
             }
+            held += frames_of(g);
             i += 1;
         }
-        true
+        held == taken(&self.register) as usize
     }
 }

@@ -13,8 +13,7 @@ use Rattle.tables.specs.declared.Edit.{Edit}
 use Rattle.tables.specs.declared.Edit.the-variants.{Kept}
 use Rattle.tables.specs.Lists.{count}
 use Rattle.tables.specs.Numbers.{noPage, nothingCurrent}
-use Rattle.tables.specs.Model.{frames, inUse, absent, pageAt}
-use Rattle.tables.specs.Rules.{onFrame}
+use Rattle.tables.specs.Model.{frames, inUse, absent, pageAt, onFrame}
 use Rattle.tables.specs.Changes.{changed, edited, after}
 use Rattle.tables.proofs.RuleLaws.{sound-of}
 use Rattle.tables.proofs.ChangeLaws.{after-same, after-other}

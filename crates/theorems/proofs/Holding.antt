@@ -9,8 +9,8 @@ use lib.ListN.{length, getD, set}
 use borrow.Author.Tests.{eq-eqb}
 use Rattle.tables.specs.declared.Copy.{Copy}
 use Rattle.tables.specs.Lists.{all, count}
-use Rattle.tables.specs.Model.{isNull}
-use Rattle.tables.specs.Rules.{onFrame, copyRule, isCurrent}
+use Rattle.tables.specs.Model.{isNull, onFrame}
+use Rattle.tables.specs.Rules.{copyRule, isCurrent}
 use Rattle.tables.specs.Changes.{staleCopy}
 use Rattle.tables.proofs.ListLaws.{and-right, and-intro, all-first, all-rest, count-hit, count-miss, count-rest}
 use Rattle.tables.proofs.RuleLaws.{GoodCopy, good-copy, current-placed, current-frame}

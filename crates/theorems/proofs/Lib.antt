@@ -8,3 +8,4 @@ pub mod Induction
 pub mod Whole
 pub mod Caller
 pub mod Refusals
+pub mod Searched

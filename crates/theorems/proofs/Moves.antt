@@ -15,13 +15,14 @@ use Rattle.tables.specs.declared.Edit.{Edit}
 use Rattle.tables.specs.declared.Edit.the-variants.{Placed, Added, Removed, Marked}
 use Rattle.tables.specs.Lists.{count}
 use Rattle.tables.specs.Numbers.{outOfRange, noPage, noCopy, frameHeld, eightCopies, lastRecent, stale, noFrame}
-use Rattle.tables.specs.Model.{frames, isNull, inUse, absent, pageAt, noCopyEntry}
-use Rattle.tables.specs.Rules.{onFrame, uses, free}
-use Rattle.tables.specs.Search.{holderOf, isFree}
+use Rattle.tables.specs.Model.{frames, isNull, inUse, absent, pageAt, noCopyEntry, onFrame}
+use Rattle.tables.specs.Rules.{uses, free}
+use Rattle.tables.specs.Search.{isFree}
+use Rattle.tables.specs.Register.{registered}
 use Rattle.tables.specs.Changes.{withCopies, newCopy, markedCopy, changed}
 use Rattle.tables.proofs.RuleLaws.{StandingPage, not-absent, length-in-use, copy-at, Sound, sound-of}
 use Rattle.tables.proofs.UsesLaws.{uses-at, other-frame}
-use Rattle.tables.proofs.HolderLaws.{free-holder}
+use Rattle.tables.proofs.RegisterLaws.{registered-free}
 use Rattle.tables.proofs.ChangeLaws.{in-use-marked, in-use-placed, added, in-use-added, in-use-removed}
 use Rattle.tables.proofs.Allowed.{RemoveOk}
 use Rattle.tables.proofs.PageChanges.{removed-ok}
@@ -212,7 +213,9 @@ module _ (s : State) (f : Flat) (i : Inv s f) (c : Call) (bs : List ℕ) where
   make-copy-agrees =
       alone (nameOutside c) outOfRange refl (λ e. alone (leb (frames (s .tables)) (c .frame)) outOfRange refl (λ e′.
       alone-numbered page (c .copy) (λ some less.
-      alone (not (isFree (holderOf (s .tables) (c .frame)))) frameHeld refl (λ is. alone (eqb (page .n) 8) eightCopies refl (λ room.
-      copying-agrees (page-near c e) some less (leb-false (frames (s .tables)) (c .frame) e′)
-      (eqb-true (uses (c .frame) (s .tables .pages)) 0 (free-holder (s .tables) (c .frame) ∙ not-false (isFree (holderOf (s .tables) (c .frame))) is))
+      alone (not (isFree (registered (s .tables) (c .frame)))) frameHeld refl (λ is. alone (eqb (page .n) 8) eightCopies refl (λ room.
+      let low = leb-false (frames (s .tables)) (c .frame) e′ in
+      copying-agrees (page-near c e) some less low
+      (eqb-true (uses (c .frame) (s .tables .pages)) 0
+      (registered-free (s .tables) (c .frame) (i .good .tables-sound) low ∙ not-false (isFree (registered (s .tables) (c .frame))) is))
       (eqb-false (page .n) 8 room))))))

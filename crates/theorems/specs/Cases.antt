@@ -7,6 +7,7 @@ use Rattle.tables.specs.Lists.{all, count, allBelow}
 use Rattle.tables.specs.Model.{freshPage, freshTables}
 use Rattle.tables.specs.Rules.{uses, standingRule, absentRule, pageRule, alone, sound}
 use Rattle.tables.specs.Search.{inCopies, inPages}
+use Rattle.tables.specs.Register.{rightRegister, vacated, occupied}
 use Rattle.tables.specs.Changes.{created, closeGap, changed, after}
 use Rattle.steps.specs.Stores.{part, splice, fits, layCurrent}
 use Rattle.steps.specs.Kinds.{names, kinds, code, among, leastLength, mostLength, argument, callOf}
@@ -41,12 +42,12 @@ file₁ =
 
 -- the run with the least reply buffer; to open it is to open all that it computes by
 unfoldable pub runOn : State → List ℕ → Run
-unfolding messagesOf split turnsOf endOf answer parse names kinds code among argument callOf step decideOn laidIn shownOf sound alone allBelow all count uses pageRule standingRule absentRule fits freshTables freshPage after changed created closeGap inPages inCopies perform firstCurrent entries layCurrent splice part reply
+unfolding messagesOf split turnsOf endOf answer parse names kinds code among argument callOf step decideOn laidIn shownOf sound alone allBelow all count uses pageRule standingRule absentRule fits freshTables freshPage after changed created closeGap inPages inCopies rightRegister vacated occupied perform firstCurrent entries layCurrent splice part reply
 runOn s file = run 70 file s
 
 -- one turn of it
 unfoldable pub rightTurn : State → Sent → Outcome Result
-unfolding answer parse names kinds code among argument callOf step decideOn laidIn shownOf sound alone allBelow all count uses pageRule standingRule absentRule fits freshTables freshPage after changed created closeGap inPages inCopies perform firstCurrent entries layCurrent splice part reply
+unfolding answer parse names kinds code among argument callOf step decideOn laidIn shownOf sound alone allBelow all count uses pageRule standingRule absentRule fits freshTables freshPage after changed created closeGap inPages inCopies rightRegister vacated occupied perform firstCurrent entries layCurrent splice part reply
 rightTurn s x = answer 70 s x
 
 abbrev pub repliesOf : State → List ℕ → List (List ℕ)

@@ -11,8 +11,9 @@ use lib.Dec.{eqb}
 use Rattle.tables.specs.declared.Page.{Page}
 use Rattle.tables.specs.declared.Shared.{Shared}
 use Rattle.tables.specs.Lists.{count}
-use Rattle.tables.specs.Model.{inUse, absent, freshCopy, freshPage, sized, freshTables, noPageRecord, pageAt}
+use Rattle.tables.specs.Model.{noHolder, inUse, absent, freshCopy, freshPage, sized, freshTables, noPageRecord, pageAt}
 use Rattle.tables.specs.Rules.{isRecent}
+use Rattle.tables.specs.Register.{registerAfter}
 use Rattle.tables.specs.Changes.{created, withCopies, newCopy}
 use Rattle.steps.specs.Kinds.{names, kinds, code, among, argument, callOf}
 use Rattle.steps.specs.Stores.{part}
@@ -178,7 +179,16 @@ start = record { tables = freshTables 1 1; fast = fastBytes; slow = slowBytes }
 
 -- a state with pages 5 and 6 as given
 abbrev pub with56 : Shared → Page → Page → List ℕ → List ℕ → State
-with56 a g g′ fast slow = record { tables = record { shared = a; pages = set (set (replicate 64 freshPage) 5 g) 6 g′ }; fast = fast; slow = slow }
+with56 a g g′ fast slow =
+    record {
+      tables = record {
+        shared = a;
+        pages = set (set (replicate 64 freshPage) 5 g) 6 g′;
+        register = registerAfter 6 freshPage g′ (registerAfter 5 freshPage g (replicate 254 noHolder));
+      };
+      fast = fast;
+      slow = slow;
+    }
 
 -- as the create leaves it
 abbrev pub made : State

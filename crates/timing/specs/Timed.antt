@@ -3,10 +3,10 @@ use Prim.Native.Nat.{ℕ, zero, suc, _+_, _%_}
 use mathlib.Core.Bool.{cond}
 use mathlib.Core.List.{List}
 use mathlib.Core.Path.{_≡_}
-use lib.ListN.{length}
+use lib.ListN.{length, set}
 use Rattle.tables.specs.declared.Tables.{Tables}
 use Rattle.tables.specs.declared.Page.{Page}
-use Rattle.tables.specs.Model.{pageAt, withPage}
+use Rattle.tables.specs.Model.{pageAt}
 use Rattle.tables.specs.Rules.{sound}
 use Rattle.steps.specs.Promises.{Lent, lent}
 use Rattle.messages.specs.declared.Tally.{Tally}
@@ -25,10 +25,13 @@ pub record AnsweredAll (w : Run) (b : List ℕ) (l : Lent) (b′ : List ℕ) (l�
 abbrev pub withOwner : Page → ℕ → Page
 withOwner g s = record { rights = g .rights; copies = g .copies; owner = s; n = g .n }
 
+-- the tables with another record of page 0, which has the same copies
+abbrev pub withFirst : Tables → Page → Tables
+withFirst t g = record { shared = t .shared; pages = set (t .pages) 0 g; register = t .register }
+
 -- the tables with another owner of page 0
 abbrev pub owned : Tables → ℕ → Tables
-owned t s =
-    withPage t 0 (withOwner (pageAt t 0) s)
+owned t s = withFirst t (withOwner (pageAt t 0) s)
 
 -- how many of k tests hold, the owner of page 0 going round the stations
 unfoldable pub soundTimes : Tables → ℕ → ℕ

@@ -4,7 +4,7 @@ use crate::flat::Demand3;
 use crate::gen::{self, Moves, Rng, DAMAGES, SHORT_SLIPS, SLIPS};
 use crate::kernel::{packed, Kernel, Modelled};
 use crate::model::{
-    self, Call, Lent, Reached, Reader, Refusal, Tables, ENTRIES, FRAME, RAW, RECORD, SLIP,
+    self, Call, Lent, Reached, Reader, Refusal, Tables, ENTRIES, FRAME, RAW, RECORD, REGISTER, SLIP,
 };
 use reel::words::{self, hex, WORDS};
 
@@ -78,7 +78,9 @@ impl Compare<'_> {
         for sizes in 0..=u16::MAX {
             let [fast, slow] = sizes.to_be_bytes();
             let length = match self.rng.below(64) {
-                0 => self.rng.pick(&[0, 1, 2, RAW - 1, RAW + 1, 2 * RAW]),
+                0 => self
+                    .rng
+                    .pick(&[0, 1, 2, REGISTER, RAW - 1, RAW + 1, 2 * RAW]),
                 _ => RAW,
             };
             let mut by_kernel = self.rng.bytes(length);
@@ -263,6 +265,9 @@ impl Compare<'_> {
         for at in 0..RAW {
             let mut damaged = lent.clone();
             damaged.tables[at] ^= self.rng.within(1, 255);
+            if at < REGISTER {
+                gen::register_anew(&mut damaged.tables);
+            }
             let calls = gen::shaped_calls(&mut self.rng);
             let call = self.rng.pick(&calls);
             self.answer(&damaged, &call.encode())?;
@@ -547,6 +552,10 @@ fn first_difference(name: &str, kernel: &[u8], model: &[u8]) -> Option<String> {
     }
     let at = kernel.iter().zip(model).position(|(k, m)| k != m)?;
     let place = match name {
+        "tables" if at >= REGISTER => {
+            let (frame, byte) = ((at - REGISTER) / 2, (at - REGISTER) % 2);
+            format!("byte {at} (the register, frame {frame}, byte {byte} of its entry)")
+        }
         "tables" if at >= 2 => {
             let (page, byte) = ((at - 2) / RECORD, (at - 2) % RECORD);
             format!("byte {at} (page {page}, byte {byte} of its record)")

@@ -2,7 +2,7 @@
 
 use crate::model::{
     frame_bytes, message, Call, Lent, Page, PageCopy, Tables, ENTRIES, FRAME, KINDS, MOST_FRAMES,
-    NO_FRAME, PAGES, RAW, RECORD, SLIP, STATIONS, VERSION,
+    NO_FRAME, NO_HOLDER, PAGES, RAW, RECORD, REGISTER, REGISTERED, SLIP, STATIONS, VERSION,
 };
 
 /// A small generator of random numbers (splitmix64).
@@ -154,7 +154,7 @@ pub fn shaped(rng: &mut Rng) -> Lent {
             copies,
         })
     };
-    let eight = [1, 2, 4, 5, 6, 7, 9, 10].into_iter();
+    let eight = EIGHT.into_iter();
     let mut tables = Tables::fresh(7, 9);
     tables.pages[0] = page(
         5,
@@ -192,6 +192,37 @@ fn n(page: usize) -> usize {
     record(page) + RECORD - 1
 }
 
+/// The register's entry of a frame.
+pub fn holder(tables: &[u8], frame: u8) -> u16 {
+    let place = REGISTER + 2 * usize::from(frame);
+    u16::from_be_bytes([tables[place], tables[place + 1]])
+}
+
+pub fn set_holder(tables: &mut [u8], frame: u8, holder: u16) {
+    let place = REGISTER + 2 * usize::from(frame);
+    tables[place..][..2].copy_from_slice(&holder.to_be_bytes());
+}
+
+fn exchange_holders(tables: &mut [u8], one: u8, other: u8) {
+    let holders = [holder(tables, one), holder(tables, other)];
+    set_holder(tables, one, holders[1]);
+    set_holder(tables, other, holders[0]);
+}
+
+/// Makes the register right for the page records as they are, sound or not: for each frame the
+/// first copy on it.
+pub fn register_anew(tables: &mut [u8]) {
+    tables[REGISTER..].fill(255);
+    for page in (0..PAGES).rev() {
+        for copy in (0..ENTRIES.min(tables[n(page)].into())).rev() {
+            let frame = tables[entry(page, copy)];
+            if usize::from(frame) < REGISTERED {
+                set_holder(tables, frame, (ENTRIES * page + copy) as u16);
+            }
+        }
+    }
+}
+
 /// A number above `limit` up to `most`, often the next one.
 fn above(rng: &mut Rng, limit: u8, most: u8) -> u8 {
     match rng.below(2) {
@@ -203,8 +234,13 @@ fn above(rng: &mut Rng, limit: u8, most: u8) -> u8 {
 /// A way to break one table rule of `shaped` tables.
 pub type Damage = (&'static str, fn(&mut Rng, &mut Lent));
 
-/// Every table rule broken in turn.
-pub const DAMAGES: [Damage; 32] = [
+/// Frames of `shaped` tables: those of page 2's copies, those of all copies, and the free ones.
+const EIGHT: [u8; 8] = [1, 2, 4, 5, 6, 7, 9, 10];
+const HELD: [u8; 13] = [0, 1, 2, 3, 4, 5, 6, 7, 8, 9, 10, 11, 15];
+const FREE: [u8; 3] = [12, 13, 14];
+
+/// Every table rule broken in turn, and no other: where frames or n change, the register follows.
+pub const DAMAGES: [Damage; 49] = [
     ("P above 127", |rng, lent| {
         lent.tables[0] = above(rng, MOST_FRAMES, 255);
         lent.fast = rng.bytes(FRAME * usize::from(lent.tables[0]));
@@ -225,21 +261,31 @@ pub const DAMAGES: [Damage; 32] = [
     ("n above 8, one copy", |rng, lent| {
         lent.tables[n(5)] = above(rng, 8, 255);
     }),
-    ("n too small", |_, lent| lent.tables[n(0)] = 2),
+    ("n too small", |_, lent| {
+        lent.tables[n(0)] = 2;
+        register_anew(&mut lent.tables);
+    }),
     ("n too large", |_, lent| lent.tables[n(0)] = 4),
-    ("n 0 on a standing page", |_, lent| lent.tables[n(5)] = 0),
+    ("n 0 on a standing page", |_, lent| {
+        lent.tables[n(5)] = 0;
+        register_anew(&mut lent.tables);
+    }),
     ("n 1 on an absent page", |_, lent| lent.tables[n(9)] = 1),
     ("frame out of range", |rng, lent| {
         lent.tables[entry(5, 0)] = above(rng, 15, 254);
+        register_anew(&mut lent.tables);
     }),
     ("a frame twice in one page", |_, lent| {
         lent.tables[entry(0, 0)] = 8;
+        register_anew(&mut lent.tables);
     }),
     ("a frame under two pages", |_, lent| {
         lent.tables[entry(63, 0)] = 10;
+        register_anew(&mut lent.tables);
     }),
     ("the same frame under neighbours", |_, lent| {
         lent.tables[entry(2, 7)] = 9;
+        register_anew(&mut lent.tables);
     }),
     ("CURRENT without MOST RECENT", |_, lent| {
         lent.tables[entry(0, 0) + 1] = 1;
@@ -256,9 +302,11 @@ pub const DAMAGES: [Damage; 32] = [
     ("a null copy not alone, recent", |_, lent| {
         lent.tables[entry(0, 1)] = NO_FRAME;
         lent.tables[entry(0, 1) + 1] = 0;
+        register_anew(&mut lent.tables);
     }),
     ("a null copy not alone, stale", |_, lent| {
         lent.tables[entry(0, 0)] = NO_FRAME;
+        register_anew(&mut lent.tables);
     }),
     ("two null copies", |_, lent| {
         lent.tables[n(1)] = 2;
@@ -302,25 +350,99 @@ pub const DAMAGES: [Damage; 32] = [
         let mark = 1 + rng.below(2);
         lent.tables[entry(3, rng.below(ENTRIES)) + mark] = rng.within(1, 255);
     }),
+    ("an entry names another copy of the page", |rng, lent| {
+        let frame = rng.pick(&EIGHT);
+        let other = holder(&lent.tables, frame) ^ u16::from(rng.within(1, 7));
+        set_holder(&mut lent.tables, frame, other);
+    }),
+    ("an entry names a copy of another page", |rng, lent| {
+        let frame = rng.pick(&HELD);
+        let other = holder(&lent.tables, frame) ^ (8 << rng.below(6));
+        set_holder(&mut lent.tables, frame, other);
+    }),
+    ("a free frame's entry set", |rng, lent| {
+        set_holder(&mut lent.tables, rng.pick(&FREE), any_holder(rng));
+    }),
+    ("a copy named by a free frame too", |rng, lent| {
+        let held = holder(&lent.tables, rng.pick(&HELD));
+        set_holder(&mut lent.tables, rng.pick(&FREE), held);
+    }),
+    ("a null copy named by a free frame", |rng, lent| {
+        set_holder(&mut lent.tables, rng.pick(&FREE), 8);
+    }),
+    ("a held frame's entry cleared", |rng, lent| {
+        set_holder(&mut lent.tables, rng.pick(&HELD), NO_HOLDER);
+    }),
+    ("an entry moved to a free frame", |rng, lent| {
+        exchange_holders(&mut lent.tables, rng.pick(&HELD), rng.pick(&FREE));
+    }),
+    ("an entry moved past the last frame", |rng, lent| {
+        exchange_holders(&mut lent.tables, rng.pick(&HELD), rng.within(16, 253));
+    }),
+    ("two entries exchanged", |rng, lent| {
+        let one = rng.below(HELD.len());
+        let other = (one + 1 + rng.below(HELD.len() - 1)) % HELD.len();
+        exchange_holders(&mut lent.tables, HELD[one], HELD[other]);
+    }),
+    ("an entry past the last frame set", |rng, lent| {
+        set_holder(&mut lent.tables, above(rng, 15, 253), any_holder(rng));
+    }),
+    ("the last entry set", |rng, lent| {
+        set_holder(&mut lent.tables, 253, any_holder(rng));
+    }),
+    ("a held frame's entry 512 or more", |rng, lent| {
+        let frame = rng.pick(&HELD);
+        let high = 512 * u16::from(rng.within(1, 127));
+        let held = holder(&lent.tables, frame);
+        set_holder(&mut lent.tables, frame, high + held);
+    }),
+    ("a free frame's entry 512 or more", |rng, lent| {
+        let high = 512 + rng.below(usize::from(NO_HOLDER) - 512) as u16;
+        set_holder(&mut lent.tables, rng.pick(&FREE), high);
+    }),
+    ("an entry with its low byte first", |rng, lent| {
+        let frame = rng.pick(&EIGHT);
+        let turned = holder(&lent.tables, frame).swap_bytes();
+        set_holder(&mut lent.tables, frame, turned);
+    }),
+    ("a bit of the register flipped", |rng, lent| {
+        let at = REGISTER + rng.below(RAW - REGISTER);
+        lent.tables[at] ^= 1 << rng.below(8);
+    }),
+    ("a register of zeros", |_, lent| {
+        lent.tables[REGISTER..].fill(0);
+    }),
+    ("a fresh register", |_, lent| {
+        lent.tables[REGISTER..].fill(255);
+    }),
 ];
 
-/// Tables with two copies on one frame, for every two copies of lawful tables.
+/// What an entry names: any page and copy.
+fn any_holder(rng: &mut Rng) -> u16 {
+    rng.below(ENTRIES * PAGES) as u16
+}
+
+/// Tables with two copies on one frame, for every two copies of lawful tables; the frame's entry
+/// names the second of them.
 pub fn doubled(lent: &Lent) -> Vec<Lent> {
     let tables = Tables::from_raw(&lent.tables).expect("lawful tables");
     let with_frames = tables.copies().filter(|(_, _, copy)| copy.frame.is_some());
-    let places: Vec<usize> = with_frames.map(|(p, c, _)| entry(p, c)).collect();
+    let places: Vec<(usize, usize)> = with_frames.map(|(p, c, _)| (p, c)).collect();
     let mut doubled = Vec::new();
     for &from in &places {
         for &to in places.iter().filter(|&&to| to != from) {
             let mut lent = lent.clone();
-            lent.tables[to] = lent.tables[from];
+            let frame = lent.tables[entry(from.0, from.1)];
+            lent.tables[entry(to.0, to.1)] = frame;
+            register_anew(&mut lent.tables);
+            set_holder(&mut lent.tables, frame, (ENTRIES * to.0 + to.1) as u16);
             doubled.push(lent);
         }
     }
     doubled
 }
 
-/// One byte of the tables set to another value, often a small one.
+/// One byte of the tables set to another value, often a small one; the register may follow.
 pub fn damage_byte(rng: &mut Rng, lent: &mut Lent) {
     let at = rng.below(lent.tables.len());
     lent.tables[at] = match rng.below(3) {
@@ -328,6 +450,21 @@ pub fn damage_byte(rng: &mut Rng, lent: &mut Lent) {
         1 => lent.tables[at] ^ (1 << rng.below(8)),
         _ => rng.within(0, 9),
     };
+    if at < REGISTER && rng.once_in(2) {
+        register_anew(&mut lent.tables);
+    }
+}
+
+/// An entry of the register set or cleared, or two exchanged.
+pub fn damage_register(rng: &mut Rng, lent: &mut Lent) {
+    let frames = REGISTERED.min(1 + usize::from(lent.tables[0]) + usize::from(lent.tables[1]));
+    let [one, other] = [rng.below(frames), rng.below(frames)].map(|frame| frame as u8);
+    match rng.below(4) {
+        0 => set_holder(&mut lent.tables, one, any_holder(rng)),
+        1 => set_holder(&mut lent.tables, one, NO_HOLDER),
+        2 => set_holder(&mut lent.tables, one, NO_HOLDER - 1 - any_holder(rng)),
+        _ => exchange_holders(&mut lent.tables, one, other),
+    }
 }
 
 /// Lent tables with each bit of each mark of every entry flipped, one at a time.
@@ -379,6 +516,7 @@ pub fn misfit_tables(rng: &mut Rng, lent: &mut Lent) {
         0,
         1,
         2,
+        REGISTER,
         RAW - RECORD,
         RAW - 1,
         RAW + 1,
@@ -394,14 +532,15 @@ pub fn hinder(rng: &mut Rng, lent: &mut Lent) {
     if lent.tables.len() != RAW {
         return;
     }
-    match rng.below(8) {
+    match rng.below(10) {
         0 | 1 => {
             let slip = rng.pick(&SHORT_SLIPS);
             lent.out = rng.bytes(slip);
         }
         2..=4 => damage_byte(rng, lent),
-        5 => odd_marks(rng, lent),
-        6 => misfit(rng, lent),
+        5 | 6 => damage_register(rng, lent),
+        7 => odd_marks(rng, lent),
+        8 => misfit(rng, lent),
         _ => misfit_tables(rng, lent),
     }
 }

@@ -38,8 +38,14 @@ pub struct PageCopy {
     pub recent: bool,
 }
 
-/// The length of raw tables: P, S and 64 page records.
-pub const RAW: usize = 2 + PAGES * RECORD;
+/// The length of raw tables: P, S, 64 page records and the register.
+pub const RAW: usize = REGISTER + 2 * REGISTERED;
+/// Where in raw tables the register begins.
+pub const REGISTER: usize = 2 + PAGES * RECORD;
+/// So many frames have an entry in the register, whatever P and S are.
+pub const REGISTERED: usize = 2 * MOST_FRAMES as usize;
+/// The entry of a frame that no copy is on; of others it is 8 * page + copy.
+pub const NO_HOLDER: u16 = 65535;
 /// A raw page record: 16 rights, 8 entries (frame, CURRENT, MOST RECENT), owner, n.
 pub const RECORD: usize = STATIONS + 3 * ENTRIES + 2;
 /// The raw frame of a null copy.
@@ -83,16 +89,38 @@ impl Tables {
         self.copies().all(|(_, _, copy)| copy.frame != Some(frame))
     }
 
+    /// The search: page and number of the copy on a frame.
+    fn holder(&self, frame: u8) -> Option<(usize, usize)> {
+        let mut copies = self.copies();
+        let held = copies.find(|(_, _, copy)| copy.frame == Some(frame));
+        held.map(|(page, copy, _)| (page, copy))
+    }
+
+    /// The raw register. The model keeps none: it is what the search gives of each frame, for all
+    /// of them in one pass.
+    fn register(&self) -> Vec<u8> {
+        let mut register = [NO_HOLDER; REGISTERED];
+        for (page, number, copy) in self.copies() {
+            let entry = copy.frame.and_then(|f| register.get_mut(usize::from(f)));
+            if let Some(free @ &mut NO_HOLDER) = entry {
+                *free = (ENTRIES * page + number) as u16;
+            }
+        }
+        register.into_iter().flat_map(u16::to_be_bytes).collect()
+    }
+
     /// The tables that raw bytes stand for; None if a table rule fails.
     pub fn from_raw(raw: &[u8]) -> Option<Tables> {
         if raw.len() != RAW {
             return None;
         }
         let mut tables = Tables::fresh(raw[0], raw[1]);
-        for (page, record) in raw[2..].chunks(RECORD).enumerate() {
+        let (front, register) = raw.split_at(REGISTER);
+        for (page, record) in front[2..].chunks(RECORD).enumerate() {
             tables.pages[page] = Page::from_raw(record)?;
         }
-        tables.keep_the_rules().then_some(tables)
+        let is_sound = tables.keep_the_rules() && tables.register() == register;
+        is_sound.then_some(tables)
     }
 
     /// The table rules that the form of `Tables` leaves open.
@@ -124,6 +152,7 @@ impl Tables {
             }
             raw.extend_from_slice(&record);
         }
+        raw.extend(self.register());
         raw
     }
 
@@ -490,12 +519,8 @@ impl Reel<'_> {
 
     fn look_frame(&self, frame: u8) -> Result<Done, Refusal> {
         self.frame_in_range(frame)?;
-        let holder = self
-            .tables
-            .copies()
-            .find(|(_, _, copy)| copy.frame == Some(frame));
-        Ok(Done::told(match holder {
-            Some((page, copy, _)) => vec![1, page as u8, copy as u8],
+        Ok(Done::told(match self.tables.holder(frame) {
+            Some((page, copy)) => vec![1, page as u8, copy as u8],
             None => vec![0, 255, 255],
         }))
     }

@@ -7,7 +7,7 @@ use ::model::cases::{
 use ::model::gen::{self, Rng, DAMAGES};
 use ::model::kernel::{Embedded, Kernel, Modelled};
 use ::model::model::{
-    self, frame_bytes, program, Lent, Reader, Tables, KINDS, PROGRAM_INPUT, RAW, SLIP,
+    self, frame_bytes, program, Lent, Reader, Tables, KINDS, NO_HOLDER, PROGRAM_INPUT, RAW, SLIP,
 };
 use reel::words::hex;
 
@@ -291,6 +291,52 @@ fn every_damage_breaks_the_tables() {
             assert_eq!(BOTH.map(|kernel| kernel.rules(&lent)), [0, 0]);
             damage(&mut rng, &mut lent);
             assert_eq!(BOTH.map(|kernel| kernel.rules(&lent)), [5, 5], "{name}");
+        }
+    }
+}
+
+/// The register in bytes: the frames that are held after each call, with their entries.
+#[test]
+fn the_register_follows_every_step() {
+    let steps: [(&str, &[(usize, u8)]); 8] = [
+        ("create 3 5", &[]),
+        ("copy 5 0 0", &[(0, 40)]),
+        ("copy 5 0 6", &[(0, 40), (6, 41)]),
+        ("copy 5 0 2", &[(0, 40), (6, 41), (2, 42)]),
+        ("create 3 1", &[(0, 40), (6, 41), (2, 42)]),
+        ("copy 1 0 7", &[(0, 40), (6, 41), (2, 42), (7, 8)]),
+        ("delete-copy 5 0", &[(6, 40), (2, 41), (7, 8)]),
+        ("delete-page 3 5", &[(7, 8)]),
+    ];
+    for kernel in BOTH {
+        let mut desk = Desk::fresh(kernel);
+        for (line, held) in steps {
+            desk.accept(line);
+            let mut due = vec![255; 2 * 254];
+            for &(frame, entry) in held {
+                due[2 * frame..][..2].copy_from_slice(&[0, entry]);
+            }
+            assert_eq!(desk.lent.tables[2 + 64 * 42..], due, "{line}");
+        }
+    }
+}
+
+#[test]
+fn the_register_has_what_looks_tell() {
+    let mut rng = Rng::new(1);
+    for _ in 0..100 {
+        let lent = gen::lawful(&mut rng);
+        let tables = Tables::from_raw(&lent.tables).expect("lawful tables");
+        for frame in 0..tables.frames() as u8 {
+            let due = match gen::holder(&lent.tables, frame) {
+                NO_HOLDER => [0, 255, 255],
+                entry => [1, (entry / 8) as u8, (entry % 8) as u8],
+            };
+            for kernel in BOTH {
+                let lent = lent.clone();
+                let told = Desk { kernel, lent }.accept(&format!("look-frame {frame}"));
+                assert_eq!(told, due, "frame {frame}");
+            }
         }
     }
 }

@@ -8,7 +8,7 @@ use ::model::gen::{self, Moves, Rng};
 use ::model::kernel::{packed, Kernel, Modelled};
 use ::model::model::{
     self, frame_bytes, Answer, Call, Lent, Page, Reached, Reader, Tables, ENTRIES, FRAME, NO_FRAME,
-    RAW, RECORD, SLIP, STATIONS,
+    NO_HOLDER, RAW, RECORD, REGISTER, REGISTERED, SLIP, STATIONS,
 };
 
 /// One message answered by the model, to be spoiled.
@@ -235,7 +235,19 @@ fn used(record: &mut [u8]) -> std::slice::ChunksMut<'_, u8> {
 }
 
 fn records(tables: &mut [u8]) -> std::slice::ChunksMut<'_, u8> {
-    tables[2..].chunks_mut(RECORD)
+    tables[2..REGISTER].chunks_mut(RECORD)
+}
+
+/// Puts right those entries of the register that pass, by the frame, the entry and the one due.
+fn mend_entries(tables: &mut [u8], passes: impl Fn(u8, u16, u16) -> bool) {
+    let mut right = tables.to_vec();
+    gen::register_anew(&mut right);
+    for frame in 0..REGISTERED as u8 {
+        let due = gen::holder(&right, frame);
+        if passes(frame, gen::holder(tables, frame), due) {
+            gen::set_holder(tables, frame, due);
+        }
+    }
 }
 
 /// Makes marks of 1 of all that are not 0, in tables of any length.
@@ -248,7 +260,7 @@ fn even_marks(tables: &mut [u8]) {
 }
 
 /// The wrong kernels.
-const MUTANTS: [(&str, Flaw); 77] = [
+const MUTANTS: [(&str, Flaw); 86] = [
     // The traps of the paper.
     (
         "a new copy takes its source's CURRENT mark",
@@ -589,6 +601,51 @@ const MUTANTS: [(&str, Flaw); 77] = [
             }
         }),
     ),
+    (
+        "the register not renumbered after a delete",
+        Flaw::Answer(|turn| {
+            if let (Some(Call::DeleteCopy { copy, .. }), Some((_, page))) =
+                (turn.call.clone(), turn.accepted_page())
+            {
+                let freed = page.copies[usize::from(copy)].frame.expect("a frame");
+                turn.after.tables[REGISTER..].copy_from_slice(&turn.before.tables[REGISTER..]);
+                gen::set_holder(&mut turn.after.tables, freed, NO_HOLDER);
+            }
+        }),
+    ),
+    (
+        "a deleted page's frames stay in the register",
+        Flaw::Answer(|turn| {
+            if let (Some(Call::DeletePage { .. }), Some(_)) = (&turn.call, turn.accepted_page()) {
+                turn.after.tables[REGISTER..].copy_from_slice(&turn.before.tables[REGISTER..]);
+            }
+        }),
+    ),
+    (
+        "the first copy in place of a null copy not entered in the register",
+        Flaw::Answer(|turn| {
+            if let (Some(Call::MakeCopy { frame, .. }), Some((_, page))) =
+                (turn.call.clone(), turn.accepted_page())
+            {
+                if page.copies[0].frame.is_none() {
+                    gen::set_holder(&mut turn.after.tables, frame, NO_HOLDER);
+                }
+            }
+        }),
+    ),
+    (
+        "a new copy's frame gets the register entry of its source",
+        Flaw::Answer(|turn| {
+            if let (Some(Call::MakeCopy { copy, frame, .. }), Some((_, page))) =
+                (turn.call.clone(), turn.accepted_page())
+            {
+                if let Some(source) = page.copies[usize::from(copy)].frame {
+                    let held = gen::holder(&turn.before.tables, source);
+                    gen::set_holder(&mut turn.after.tables, frame, held);
+                }
+            }
+        }),
+    ),
     // Refusals and their order.
     (
         "eight copies before frame held",
@@ -823,6 +880,28 @@ const MUTANTS: [(&str, Flaw); 77] = [
         }),
     ),
     ("a run puts marks back as 1", Flaw::Run(even_marks)),
+    ("a wrong register let pass", Flaw::Mend(gen::register_anew)),
+    (
+        "a free frame's entry let pass",
+        Flaw::Mend(|tables| mend_entries(tables, |_, _, due| due == NO_HOLDER)),
+    ),
+    (
+        "a held frame's entry let pass where it names nobody",
+        Flaw::Mend(|tables| mend_entries(tables, |_, entry, _| entry == NO_HOLDER)),
+    ),
+    (
+        "an entry past the last frame let pass",
+        Flaw::Mend(|tables| {
+            let frames = u16::from(tables[0]) + u16::from(tables[1]);
+            mend_entries(tables, |frame, _, _| u16::from(frame) >= frames);
+        }),
+    ),
+    (
+        "an entry of 512 or more taken for none",
+        Flaw::Mend(|tables| {
+            mend_entries(tables, |_, entry, due| entry >= 512 && due == NO_HOLDER);
+        }),
+    ),
     // Runs, tallies, fresh tables.
     (
         "a cut end passed over",

@@ -1,4 +1,4 @@
--- `put_tables`. The pages before i are laid.
+-- `put_tables`. The pages before i are laid, and then the register.
 use Prim.Native.Nat.{_-_, _≤_, _*_}
 use mathlib.Core.Path.{_≡_, refl, _∙_}
 use mathlib.Core.List.{flatMap}
@@ -7,8 +7,10 @@ use lib.ListN.{length, take, length-append, length-map, length-set}
 use lib.Seq.{sets, take-all}
 use borrow.Author.Needs.{needs}
 use Rattle.tables.specs.Model.{noPageRecord}
-use Rattle.embed.specs.Bytes.{pageSize, tablesSize, pageBytes, tablesBytes}
+use Rattle.messages.specs.Replies.{be16}
+use Rattle.embed.specs.Bytes.{pageSize, registerAt, tablesSize, pageBytes, tablesBytes}
 use Rattle.embed.proofs.LayLaws.{sets-then, sets-whole, flat-more}
+use Rattle.embed.proofs.RoundTrip.{register-length}
 use Rattle.embed.proofs.put_tables.Statement.{statement}
 use Rattle.embed.proofs.put_tables.Tie as tie
 
@@ -65,19 +67,27 @@ loop-again c =
       rw (m, length-append) (omega arith),
     )
 
+put-register-requires : tie.Need-put-register-requires Inv-loop μ-loop
+put-register-requires c κs = search needs
+
 same-length : tie.Need-same-length Inv-loop μ-loop
 same-length c = search needs
 
 returns : tie.Need-returns Inv-loop μ-loop
 unfolding tablesBytes
 returns c =
-    let s = c .before .before .before in
+    let s = c .before .before .before .before .before .before .before .before in
+    let l = c .before .before .before .before .before .before .loop in
     let t = s .args .t1 in
     let n : length (t .pages) ≡ 64 = simp length-map at (s .good .0 .1 .1 .1 .0 .1 .0 .1) in
-    let e : c .before .loop .i ≡ 64 = omega arith in
-    let all : take (c .before .loop .i) (t .pages) ≡ t .pages = take-all (c .before .loop .i) (t .pages) (omega arith) in
-    let k : length (flatMap pageBytes (t .pages)) ≡ 2688 = rw (all, e) at (c .before .loop .inv .3) in
-    c .before .loop .inv .2 ∙ rw all (sets-whole (s .args .bytes .now) (tablesBytes t) (omega arith))
+    let m : length (t .register) ≡ 254 = search needs in
+    let e : l .i ≡ 64 = omega arith in
+    let all : take (l .i) (t .pages) ≡ t .pages = take-all (l .i) (t .pages) (omega arith) in
+    let k : length (flatMap pageBytes (t .pages)) ≡ 2688 = rw (all, e) at (l .inv .3) in
+    let long : length (tablesBytes t) ≡ tablesSize = simp length-append (omega (arith, register-length (t .register) m)) in
+    c .before .before .put-register .ensures
+    ∙ rw (l .inv .2, all) (sets-then _ 2 (flatMap pageBytes (t .pages)) registerAt (flatMap be16 (t .register)) (omega arith))
+    ∙ sets-whole (s .args .bytes .now) (tablesBytes t) (omega arith)
 
 pub put-tables-spec : {M : Type 1} → statement M
 put-tables-spec =
@@ -96,5 +106,6 @@ put-tables-spec =
     add-i
     loop-less
     loop-again
+    put-register-requires
     same-length
     returns)

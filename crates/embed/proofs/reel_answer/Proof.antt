@@ -10,7 +10,7 @@ use Rattle.messages.specs.Promises.{sentAlone}
 use Rattle.messages.specs.Run.{answer}
 use Rattle.messages.proofs.TurnLaws.{reply-short}
 use Rattle.embed.specs.Exports.{withTables, lentState}
-use Rattle.embed.proofs.WayBack.{in-sized}
+use Rattle.embed.proofs.WayBack.{AreBytes, in-sized}
 use Rattle.embed.proofs.LentLaws.{put-moved, left-in}
 use Rattle.embed.proofs.reel_answer.Statement.{statement}
 use Rattle.embed.proofs.reel_answer.Tie as tie
@@ -55,15 +55,17 @@ returns : tie.Need-returns
 returns c =
     let d = c .before .before .before .before .before .before .before .before .before .before .before .before in
     let h = d .before .before .before .before .before .before in
-    let a = h .before .before .before .before .before .before .before .args in
+    let k = h .before .before .before .before .before .before in
+    let a = k .before .args in
     let q = rw (d .before .before .before .before .tables-held .ensures) at (d .answer .ensures) in
     let b = a .tables .now in
+    let low : AreBytes b = λ i. k .slice-known .given i .fits in
     let o = answer (length (a .out .now)) (lentState b (a .fast .now) (a .slow .now)) (sentAlone (a .message .now)) in
     record {
       told = c .packed .ensures ∙ rw (q .number-told, q .len-told, q .laid-told);
       tables-out = c .before .before .before .put-where .ensures ∙ rw (h .holds-tables .ensures)
-          (put-moved b (d .answer .result .moved) (d .answer .result .tables) (q .kept)
-          ∙ ap (λ (s : State). withTables b (s .tables)) (q .state-out) ∙ left-in b (a .fast .now) (a .slow .now) o);
+          (put-moved b (d .answer .result .moved) (d .answer .result .tables) low (q .kept)
+          ∙ ap (λ (s : State). withTables b (s .tables)) (q .state-out) ∙ left-in b (a .fast .now) (a .slow .now) o low);
       lent-out = rw (ap (λ (s : State). s .fast) (q .state-out), ap (λ (s : State). s .slow) (q .state-out), q .reply-out);
     }
 

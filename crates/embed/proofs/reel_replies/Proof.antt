@@ -51,13 +51,14 @@ returns c =
     let d = c .before .before .before .before .before .before .before .before .before .before .before .before .before .before .before in
     let n = d .before .before .before .before in
     let h = n .before .before .before .before in
-    let b = h .before .before .before .before .before .before .before .before .args .tables .now in
+    let k = h .before .before .before .before .before .before .before in
+    let b = k .before .args .tables .now in
     let q = rw (n .before .before .tables-held .ensures, n .tally-of .ensures) at (d .fill .ensures) in
     record {
       place-told = q .place-told;
       used-told = q .used-told;
       tables-out = c .before .before .before .before .before .before .put-where .ensures ∙ rw (h .holds-tables .ensures)
-          (put-moved b (d .fill .result .moved) (d .fill .result .tables) (q .kept)
+          (put-moved b (d .fill .result .moved) (d .fill .result .tables) (λ i. k .slice-known .given i .fits) (q .kept)
           ∙ ap (λ (s : State). withTables b (s .tables)) (q .state-out));
       lent-out = rw (ap (λ (s : State). s .fast) (q .state-out), ap (λ (s : State). s .slow) (q .state-out), q .buffer-out);
       tally-out = c .before .before .put-tally .ensures ∙ rw (q .tally-out);

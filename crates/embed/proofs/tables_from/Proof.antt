@@ -62,12 +62,16 @@ shared-slice-read-t12 c = search needs
 shared-slice-read-t14 : tie.Need-shared-slice-read-t14 Inv-loop μ-loop
 shared-slice-read-t14 c = search needs
 
+register-from-requires : tie.Need-register-from-requires Inv-loop μ-loop
+register-from-requires c κs = search needs
+
 returns : tie.Need-returns Inv-loop μ-loop
 unfolding tablesFrom
 returns c =
-    let b = drop 2 (c .before .before .before .before .before .before .args .bytes .now) in
-    let e : c .before .before .before .loop .i ≡ 64 = omega arith in
-    rw (c .before .before .before .loop .inv .1, e, fill-end (fromEach 64 pageSize pageFrom b) _ 64 (each-length pageSize pageFrom 64 b) refl)
+    let b = drop 2 (c .before .before .before .before .before .before .before .args .bytes .now) in
+    let l = c .before .before .before .before .loop in
+    let e : l .i ≡ 64 = omega arith in
+    rw (l .inv .1, e, fill-end (fromEach 64 pageSize pageFrom b) _ 64 (each-length pageSize pageFrom 64 b) refl, c .register-from .ensures)
 
 pub tables-from-spec : {M : Type 1} → statement M
 tables-from-spec =
@@ -87,4 +91,5 @@ tables-from-spec =
     loop-again
     shared-slice-read-t12
     shared-slice-read-t14
+    register-from-requires
     returns)

@@ -97,7 +97,7 @@ same-length-4 c = search needs
 returns-2 : tie.Need-returns-2
 returns-2 c =
     let w = done (c .before .before .before .before .before .before .before .before .before .before .before .before .before) in
-    replied _ _ _ _ _ _ _ (w .served _ _ _ _ (rw (c .before .before .if2 .taken) (c .before .settle .ensures)) (c .before .before .before .before .before .before .before .before .before .reply-decided .ensures)) (rw (le-ltb _ 70 (w .roomy))) (λ e. let z : _≡_ {A = ℕ} 0 1 = cc in absurd (omega arith))
+    replied _ _ _ _ _ _ _ (w .served _ _ _ _ (c .before .settle .ensures) (c .before .before .before .before .before .before .before .before .before .reply-decided .ensures)) (rw (le-ltb _ 70 (w .roomy))) (λ e. let z : _≡_ {A = ℕ} 0 1 = cc in absurd (omega arith))
 
 add-t14 : tie.Need-add-t14
 add-t14 c =

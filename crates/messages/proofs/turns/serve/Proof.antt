@@ -207,7 +207,7 @@ loop-again-2 c =
     let d = c .before .before .before .before .before .before .before .before .before .before .before .before .reply-decided in
     let w = done (c .before .before .before .before .before .before .before .before .before .before .before .before .before .before .before) in (
       rw (p .past .ensures) (going-on v _ _ _ _ _ _ _ _ _ _ (here (p .before .before .before)) (goes (p .before .before .before))
-          (w .served _ _ _ _ (rw (c .before .if3 .taken) (c .settle .ensures)) (d .ensures))
+          (w .served _ _ _ _ (c .settle .ensures) (d .ensures))
           refl (d .kept .1 .1 .1 .1 .0) (rw (le-ltb _ 70 (w .roomy)) (c .before .before .before .before .ahead2 .ensures))
           (c .before .before .tally-after2 .ensures) (λ e. let z : _≡_ {A = ℕ} 0 1 = cc in absurd (omega arith)) (d .kept .1 .1 .0) (d .kept .1 .1 .1 .0)),
       l .inv .1,

@@ -5,9 +5,8 @@ use native.Mathlib.Omega.{arith}
 use lib.ListN.{length, drop}
 use Rattle.tables.specs.Lists.{all}
 use Rattle.tables.specs.Model.{inUse}
-use Rattle.tables.proofs.Loops.{drop-end}
+use Rattle.tables.proofs.Loops.{drop-end, use-more}
 use Rattle.steps.specs.Promises.{currentWithin}
-use Rattle.steps.proofs.CopyLaws.{use-more}
 use borrow.Author.Needs.{needs}
 use Rattle.steps.proofs.effects.current_within.Statement.{statement}
 use Rattle.steps.proofs.effects.current_within.Tie as tie

@@ -27,7 +27,7 @@ returns c =
     let d = c .before .before .before .before .before .before .before .before .before .before .judge-any in
     stepped s (a .call) (a .bytes .now) (a .out .now) (d .result)
     (carries s (a .call) (a .bytes .now) (a .out .now) (d .result) (search needs) (d .ensures))
-    _ _ _ _ (rw (c .before .if1 .taken) (c .settle .ensures)) (c .before .before .before .before .before .before .carry .ensures)
+    _ _ _ _ (c .settle .ensures) (c .before .before .before .before .before .before .carry .ensures)
 
 same-length-3 : tie.Need-same-length-3
 same-length-3 c = search needs

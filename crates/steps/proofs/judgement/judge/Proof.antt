@@ -30,9 +30,9 @@ use Rattle.steps.specs.Steps.{decide}
 use Rattle.steps.specs.Promises.{decisionOf}
 use Rattle.steps.specs.Private.{decidedAt}
 use Rattle.steps.proofs.JudgeLaws.{decided-at}
-use Rattle.steps.proofs.Sizes.{sixty-four}
-use Rattle.steps.proofs.ByRef.{asked, asks, lends, regains, lent-at, local, frees-full, Val-walk, val-leaves, val-meets}
-use Rattle.steps.proofs.Rows.{word, tabled, call, decision}
+use Rattle.tables.proofs.ByRef.{asked, asks, lends, regains, lent-at, local, frees-full, Val-walk, val-leaves, val-meets}
+use Rattle.tables.proofs.Rows.{word, tabled}
+use Rattle.steps.proofs.Rows.{call, decision}
 use Rattle.steps.proofs.judgement.judge_at as judge-at
 use Rattle.steps.proofs.judgement.judge_at.Symbol as judge-at-def
 use Rattle.steps.proofs.judgement.judge_at.Symbol.{name as #steps·judgement·judge-at}
@@ -73,7 +73,7 @@ module _ {M : Type 1} (𝓤 : URA M) (H : Heap 𝓤) (A : Atoms 𝓤) (W : Given
         land ! (from ! (stop !)) (init ! 10 refl (wt .0)) $ returns ! (look ! 10 refl) $ frees-full ! 10 refl refl $ frees-full ! 8 refl refl $
         frees-full ! 6 refl refl $ frees-full ! 4 refl refl $ forget ! 0 refl $ move ! (0 ∷ 3 ∷ []) $ free1 ! $ frees-full ! 0 refl refl $ free0 ! $
         by ! (val-leaves 𝓤 H A W (tabled ∷ call ∷ word ∷ []) decision c (h, (m, (size, tt))) tt answer is
-        (λ e. factI 𝓤 (answer ≡ decisionOf h m (decide h m size)) (emp 𝓤) (decided-at h m size (sixty-four h _ is-tables))))))))))))
+        (λ e. factI 𝓤 (answer ≡ decisionOf h m (decide h m size)) (emp 𝓤) (decided-at h m size)))))))))))
 
   judge-meets : Meets 𝓤 H A judge.signature runs-as (judge.spec 𝓤 H A mem run)
   judge-meets =

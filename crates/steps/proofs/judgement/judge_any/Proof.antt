@@ -30,9 +30,9 @@ use Rattle.steps.specs.Steps.{decideAny}
 use Rattle.steps.specs.Promises.{rulesNumber, decisionOf}
 use Rattle.steps.specs.Private.{decidedAt, ruled as ruledBy}
 use Rattle.steps.proofs.JudgeLaws.{decided-at, ruled-is}
-use Rattle.steps.proofs.Sizes.{sixty-four}
-use Rattle.steps.proofs.ByRef.{asked, asks, tells, lends, regains, lent-at, local, frees-full, Val-walk, val-leaves, val-meets}
-use Rattle.steps.proofs.Rows.{byte, word, tabled, call, decision}
+use Rattle.tables.proofs.ByRef.{asked, asks, tells, lends, regains, lent-at, local, frees-full, Val-walk, val-leaves, val-meets}
+use Rattle.tables.proofs.Rows.{byte, word, tabled}
+use Rattle.steps.proofs.Rows.{call, decision}
 use Rattle.steps.proofs.judgement.rules as rules
 use Rattle.steps.proofs.judgement.rules.Symbol as rules-def
 use Rattle.steps.proofs.judgement.rules.Symbol.{name as #steps·judgement·rules}
@@ -103,7 +103,7 @@ module _ {M : Type 1} (𝓤 : URA M) (H : Heap 𝓤) (A : Atoms 𝓤) (W : Given
         frees-full ! 6 refl refl $ frees-full ! 4 refl refl $ frees-full ! 2 refl refl $ frees-full ! 0 refl refl $ free0 ! $
         by ! (val-leaves 𝓤 H A W (tabled ∷ call ∷ word ∷ word ∷ word ∷ []) decision c (h, (m, (size, (fl, (sl, tt))))) tt answer is
         (λ e. factI 𝓤 (answer ≡ decisionOf h m (decideAny h fl sl m size)) (emp 𝓤)
-        (ruled-is h fl sl m size judged (decided-at h m size (sixty-four h _ is-tables))))))))))))))))))))
+        (ruled-is h fl sl m size judged (decided-at h m size)))))))))))))))))))
 
   judge-any-meets : Meets 𝓤 H A judge-any.signature runs-as (judge-any.spec 𝓤 H A mem run)
   judge-any-meets =

@@ -1,4 +1,4 @@
--- `judge_at` meets its contract: a walk of its MIR, by hand. The field `shared` is read behind the reference, which then goes on to `page_at` and to `search`; `search_start` and `decided` have what is found.
+-- `judge_at` meets its contract: a walk of its MIR, by hand. The field `shared` is read behind the reference, which then goes on to `page_at` and to `Tables::registered`; `decided` has what is found.
 use mathlib.Core.Path.{_≡_, refl}
 use Prim.Native.Nat.{ℕ, _%_, _<_, _^_}
 use native.Mathlib.Nat.{mod-lt, lt-of-lt-of-le}
@@ -28,6 +28,7 @@ use denote.Triple.Clauses.{Clauses}
 use denote.Triple.Spec.{Meets, tripleOf}
 use denote.Triple.Table.{entered, cited}
 use Rattle.tables.specs.Model.{pageAt}
+use Rattle.tables.specs.Register.{registered}
 use Rattle.tables.specs.declared.Page.{Page}
 use Rattle.tables.specs.declared.Tables.{Tables as Tabled}
 use Rattle.tables.specs.declared.Holder.{Holder}
@@ -36,23 +37,20 @@ use Rattle.tables.proofs.Tables as T
 use Rattle.tables.proofs.Tables.Laws as T′
 use Rattle.steps.specs.declared.Call.{Call}
 use Rattle.steps.specs.declared.Decision.{Decision}
-use Rattle.steps.specs.Private.{holderFrom, searchStart, decidedAt}
+use Rattle.steps.specs.Private.{decidedAt}
 use Rattle.steps.proofs.Call as C
 use Rattle.steps.proofs.Call.Laws as C′
-use Rattle.steps.proofs.ByRef.{asked, asks, tells, looks-in, looks-away, local, frees-full, Ref-walk, entry, ref-leaves, ref-meets}
-use Rattle.steps.proofs.Rows.{byte, word, shared, page, tabled, holder, call, decision}
+use Rattle.tables.proofs.ByRef.{asked, asks, tells, looks-in, looks-away, local, frees-full, Ref-walk, entry, ref-leaves, ref-meets}
+use Rattle.tables.proofs.Rows.{byte, word, shared, page, tabled, holder}
+use Rattle.steps.proofs.Rows.{call, decision}
 use Rattle.steps.proofs.judgement.page_at as page-at
 use Rattle.steps.proofs.judgement.page_at.Symbol as page-at-def
 use Rattle.steps.proofs.judgement.page_at.Symbol.{name as #steps·judgement·page-at}
 use Rattle.steps.proofs.judgement.page_at.Met as page-at-thm
-use Rattle.steps.proofs.judgement.search_start as search-start
-use Rattle.steps.proofs.judgement.search_start.Symbol as search-start-def
-use Rattle.steps.proofs.judgement.search_start.Symbol.{name as #steps·judgement·search-start}
-use Rattle.steps.proofs.judgement.search_start.Met as search-start-thm
-use Rattle.steps.proofs.judgement.search as search
-use Rattle.steps.proofs.judgement.search.Symbol as search-def
-use Rattle.steps.proofs.judgement.search.Symbol.{name as #steps·judgement·search}
-use Rattle.steps.proofs.judgement.search.Met as search-thm
+use Rattle.tables.proofs.Tables.registered as by-register
+use Rattle.tables.proofs.Tables.registered.Symbol as by-register-def
+use Rattle.tables.proofs.Tables.registered.Symbol.{name as #tables·Tables·registered}
+use Rattle.tables.proofs.Tables.registered.Met as by-register-thm
 use Rattle.steps.proofs.judgement.decided as decided
 use Rattle.steps.proofs.judgement.decided.Symbol as decided-def
 use Rattle.steps.proofs.judgement.decided.Symbol.{name as #steps·judgement·decided}
@@ -64,8 +62,7 @@ use Rattle.steps.proofs.judgement.judge_at.Code as code
 
 module _ {M : Type 1} (𝓤 : URA M) (H : Heap 𝓤) (A : Atoms 𝓤) (W : Given 𝓤 H A) (mem : Memory → SProp 𝓤) (run : Routine → Fun 𝓤) (𝓣 : Tables 𝓤 H)
     (known-page : Triple 𝓤 (𝓣 .C #steps·judgement·page-at) (asked 𝓤 H A page-at.ended (page-at.clauses 𝓤 H A mem run)))
-    (known-start : Triple 𝓤 (𝓣 .C #steps·judgement·search-start) (asked 𝓤 H A search-start.ended (search-start.clauses 𝓤 H A mem run)))
-    (known-search : Triple 𝓤 (𝓣 .C #steps·judgement·search) (asked 𝓤 H A search.ended (search.clauses 𝓤 H A mem run)))
+    (known-holder : Triple 𝓤 (𝓣 .C #tables·Tables·registered) (asked 𝓤 H A by-register.ended (by-register.clauses 𝓤 H A mem run)))
     (known-decided : Triple 𝓤 (𝓣 .C #steps·judgement·decided) (asked 𝓤 H A decided.ended (decided.clauses 𝓤 H A mem run))) where
   abbrev c : Clauses 𝓤 judge-at.ended
   c = judge-at.clauses 𝓤 H A mem run
@@ -78,11 +75,8 @@ module _ {M : Type 1} (𝓤 : URA M) (H : Heap 𝓤) (A : Atoms 𝓤) (W : Given
     abbrev named : Page
     named = pageAt (t .now) (m .page % 64)
 
-    abbrev start : ℕ
-    start = searchStart (t .now .shared) m
-
     abbrev found : Holder
-    found = holderFrom (t .now) (m .frame) start
+    found = registered (t .now) (m .frame)
 
     abbrev answer : Decision
     answer = decidedAt (t .now) m size
@@ -99,52 +93,47 @@ module _ {M : Type 1} (𝓤 : URA M) (H : Heap 𝓤) (A : Atoms 𝓤) (W : Given
         qed W (entry 𝓤 H A W T.the-row (call ∷ word ∷ []) decision c κ q t) ∵ enter ! (𝓣 .C) (𝓣 .Λ) code.function
         (vptr (t .ptr .0) (t .ptr .1) ∷ call .val m ∷ vint w64 size ∷ []) _ $
         alloc1 ! (λ l₀. alloc1 ! (λ l₁. alloc1 ! (λ l₂. alloc1 ! (λ l₃. alloc1 ! (λ l₄. alloc1 ! (λ l₅.
-        alloc1 ! (λ l₆. alloc1 ! (λ l₇. alloc1 ! (λ l₈. alloc1 ! (λ l₉. alloc0 ! $ params1 ! $
-        pass1 ! (init ! 16 refl (tt, tt)) $ pass1 ! (init ! 14 refl (call .lawful 𝓤 H A W .typed m _ is-call .0)) $
-        pass1 ! (init ! 12 refl (tt, record { fits = size-fits })) $ pass0 ! $
+        alloc1 ! (λ l₆. alloc1 ! (λ l₇. alloc1 ! (λ l₈. alloc0 ! $ params1 ! $
+        pass1 ! (init ! 14 refl (tt, tt)) $ pass1 ! (init ! 12 refl (call .lawful 𝓤 H A W .typed m _ is-call .0)) $
+        pass1 ! (init ! 10 refl (tt, record { fits = size-fits })) $ pass0 ! $
         -- what all pages share
-        move ! (20 ∷ 21 ∷ []) $ looks-in ! tt tabled (SL.copy T.the-type T′.the-copy 𝓤 H A W) κ q t
+        move ! (18 ∷ 19 ∷ []) $ looks-in ! tt tabled (SL.copy T.the-type T′.the-copy 𝓤 H A W) κ q t
         (λ q′ is. let is-shared : Is (shared .row) (t .now .shared) (shared .val (t .now .shared) ∷ []) = SL.owed T.the-type T′.the-laws
         (t .now) _ is .0 in
         use1 W (‵ (fat q′ T′.mir (t .ptr .0) (t .ptr .1) (tabled .val (t .now)))) (W .laws .raw-at q′ T′.mir (t .ptr .0) (t .ptr .1)
         (tabled .val (t .now))) $
         assigns !
-        (of-opd ! (load ! (from ! (hop ! (look ! 22 refl) (fld ! {τ = S′.mir} {d = 0} refl (stop !))))
-        (look-in ! 0 (sub ! 0 {τ = S′.mir} {d = 0} refl (whole !))))) (from ! (stop !)) (init ! 16 refl (shared .lawful 𝓤 H A W .typed
+        (of-opd ! (load ! (from ! (hop ! (look ! 20 refl) (fld ! {τ = S′.mir} {d = 0} refl (stop !))))
+        (look-in ! 0 (sub ! 0 {τ = S′.mir} {d = 0} refl (whole !))))) (from ! (stop !)) (init ! 14 refl (shared .lawful 𝓤 H A W .typed
         (t .now .shared) _ is-shared .0)) $
         use1 W (‵ (cellAt q′ (T.the-row .mir) (tabled .val (t .now) ∷ []) (t .ptr .0) (t .ptr .1))) (W .laws .at-raw q′ T′.mir (t .ptr .0) (t .ptr .1)
         (tabled .val (t .now))) $ looks-away ! tt tabled q′ κ q t $
-        -- the page's record. [the reference; its token; _9; …; _8; …; _7; …; _6; …; _5; …; _4; …; _3; …; _2; …; _1; …; room for _0; …]
-        assigns ! (bin ! (load ! (from ! (fld ! {τ = tyInt w8} {d = 2} refl (stop !))) (look-in ! 16 (sub ! 2 {τ = tyInt w8} {d = 2} refl (whole !))))
+        -- the page's record. [the reference; its token; _8; …; _7; …; _6; …; _5; …; _4; …; _3; …; _2; …; _1; …; room for _0; …]
+        assigns ! (bin ! (load ! (from ! (fld ! {τ = tyInt w8} {d = 2} refl (stop !))) (look-in ! 14 (sub ! 2 {τ = tyInt w8} {d = 2} refl (whole !))))
         (lit ! tt) (lit< tt)) (from ! (stop !)) (init ! 4 refl (tt, record { fits = lt-of-lt-of-le within (lit≤ tt) })) $
         assigns ! (un ! (local ! 4 refl) (record { fits = fits })) (from ! (stop !)) (init ! 2 refl (tt, record { fits = fits })) $
         asks ! 𝓣 T.the-row (word ∷ []) page (page-at.clauses 𝓤 H A mem run) known-page κ q t (m .page % 64, tt) ((refl, fits), tt) tt
         (factI 𝓤 (m .page % 64 < 64) (emp 𝓤) within) named (λ r e. refl)
-        (and-then ! (local ! 18 refl) (and-then ! (local ! 2 refl) (no-more !)))
-        (λ is-page wt-page. land ! (from ! (stop !)) (init ! 10 refl (wt-page .0)) $
+        (and-then ! (local ! 16 refl) (and-then ! (local ! 2 refl) (no-more !)))
+        (λ is-page wt-page. land ! (from ! (stop !)) (init ! 8 refl (wt-page .0)) $
         -- the holder of the frame
-        tells ! 𝓣 (shared ∷ call ∷ []) word (search-start.clauses 𝓤 H A mem run) known-start (t .now .shared, (m, tt)) (is-shared, (is-call, tt)) tt
-        (id⊢ 𝓤 (emp 𝓤)) start (λ r e. refl)
-        (and-then ! (local ! 13 refl) (and-then ! (local ! 17 refl) (no-more !)))
-        (λ is-start wt-start. land ! (from ! (stop !)) (init ! 8 refl (wt-start .0)) $
-        asks ! 𝓣 T.the-row (byte ∷ word ∷ []) holder (search.clauses 𝓤 H A mem run) known-search κ q t (m .frame, (start, tt))
-        (SL.owed C.the-type C′.the-laws m _ is-call .1 .1 .1 .1 .1 .1 .1 .1 .0, (is-start, tt)) tt (id⊢ 𝓤 (emp 𝓤)) found (λ r e. refl)
-        (and-then ! (local ! 18 refl)
-        (and-then ! (load ! (from ! (fld ! {τ = tyInt w8} {d = 8} refl (stop !))) (look-in ! 16 (sub ! 8 {τ = tyInt w8} {d = 8} refl (whole !))))
-        (and-then ! (local ! 8 refl) (no-more !)))) (λ is-found wt-found. land ! (from ! (stop !)) (init ! 6 refl (wt-found .0)) $
+        asks ! 𝓣 T.the-row (byte ∷ []) holder (by-register.clauses 𝓤 H A mem run) known-holder κ q t (m .frame, tt)
+        (SL.owed C.the-type C′.the-laws m _ is-call .1 .1 .1 .1 .1 .1 .1 .1 .0, tt) tt (id⊢ 𝓤 (emp 𝓤)) found (λ r e. refl)
+        (and-then ! (local ! 16 refl)
+        (and-then ! (load ! (from ! (fld ! {τ = tyInt w8} {d = 8} refl (stop !))) (look-in ! 14 (sub ! 8 {τ = tyInt w8} {d = 8} refl (whole !)))) (no-more !)))
+        (λ is-found wt-found. land ! (from ! (stop !)) (init ! 6 refl (wt-found .0)) $
         -- the decision
         tells ! 𝓣 (shared ∷ page ∷ holder ∷ call ∷ word ∷ []) decision (decided.clauses 𝓤 H A mem run) known-decided
         (t .now .shared, (named, (found, (m, (size, tt))))) (is-shared, (is-page, (is-found, (is-call, ((refl, size-fits), tt))))) tt
         (id⊢ 𝓤 (emp 𝓤)) answer (λ r e. refl)
-        (and-then ! (local ! 13 refl)
-        (and-then ! (local ! 11 refl) (and-then ! (local ! 7 refl) (and-then ! (local ! 17 refl) (and-then ! (local ! 15 refl) (no-more !))))))
-        (λ is-answer wt-answer. land ! (from ! (stop !)) (init ! 20 refl (wt-answer .0)) $
-        returns ! (look ! 20 refl) $ frees-full ! 20 refl refl $ frees-full ! 18 refl refl $ frees-full ! 16 refl refl $ frees-full ! 14 refl refl $
-        frees-full ! 12 refl refl $
+        (and-then ! (local ! 11 refl)
+        (and-then ! (local ! 9 refl) (and-then ! (local ! 7 refl) (and-then ! (local ! 15 refl) (and-then ! (local ! 13 refl) (no-more !))))))
+        (λ is-answer wt-answer. land ! (from ! (stop !)) (init ! 18 refl (wt-answer .0)) $
+        returns ! (look ! 18 refl) $ frees-full ! 18 refl refl $ frees-full ! 16 refl refl $ frees-full ! 14 refl refl $ frees-full ! 12 refl refl $
         frees-full ! 10 refl refl $ frees-full ! 8 refl refl $ frees-full ! 6 refl refl $ frees-full ! 4 refl refl $ frees-full ! 2 refl refl $
         free0 ! $
         keep ! (1 ∷ []) $ by ! (ref-leaves 𝓤 H A W T.the-row (call ∷ word ∷ []) decision c κ q t (m, (size, tt)) tt answer is-answer
-        (λ e. factI 𝓤 (answer ≡ answer) (emp 𝓤) refl)))))))))))))))))
+        (λ e. factI 𝓤 (answer ≡ answer) (emp 𝓤) refl)))))))))))))))
 
   judge-at-meets : Meets 𝓤 H A judge-at.signature runs-as (judge-at.spec 𝓤 H A mem run)
   judge-at-meets =
@@ -159,9 +148,7 @@ judge-at-spec 𝓤 H 𝓜 𝓖 𝓡 =
     (judge-at-meets 𝓤 H (𝓖 .A) (givenOf 𝓤 H 𝓜 𝓖) (𝓜 .mem) (𝓡 .run) (tablesOf 𝓤 H 𝓜 (tables 𝓤 H 𝓜 𝓡 code.env))
     (cited 𝓤 H (asked 𝓤 H (𝓖 .A) page-at.ended (page-at.clauses 𝓤 H (𝓖 .A) (𝓜 .mem) (𝓡 .run))) 𝓜 𝓡 code.env
     #steps·judgement·page-at page-at-def.routine code.calls-steps·judgement·page-at (page-at-thm.met 𝓤 H 𝓜 𝓖 𝓡))
-    (cited 𝓤 H (asked 𝓤 H (𝓖 .A) search-start.ended (search-start.clauses 𝓤 H (𝓖 .A) (𝓜 .mem) (𝓡 .run))) 𝓜 𝓡 code.env
-    #steps·judgement·search-start search-start-def.routine code.calls-steps·judgement·search-start (search-start-thm.met 𝓤 H 𝓜 𝓖 𝓡))
-    (cited 𝓤 H (asked 𝓤 H (𝓖 .A) search.ended (search.clauses 𝓤 H (𝓖 .A) (𝓜 .mem) (𝓡 .run))) 𝓜 𝓡 code.env
-    #steps·judgement·search search-def.routine code.calls-steps·judgement·search (search-thm.met 𝓤 H 𝓜 𝓖 𝓡))
+    (cited 𝓤 H (asked 𝓤 H (𝓖 .A) by-register.ended (by-register.clauses 𝓤 H (𝓖 .A) (𝓜 .mem) (𝓡 .run))) 𝓜 𝓡 code.env
+    #tables·Tables·registered by-register-def.routine code.calls-tables·Tables·registered (by-register-thm.met 𝓤 H 𝓜 𝓖 𝓡))
     (cited 𝓤 H (asked 𝓤 H (𝓖 .A) decided.ended (decided.clauses 𝓤 H (𝓖 .A) (𝓜 .mem) (𝓡 .run))) 𝓜 𝓡 code.env
     #steps·judgement·decided decided-def.routine code.calls-steps·judgement·decided (decided-thm.met 𝓤 H 𝓜 𝓖 𝓡)))

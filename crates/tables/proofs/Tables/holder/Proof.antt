@@ -2,12 +2,11 @@
 use Prim.Native.Nat.{_+_, _-_, _≤_, _<_}
 use mathlib.Core.Path.{_≡_, refl, sym, _∙_}
 use native.Mathlib.Omega.{arith}
-use lib.ListN.{length-take, length, length-map, getD, drop}
-use lib.Seq.{getD-take}
+use lib.ListN.{length, length-map, drop}
 use borrow.Author.Tests.{eq-eqb, ne-eqb}
 use borrow.Author.Needs.{needs}
-use Rattle.tables.specs.Model.{pageAt, inUse, noCopyEntry, noPageRecord}
-use Rattle.tables.proofs.Loops.{drop-more, drop-end}
+use Rattle.tables.specs.Model.{pageAt, inUse, noPageRecord}
+use Rattle.tables.proofs.Loops.{drop-more, drop-end, use-more}
 use Rattle.tables.proofs.HolderLaws.{told-free}
 use Rattle.tables.specs.Search.{holderOf, inCopies, inPages}
 use Rattle.tables.proofs.Tables.holder.Statement.{statement}
@@ -75,14 +74,12 @@ loop-again c =
     let i = c .before .before .before .before .before .before .pages .i in
     let j = c .before .before .loop .j in
     let g = pageAt t i in
-    let v = c .before .before .loop .inv in
-    let b : length (inUse g) ≤ g .n = simp length-take (omega arith) in
-    let e : getD (inUse g) j noCopyEntry ≡ getD (g .copies) j noCopyEntry = getD-take (g .n) (g .copies) j noCopyEntry (omega arith) in (
+    let v = c .before .before .loop .inv in (
       v .0,
       v .1,
       v .2,
       search needs,
-      v .4 ∙ rw (drop-more (inUse g) j noCopyEntry (omega arith), e, ne-eqb _ _ (c .if2 .left)),
+      v .4 ∙ rw (use-more g j (omega arith), ne-eqb _ _ (c .if2 .left)),
     )
 
 add-i : tie.Need-add-i Inv-loop μ-loop Inv-pages μ-pages
@@ -113,9 +110,7 @@ returns-2 c =
     let j = c .before .before .loop .j in
     let g = pageAt t i in
     let v = c .before .before .loop .inv in
-    let b : length (inUse g) ≤ g .n = simp length-take (omega arith) in
-    let e : getD (inUse g) j noCopyEntry ≡ getD (g .copies) j noCopyEntry = getD-take (g .n) (g .copies) j noCopyEntry (omega arith) in
-    told-free t _ (sym (v .4 ∙ rw (drop-more (inUse g) j noCopyEntry (omega arith), e, eq-eqb _ _ (c .if2 .taken))))
+    told-free t _ (sym (v .4 ∙ rw (use-more g j (omega arith), eq-eqb _ _ (c .if2 .taken))))
 
 pub holder-spec : {M : Type 1} → statement M
 holder-spec =

@@ -1,26 +1,28 @@
--- `Tables::sound`. The answer is what the pass says of the pages from i on, with the marks of those before.
-use Prim.Native.Nat.{_+_, _-_, _≤_}
+-- `Tables::sound`. What the pass says of the pages is what it says of those from i on; `held` and the frames of those are the frames of all.
+use Prim.Native.Nat.{_+_, _-_, _*_, _≤_}
 use mathlib.Core.Bool.{true, false}
 use mathlib.Core.Path.{_≡_, refl, sym, _∙_}
+use native.Mathlib.Nat.{zero-add, add-zero, add-assoc}
 use native.Mathlib.Omega.{arith}
 use lib.ListN.{length, length-map, drop}
 use borrow.Author.Tests.{not-true, not-false, eq-eqb, le-leb, lt-leb}
 use borrow.Author.Needs.{needs}
-use Rattle.tables.specs.Rules.{sound}
-use Rattle.tables.specs.PrivateMarks.{noMarks, scanPages}
-use Rattle.tables.proofs.ScanLaws.{scan-rules}
-use Rattle.tables.proofs.Loops.{drop-more, drop-end}
 use Rattle.tables.specs.Model.{noPageRecord}
+use Rattle.tables.specs.Rules.{sound}
+use Rattle.tables.specs.PrivatePass.{scanPages, framesOfAll}
+use Rattle.tables.proofs.Loops.{drop-more, drop-end}
+use Rattle.tables.proofs.ScanLaws.{scan-rules}
 use Rattle.tables.proofs.Tables.sound.Statement.{statement}
 use Rattle.tables.proofs.Tables.sound.Tie as tie
 
 abbrev Inv-loop : tie.InvT-loop
-Inv-loop self fast slow limit seen₀ i₀ seen i =
-    (i ≤ 64) × (limit ≡ self .shared .p + self .shared .s) × (limit ≤ 254)
-    × (scanPages limit noMarks (self .pages) ≡ scanPages limit seen (drop i (self .pages)))
+Inv-loop self fast slow limit held₀ i₀ held i =
+    (i ≤ 64) × (limit ≡ self .shared .p + self .shared .s) × (limit ≤ 254) × (held ≤ 255 * i)
+    × (scanPages limit (self .register) 0 (self .pages) ≡ scanPages limit (self .register) i (drop i (self .pages)))
+    × (framesOfAll (self .pages) ≡ held + framesOfAll (drop i (self .pages)))
 
 abbrev μ-loop : tie.MeasureT-loop
-μ-loop self fast slow limit seen₀ i₀ seen i = 64 - i
+μ-loop self fast slow limit held₀ i₀ held i = 64 - i
 
 returns : tie.Need-returns Inv-loop μ-loop
 unfolding sound
@@ -34,8 +36,7 @@ add-limit : tie.Need-add-limit Inv-loop μ-loop
 add-limit c = search needs
 
 loop-holds : tie.Need-loop-holds Inv-loop μ-loop
-unfolding noMarks
-loop-holds c = (search needs, refl, omega arith, refl)
+loop-holds c = (search needs, refl, omega arith, search needs, refl, sym (zero-add _))
 
 mul-g : tie.Need-mul-g Inv-loop μ-loop
 mul-g c = search needs
@@ -43,21 +44,30 @@ mul-g c = search needs
 element-copy-out-g : tie.Need-element-copy-out-g Inv-loop μ-loop
 element-copy-out-g c = search needs
 
+cast-page-ok : tie.Need-cast-page-ok Inv-loop μ-loop
+cast-page-ok c = search needs
+
 page-ok-requires : tie.Need-page-ok-requires Inv-loop μ-loop
 page-ok-requires c κs = search needs
 
 returns-3 : tie.Need-returns-3 Inv-loop μ-loop
 unfolding sound scanPages
 returns-3 c =
-    let t = c .before .before .before .before .before .before .before .before .args .t1 in
-    let l : length (t .pages) ≡ 64 = simp length-map at (c .before .before .before .before .before .before .before .before .good .0 .1 .1 .1 .0 .1 .0 .1) in
-    let v = c .before .before .before .before .before .loop .inv in
-    let i = c .before .before .before .before .before .loop .i in
-    let e = sym (c .before .page-ok .ensures .0) ∙ not-true _ (c .if3 .taken) in
-    let z : scanPages (t .shared .p + t .shared .s) noMarks (t .pages) ≡ false = v .3 ∙ rw (drop-more (t .pages) i noPageRecord (omega arith), e) in
+    let t = c .before .before .before .before .before .before .before .before .before .args .t1 in
+    let l : length (t .pages) ≡ 64 = simp length-map at (c .before .before .before .before .before .before .before .before .before .good .0 .1 .1 .1 .0 .1 .0 .1) in
+    let r : length (t .register) ≡ 254 = search needs in
+    let v = c .before .before .before .before .before .before .loop in
+    let e = sym (c .before .page-ok .ensures) ∙ not-true _ (c .if3 .taken) in
+    let z : scanPages (t .shared .p + t .shared .s) (t .register) 0 (t .pages) ≡ false = v .inv .4 ∙ rw (drop-more (t .pages) (v .i) noPageRecord (omega arith), e) in
     sym
-    (rw (le-leb _ _ (c .before .before .before .before .before .before .before .if1 .left), le-leb _ _ (c .before .before .before .before .before .before .if2 .left), eq-eqb _ _ l)
-    (sym (scan-rules (t .shared .p + t .shared .s) (v .2) (t .pages)) ∙ z))
+    (rw (le-leb _ _ (c .before .before .before .before .before .before .before .before .if1 .left), le-leb _ _ (c .before .before .before .before .before .before .before .if2 .left), eq-eqb _ _ l)
+    (sym (scan-rules (t .shared .p + t .shared .s) (v .inv .2) (t .pages) (t .register) l r) ∙ rw z))
+
+frames-of-requires : tie.Need-frames-of-requires Inv-loop μ-loop
+frames-of-requires c κs = search needs
+
+add-held : tie.Need-add-held Inv-loop μ-loop
+add-held c = search needs
 
 add-i : tie.Need-add-i Inv-loop μ-loop
 add-i c = search needs
@@ -66,30 +76,40 @@ loop-less : tie.Need-loop-less Inv-loop μ-loop
 loop-less c = search needs
 
 loop-again : tie.Need-loop-again Inv-loop μ-loop
-unfolding scanPages
+unfolding scanPages framesOfAll
 loop-again c =
-    let t = c .before .before .before .before .before .before .before .before .args .t1 in
-    let l : length (t .pages) ≡ 64 = simp length-map at (c .before .before .before .before .before .before .before .before .good .0 .1 .1 .1 .0 .1 .0 .1) in
-    let v = c .before .before .before .before .before .loop .inv in
-    let i = c .before .before .before .before .before .loop .i in
-    let r = not-false _ (c .if3 .left) in
-    let e = sym (c .before .page-ok .ensures .0) ∙ r in (
+    let t = c .before .before .before .before .before .before .before .before .before .before .args .t1 in
+    let l : length (t .pages) ≡ 64 = simp length-map at (c .before .before .before .before .before .before .before .before .before .before .good .0 .1 .1 .1 .0 .1 .0 .1) in
+    let v = c .before .before .before .before .before .before .before .loop in
+    let m = drop-more (t .pages) (v .i) noPageRecord (omega arith) in
+    let e = sym (c .before .before .page-ok .ensures) ∙ not-false _ (c .before .if3 .left) in (
       search needs,
-      v .1,
-      v .2,
-      v .3 ∙ rw (drop-more (t .pages) i noPageRecord (omega arith), e, c .before .page-ok .ensures .1 .added r),
+      v .inv .1,
+      v .inv .2,
+      omega arith,
+      v .inv .4 ∙ rw (m, e),
+      v .inv .5 ∙ rw (m, c .frames-of .ensures .0) (sym (add-assoc _ _ _)),
     )
 
+taken-requires : tie.Need-taken-requires Inv-loop μ-loop
+taken-requires c κs = search needs
+
+cast-result : tie.Need-cast-result Inv-loop μ-loop
+cast-result c = search needs
+
 returns-4 : tie.Need-returns-4 Inv-loop μ-loop
-unfolding sound scanPages
+unfolding sound scanPages framesOfAll
 returns-4 c =
-    let t = c .before .before .before .before .args .t1 in
-    let l : length (t .pages) ≡ 64 = simp length-map at (c .before .before .before .before .good .0 .1 .1 .1 .0 .1 .0 .1) in
-    let v = c .before .loop .inv in
-    let z : scanPages (t .shared .p + t .shared .s) noMarks (t .pages) ≡ true = v .3 ∙ rw (drop-end (t .pages) (c .before .loop .i) (omega arith)) in
+    let t = c .before .before .before .before .before .before .before .args .t1 in
+    let l : length (t .pages) ≡ 64 = simp length-map at (c .before .before .before .before .before .before .before .good .0 .1 .1 .1 .0 .1 .0 .1) in
+    let r : length (t .register) ≡ 254 = search needs in
+    let v = c .before .before .before .before .loop in
+    let m = drop-end (t .pages) (v .i) (omega arith) in
+    let z : scanPages (t .shared .p + t .shared .s) (t .register) 0 (t .pages) ≡ true = v .inv .4 ∙ rw m in
+    let h : framesOfAll (t .pages) ≡ v .held = v .inv .5 ∙ rw m (add-zero _) in
     sym
-    (rw (le-leb _ _ (c .before .before .before .if1 .left), le-leb _ _ (c .before .before .if2 .left), eq-eqb _ _ l)
-    (sym (scan-rules (t .shared .p + t .shared .s) (v .2) (t .pages)) ∙ z))
+    (rw (le-leb _ _ (c .before .before .before .before .before .before .if1 .left), le-leb _ _ (c .before .before .before .before .before .if2 .left), eq-eqb _ _ l)
+    (sym (scan-rules (t .shared .p + t .shared .s) (v .inv .2) (t .pages) (t .register) l r) ∙ rw (z, h, c .taken .ensures)))
 
 pub sound-spec : {M : Type 1} → statement M
 sound-spec =
@@ -103,9 +123,14 @@ sound-spec =
     loop-holds
     mul-g
     element-copy-out-g
+    cast-page-ok
     page-ok-requires
     returns-3
+    frames-of-requires
+    add-held
     add-i
     loop-less
     loop-again
+    taken-requires
+    cast-result
     returns-4)

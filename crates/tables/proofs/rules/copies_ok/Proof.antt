@@ -1,26 +1,27 @@
--- `copies_ok`. The answer, and the marks to come, are those of the copies from j on.
+-- `copies_ok`. The answer is that of the copies from j on.
 use Prim.Native.Nat.{_-_, _≤_}
-use mathlib.Core.Bool.{false≢true, true, false, not}
+use mathlib.Core.Bool.{true, false}
 use mathlib.Core.Path.{_≡_, refl, sym, _∙_}
 use native.Mathlib.Omega.{arith}
 use lib.ListN.{length, getD, take, drop}
 use borrow.Author.Tests.{not-true, not-false}
 use borrow.Author.Needs.{needs}
-use Rattle.tables.proofs.Loops.{first-more, first-end}
-use Rattle.tables.specs.PrivateMarks.{scanCopies, marks}
-use Rattle.tables.specs.Rules.{copyRule}
 use Rattle.tables.specs.Model.{noCopyEntry}
+use Rattle.tables.specs.Rules.{copyRule}
+use Rattle.tables.specs.Register.{entry}
+use Rattle.tables.specs.PrivatePass.{names, scanCopies}
+use Rattle.tables.proofs.Loops.{first-more, first-end}
 use Rattle.tables.proofs.rules.copies_ok.Statement.{statement}
 use Rattle.tables.proofs.rules.copies_ok.Tie as tie
 
 abbrev Inv-loop : tie.InvT-loop
-Inv-loop seen₀ n limit copies end recent₀ j₀ seen recent j = (j ≤ n) × (end ≡ n) × (scanCopies limit n seen₀ false (take n copies) ≡ scanCopies limit n seen recent (drop j (take n copies))) × (marks seen₀ (take n copies) ≡ marks seen (drop j (take n copies)))
+Inv-loop register p n limit copies end recent₀ j₀ recent j = (j ≤ n) × (end ≡ n) × (scanCopies limit n register p 0 false (take n copies) ≡ scanCopies limit n register p j recent (drop j (take n copies)))
 
 abbrev μ-loop : tie.MeasureT-loop
-μ-loop seen₀ n limit copies end recent₀ j₀ seen recent j = end - j
+μ-loop register p n limit copies end recent₀ j₀ recent j = end - j
 
 loop-holds : tie.Need-loop-holds Inv-loop μ-loop
-loop-holds c = (search needs, refl, refl, refl)
+loop-holds c = (search needs, refl, refl)
 
 mul-c : tie.Need-mul-c Inv-loop μ-loop
 mul-c c = search needs
@@ -32,34 +33,34 @@ copy-ok-requires : tie.Need-copy-ok-requires Inv-loop μ-loop
 copy-ok-requires c κs = search needs
 
 returns : tie.Need-returns Inv-loop μ-loop
-unfolding scanCopies marks
+unfolding scanCopies
 returns c =
     let a = c .before .before .before .before .before .args in
-    let n = a .n in
-    let j = c .before .before .before .before .loop .j in
-    let i = c .before .before .before .before .loop .inv in
-    let m : length (a .t2) ≡ 8 = search needs in
-    let e : copyRule (a .limit) n (getD (a .t2) j noCopyEntry) ≡ false = sym (c .before .copy-ok .ensures) ∙ not-true _ (c .if1 .taken) in (
-      sym (i .2 ∙ rw (first-more n (a .t2) j noCopyEntry (omega arith) (omega arith), e)),
-      record { added = λ z. absurd (false≢true z) },
-    )
+    let v = c .before .before .before .before .loop in
+    let m : length (a .t3) ≡ 8 = search needs in
+    let e : copyRule (a .limit) (a .n) (getD (a .t3) (v .j) noCopyEntry) ≡ false = sym (c .before .copy-ok .ensures) ∙ not-true _ (c .if1 .taken) in
+    sym (v .inv .2 ∙ rw (first-more (a .n) (a .t3) (v .j) noCopyEntry (omega arith) (omega arith), e))
 
-mark-frame-requires : tie.Need-mark-frame-requires Inv-loop μ-loop
-mark-frame-requires c κs = search needs
+cast-entry : tie.Need-cast-entry Inv-loop μ-loop
+cast-entry c = search needs
+
+entry-requires : tie.Need-entry-requires Inv-loop μ-loop
+entry-requires c κs = search needs
+
+names-requires : tie.Need-names-requires Inv-loop μ-loop
+names-requires c κs = c .before .before .before .before .before .before .pre .0
 
 returns-2 : tie.Need-returns-2 Inv-loop μ-loop
-unfolding scanCopies marks
+unfolding scanCopies
 returns-2 c =
     let a = c .before .before .before .before .before .before .before .before .args in
-    let n = a .n in
-    let j = c .before .before .before .before .before .before .before .loop .j in
-    let i = c .before .before .before .before .before .before .before .loop .inv in
-    let m : length (a .t2) ≡ 8 = search needs in
-    let e : copyRule (a .limit) n (getD (a .t2) j noCopyEntry) ≡ true = sym (c .before .before .before .before .copy-ok .ensures) ∙ not-false _ (c .before .before .before .if1 .left) in
-    let u : not (getD (c .before .before .before .before .before .before .before .loop .seen) (getD (a .t2) j noCopyEntry .frame) false) ≡ false = sym (c .before .mark-frame .ensures .1) ∙ not-true _ (c .if2 .taken) in (
-      sym (i .2 ∙ rw (first-more n (a .t2) j noCopyEntry (omega arith) (omega arith), e, u)),
-      record { added = λ z. absurd (false≢true z) },
-    )
+    let v = c .before .before .before .before .before .before .before .loop in
+    let d = getD (a .t3) (v .j) noCopyEntry in
+    let m : length (a .t3) ≡ 8 = search needs in
+    let e : copyRule (a .limit) (a .n) d ≡ true = sym (c .before .before .before .before .copy-ok .ensures) ∙ not-false _ (c .before .before .before .if1 .left) in
+    let u : names (a .register .now) (d .frame) (entry (a .p) (v .j)) ≡ false =
+    rw (c .before .before .entry .ensures) at (sym (c .before .names .ensures) ∙ not-true _ (c .if2 .taken)) in
+    sym (v .inv .2 ∙ rw (first-more (a .n) (a .t3) (v .j) noCopyEntry (omega arith) (omega arith), e, u))
 
 add-j : tie.Need-add-j Inv-loop μ-loop
 add-j c = search needs
@@ -68,29 +69,23 @@ loop-less : tie.Need-loop-less Inv-loop μ-loop
 loop-less c = search needs
 
 loop-again : tie.Need-loop-again Inv-loop μ-loop
-unfolding scanCopies marks
+unfolding scanCopies
 loop-again c =
     let a = c .before .before .before .before .before .before .before .before .before .args in
-    let n = a .n in
-    let j = c .before .before .before .before .before .before .before .before .loop .j in
-    let i = c .before .before .before .before .before .before .before .before .loop .inv in
-    let m : length (a .t2) ≡ 8 = search needs in
-    let e : copyRule (a .limit) n (getD (a .t2) j noCopyEntry) ≡ true = sym (c .before .before .before .before .before .copy-ok .ensures) ∙ not-false _ (c .before .before .before .before .if1 .left) in
-    let u : not (getD (c .before .before .before .before .before .before .before .before .loop .seen) (getD (a .t2) j noCopyEntry .frame) false) ≡ true = sym (c .before .before .mark-frame .ensures .1) ∙ not-false _ (c .before .if2 .left) in (
-      search needs,
-      refl,
-      i .2 ∙ rw (first-more n (a .t2) j noCopyEntry (omega arith) (omega arith), e, u, c .before .before .mark-frame .ensures .0),
-      i .3 ∙ rw (first-more n (a .t2) j noCopyEntry (omega arith) (omega arith), c .before .before .mark-frame .ensures .0),
-    )
+    let v = c .before .before .before .before .before .before .before .before .loop in
+    let d = getD (a .t3) (v .j) noCopyEntry in
+    let m : length (a .t3) ≡ 8 = search needs in
+    let e : copyRule (a .limit) (a .n) d ≡ true = sym (c .before .before .before .before .before .copy-ok .ensures) ∙ not-false _ (c .before .before .before .before .if1 .left) in
+    let u : names (a .register .now) (d .frame) (entry (a .p) (v .j)) ≡ true =
+    rw (c .before .before .before .entry .ensures) at (sym (c .before .before .names .ensures) ∙ not-false _ (c .before .if2 .left)) in
+    (search needs, refl, v .inv .2 ∙ rw (first-more (a .n) (a .t3) (v .j) noCopyEntry (omega arith) (omega arith), e, u))
 
 returns-3 : tie.Need-returns-3 Inv-loop μ-loop
-unfolding scanCopies marks
+unfolding scanCopies
 returns-3 c =
     let a = c .before .before .args in
-    let i = c .before .loop .inv in (
-      sym (i .2 ∙ rw (first-end (a .n) (a .t2) (c .before .loop .j) (omega arith))),
-      record { added = λ z. sym (i .3 ∙ rw (first-end (a .n) (a .t2) (c .before .loop .j) (omega arith))) },
-    )
+    let v = c .before .loop in
+    sym (v .inv .2 ∙ rw (first-end (a .n) (a .t3) (v .j) (omega arith)))
 
 pub copies-ok-spec : {M : Type 1} → statement M
 copies-ok-spec =
@@ -103,7 +98,9 @@ copies-ok-spec =
     array-copy-out-c
     copy-ok-requires
     returns
-    mark-frame-requires
+    cast-entry
+    entry-requires
+    names-requires
     returns-2
     add-j
     loop-less

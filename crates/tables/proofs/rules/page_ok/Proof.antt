@@ -1,14 +1,14 @@
--- `page_ok` tests one page and marks its frames.
+-- `page_ok` tests one page, with the entries of its frames.
 use Prim.Native.Nat.{ℕ}
-use mathlib.Core.Path.{_≡_, refl, sym, ap}
+use mathlib.Core.Path.{_≡_, sym, ap}
 use mathlib.Core.Bool.{true}
 use lib.ListN.{length, length-map, take}
 use borrow.Author.Tests.{eq-eqb, ne-eqb}
 use borrow.Author.Needs.{needs}
 use Rattle.tables.specs.Model.{inUse}
 use Rattle.tables.specs.Rules.{absentRule, pageRule}
+use Rattle.tables.specs.PrivatePass.{namesAll}
 use Rattle.tables.proofs.ListLaws.{and-true}
-use Rattle.tables.specs.PrivateMarks.{unmarked, marks}
 use Rattle.tables.proofs.rules.page_ok.Statement.{statement}
 use Rattle.tables.proofs.rules.page_ok.Tie as tie
 
@@ -16,16 +16,15 @@ absent-ok-requires : tie.Need-absent-ok-requires
 absent-ok-requires c κs = search needs
 
 returns : tie.Need-returns
-unfolding pageRule unmarked marks
+unfolding pageRule namesAll
 returns c =
-    let g = c .before .before .before .args .g in
-    let a : length (g .rights) ≡ 16 = search needs in
-    let b : length (g .copies) ≡ 8 = simp length-map at (c .before .before .before .good .1 .0 .1 .1 .1 .0 .1 .0 .1) in
-    let z : unmarked (c .before .before .before .args .seen .now) (inUse g) ≡ true =
-    ap (λ (n : ℕ). unmarked (c .before .before .before .args .seen .now) (take n (g .copies))) (c .before .if1 .taken) in (
-      sym (rw (eq-eqb _ _ a, eq-eqb _ _ b, eq-eqb _ _ (c .before .if1 .taken), z, and-true (absentRule g)) (sym (c .absent-ok .ensures))),
-      record { added = λ z. rw (c .before .if1 .taken) refl },
-    )
+    let a = c .before .before .before .args in
+    let g = a .g in
+    let l : length (g .rights) ≡ 16 = search needs in
+    let m : length (g .copies) ≡ 8 = simp length-map at (c .before .before .before .good .1 .1 .0 .1 .1 .1 .0 .1 .0 .1) in
+    let z : namesAll (a .register .now) (a .p) 0 (inUse g) ≡ true =
+    ap (λ (n : ℕ). namesAll (a .register .now) (a .p) 0 (take n (g .copies))) (c .before .if1 .taken) in
+    sym (rw (eq-eqb _ _ l, eq-eqb _ _ m, eq-eqb _ _ (c .before .if1 .taken), z, and-true (absentRule g)) (sym (c .absent-ok .ensures)))
 
 standing-ok-requires : tie.Need-standing-ok-requires
 standing-ok-requires c κs = search needs
@@ -33,10 +32,10 @@ standing-ok-requires c κs = search needs
 returns-2 : tie.Need-returns-2
 unfolding pageRule
 returns-2 c =
-    let g = c .before .before .before .before .args .g in
-    let a : length (g .rights) ≡ 16 = search needs in
-    let b : length (g .copies) ≡ 8 = simp length-map at (c .before .before .before .before .good .1 .0 .1 .1 .1 .0 .1 .0 .1) in
-    (sym (rw (eq-eqb _ _ a, eq-eqb _ _ b, ne-eqb _ _ (c .before .before .if1 .left)) (sym (c .standing-ok .ensures .0))), c .standing-ok .ensures .1)
+    let g = c .before .before .before .args .g in
+    let l : length (g .rights) ≡ 16 = search needs in
+    let m : length (g .copies) ≡ 8 = simp length-map at (c .before .before .before .good .1 .1 .0 .1 .1 .1 .0 .1 .0 .1) in
+    sym (rw (eq-eqb _ _ l, eq-eqb _ _ m, ne-eqb _ _ (c .before .if1 .left)) (sym (c .standing-ok .ensures)))
 
 pub page-ok-spec : {M : Type 1} → statement M
 page-ok-spec = tie.close (tie.spec absent-ok-requires returns standing-ok-requires returns-2)

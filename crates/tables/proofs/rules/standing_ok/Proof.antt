@@ -1,5 +1,5 @@
--- `standing_ok` tests a standing page, rule by rule, and marks its frames.
-use mathlib.Core.Bool.{false, false≢true}
+-- `standing_ok` tests a standing page, rule by rule, with the entries of its frames.
+use mathlib.Core.Bool.{false}
 use mathlib.Core.Path.{sym, _∙_}
 use lib.ListN.{drop}
 use lib.Dec.{leb}
@@ -8,14 +8,14 @@ use borrow.Author.Needs.{needs}
 use Rattle.tables.specs.Lists.{all, count}
 use Rattle.tables.specs.Model.{inUse}
 use Rattle.tables.specs.Rules.{isFresh, isRecent, copyRule, standingRule}
-use Rattle.tables.specs.PrivateMarks.{unmarked}
-use Rattle.tables.proofs.ScanLaws.{scan-copies, scan-fails, scan-passes}
+use Rattle.tables.specs.PrivatePass.{namesAll}
+use Rattle.tables.proofs.PassLaws.{scan-copies, scan-fails, scan-passes}
 use Rattle.tables.proofs.rules.standing_ok.Statement.{statement}
 use Rattle.tables.proofs.rules.standing_ok.Tie as tie
 
 returns : tie.Need-returns
 unfolding standingRule
-returns c = (sym (rw (lt-leb _ _ (c .if1 .taken))), record { added = λ z. absurd (false≢true z) })
+returns c = sym (rw (lt-leb _ _ (c .if1 .taken)))
 
 rights-ok-requires : tie.Need-rights-ok-requires
 rights-ok-requires c κs = search needs
@@ -24,29 +24,28 @@ returns-2 : tie.Need-returns-2
 unfolding standingRule
 returns-2 c =
     let r = sym (c .before .rights-ok .ensures) ∙ not-true _ (c .if2 .taken) in
-    (sym (rw (le-leb _ _ (c .before .before .if1 .left), r)), record { added = λ z. absurd (false≢true z) })
+    sym (rw (le-leb _ _ (c .before .before .if1 .left), r))
 
 returns-3 : tie.Need-returns-3
 unfolding standingRule
 returns-3 c =
     let r = sym (c .before .before .rights-ok .ensures) ∙ not-false _ (c .before .if2 .left) in
-    (sym (rw (le-leb _ _ (c .before .before .before .if1 .left), r, lt-leb _ _ (c .if3 .taken))), record { added = λ z. absurd (false≢true z) })
+    sym (rw (le-leb _ _ (c .before .before .before .if1 .left), r, lt-leb _ _ (c .if3 .taken)))
 
 copies-ok-requires : tie.Need-copies-ok-requires
-copies-ok-requires c κs = search needs
+copies-ok-requires c κs = (c .before .before .before .before .before .before .before .pre, search needs)
 
 returns-4 : tie.Need-returns-4
 unfolding standingRule
 returns-4 c =
-    let a = c .before .before .before .before .before .before .before .before .before .before .args in
+    let a = c .before .before .before .before .before .before .before .before .before .args in
     let g = a .g in
-    let r = sym (c .before .before .before .before .before .rights-ok .ensures) ∙ not-false _ (c .before .before .before .before .if2 .left) in
+    let r = sym (c .before .before .before .before .rights-ok .ensures) ∙ not-false _ (c .before .before .before .if2 .left) in
     let k =
-    sym (scan-copies (a .limit) (g .n) (inUse g) (a .seen .now) false) ∙ sym (c .before .copies-ok .ensures .0) ∙ not-true _ (c .if4 .taken) in (
-      sym (rw (le-leb _ _ (c .before .before .before .before .before .before .if1 .left), r, le-leb _ _ (c .before .before .before .if3 .left))
-          (scan-fails (all (copyRule (a .limit) (g .n)) (inUse g)) (unmarked (a .seen .now) (inUse g)) (leb 1 (count isRecent (inUse g))) (all isFresh (drop (g .n) (g .copies))) k)),
-      record { added = λ z. absurd (false≢true z) },
-    )
+    sym (scan-copies (a .limit) (g .n) (a .register .now) (a .p) 0 false (inUse g)) ∙ sym (c .before .copies-ok .ensures) ∙ not-true _ (c .if4 .taken) in
+    sym
+    (rw (le-leb _ _ (c .before .before .before .before .before .if1 .left), r, le-leb _ _ (c .before .before .if3 .left))
+    (scan-fails (all (copyRule (a .limit) (g .n)) (inUse g)) (namesAll (a .register .now) (a .p) 0 (inUse g)) (leb 1 (count isRecent (inUse g))) (all isFresh (drop (g .n) (g .copies))) k))
 
 cast-unused-ok : tie.Need-cast-unused-ok
 cast-unused-ok c = search needs
@@ -57,16 +56,15 @@ unused-ok-requires c κs = search needs
 returns-5 : tie.Need-returns-5
 unfolding standingRule
 returns-5 c =
-    let a = c .before .before .before .before .before .before .before .before .before .before .before .args in
+    let a = c .before .before .before .before .before .before .before .before .before .before .args in
     let g = a .g in
-    let r = sym (c .before .before .before .before .before .before .rights-ok .ensures) ∙ not-false _ (c .before .before .before .before .before .if2 .left) in
+    let r = sym (c .before .before .before .before .before .rights-ok .ensures) ∙ not-false _ (c .before .before .before .before .if2 .left) in
     let k =
-    sym (scan-copies (a .limit) (g .n) (inUse g) (a .seen .now) false) ∙ sym (c .before .before .copies-ok .ensures .0) ∙ not-false _ (c .before .if4 .left) in (
-      c .unused-ok .ensures
-          ∙ sym (rw (le-leb _ _ (c .before .before .before .before .before .before .before .if1 .left), r, le-leb _ _ (c .before .before .before .before .if3 .left))
-          (scan-passes (all (copyRule (a .limit) (g .n)) (inUse g)) (unmarked (a .seen .now) (inUse g)) (leb 1 (count isRecent (inUse g))) (all isFresh (drop (g .n) (g .copies))) k)),
-      record { added = λ z. c .before .before .copies-ok .ensures .1 .added (not-false _ (c .before .if4 .left)) },
-    )
+    sym (scan-copies (a .limit) (g .n) (a .register .now) (a .p) 0 false (inUse g)) ∙ sym (c .before .before .copies-ok .ensures) ∙ not-false _ (c .before .if4 .left) in
+    c .unused-ok .ensures
+    ∙ sym
+    (rw (le-leb _ _ (c .before .before .before .before .before .before .if1 .left), r, le-leb _ _ (c .before .before .before .if3 .left))
+    (scan-passes (all (copyRule (a .limit) (g .n)) (inUse g)) (namesAll (a .register .now) (a .p) 0 (inUse g)) (leb 1 (count isRecent (inUse g))) (all isFresh (drop (g .n) (g .copies))) k))
 
 pub standing-ok-spec : {M : Type 1} → statement M
 standing-ok-spec =

@@ -1,0 +1,20 @@
+-- `Holder::named`: below 512 an entry is 8 × page + copy.
+use borrow.Author.Tests.{lt-ltb, le-ltb}
+use borrow.Author.Needs.{needs}
+use Rattle.tables.proofs.Holder.named.Statement.{statement}
+use Rattle.tables.proofs.Holder.named.Tie as tie
+
+cast-t4 : tie.Need-cast-t4
+cast-t4 c = search needs
+
+cast-t6 : tie.Need-cast-t6
+cast-t6 c = search needs
+
+returns : tie.Need-returns
+returns c = rw (lt-ltb _ _ (c .if1 .taken))
+
+returns-2 : tie.Need-returns-2
+returns-2 c = rw (le-ltb _ _ (c .if1 .left))
+
+pub named-spec : {M : Type 1} → statement M
+named-spec = tie.close (tie.spec cast-t4 cast-t6 returns returns-2)

@@ -1,0 +1,91 @@
+// The register: for each frame the copy on it.
+use crate::Holder;
+use crate::NO_HOLDER;
+use crate::Page;
+use crate::Tables;
+ghost use mathlib.Core.Path.{_≡_};
+ghost use mathlib.Core.Bool.{cond};
+ghost use lib.Dec.{ltb};
+ghost use lib.ListN.{length, set};
+ghost use Rattle.tables.specs.declared.Holder.the-variants.{Free};
+ghost use Rattle.tables.specs.Model.{inUse};
+ghost use Rattle.tables.specs.Register.{entry, named, registered, vacated, occupied};
+
+// The entry of a copy of a page.
+pub(crate) fn entry(page: u8, copy: u8) -> u16
+    ensures { λ r. ⌜ r ≡ entry page copy ⌝ }
+{
+    8 * page as u16 + copy as u16
+}
+
+// Sets a frame's entry; a null copy has no frame.
+fn enter(register: &mut [u16; 254], frame: u8, entry: u16)
+    requires { ⌜ length (now register) ≡ 254 ⌝ }
+    ensures { λ _. ⌜ now (register .exit) ≡ set (now (register .entry)) frame entry ⌝ }
+{
+    let f = frame as usize;
+    if f < 254 {
+        register[f] = entry;
+    }
+}
+
+// The frames of the page's copies are free.
+pub(crate) fn vacate(register: &mut [u16; 254], page: Page)
+    requires { ⌜ length (now register) ≡ 254 ⌝ }
+    ensures { λ _. ⌜ now (register .exit) ≡ vacated (inUse page) (now (register .entry)) ⌝ }
+{
+    let n = page.in_use();
+    let mut j: usize = 0;
+    while j < n {
+        enter(register, page.copies[j].frame, NO_HOLDER);
+        j += 1;
+    }
+}
+
+// The copies of page p are on their frames.
+pub(crate) fn occupy(register: &mut [u16; 254], p: u8, page: Page)
+    requires { ⌜ length (now register) ≡ 254 ⌝ }
+    ensures { λ _. ⌜ now (register .exit) ≡ occupied p 0 (inUse page) (now (register .entry)) ⌝ }
+{
+    let n = page.in_use();
+    let mut k: usize = 0;
+    while k < n {
+        enter(register, page.copies[k].frame, entry(p, k as u8));
+        k += 1;
+    }
+}
+
+// The holder of a frame by its entry; a number past the register has none.
+fn holder_by(entry: u16, frame: u8) -> Holder
+    ensures { λ r. ⌜ r ≡ cond (ltb frame 254) (named entry) Free ⌝ }
+{
+    if frame < 254 {
+        return Holder::named(entry);
+    }
+    Holder::Free
+}
+
+impl Tables {
+    // The copy on a frame, by the register. Behind a reference, so that the tables are not copied.
+    pub fn registered(&self, frame: u8) -> Holder
+        ensures { λ r. ⌜ r ≡ registered (now (self .entry)) frame ⌝ }
+    {
+        let entry = self.register[(frame % 254) as usize];
+        holder_by(entry, frame)
+    }
+}
+
+impl Holder {
+    // The holder that an entry names.
+    pub fn named(entry: u16) -> Holder
+        ensures { λ r. ⌜ r ≡ named entry ⌝ }
+    {
+        if entry < 512 {
+            return Holder::At {
+                page: (entry / 8) as u8,
+                copy: (entry % 8) as u8,
+            };
+        }
+        Holder::Free
+    }
+}
