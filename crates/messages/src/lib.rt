@@ -62,7 +62,8 @@ pub struct Tally {
 }
 
 // What a message comes to: its number, the length of its reply, the bytes laid, and the tables; where `moved` is false they
-// are as they were.
+// are as they were. Here and below `tables` stands before `moved`: a byte before the tables would be padded, at the price
+// of one more copy of them.
 pub struct Answered {
     pub number: u8,
     pub len: usize,

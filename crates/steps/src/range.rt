@@ -18,7 +18,7 @@ fn bad_span(offset: u8, count: usize) -> bool
 }
 
 // Whether the call names a frame.
-pub(crate) fn names_frame(kind: Kind) -> bool
+fn names_frame(kind: Kind) -> bool
     ensures { λ r. ⌜ r ≡ has frame kind ⌝ }
 {
     match kind {

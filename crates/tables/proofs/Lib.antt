@@ -15,5 +15,6 @@ pub mod RegisterLaws
 pub mod SumLaws
 pub mod ScanLaws
 pub mod KeepLaws
+pub mod BothWays
 pub mod ByRef
 pub mod Rows

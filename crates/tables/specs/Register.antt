@@ -35,8 +35,8 @@ registered t f = named (getD (t .register) f noHolder)
 
 -- ---- "Table rules gain that the register is right"
 
--- Each frame's entry is that of the holder which the search gives: so each copy's frame names it, and no other entry names anything. Frames are
--- in range, so past the last one there is none.
+-- Each frame's entry is that of the holder which the search gives: so each copy's frame names it, and no other entry names anything
+-- (`copy-named`, `named-copy`). Frames are in range, so past the last one there is none.
 unfoldable pub rightRegister : List Page → List ℕ → Bool
 rightRegister gs r = eqb (length r) 254 && allBelow 254 (λ f. eqb (getD r f noHolder) (entryOf (inPages f 0 gs)))
 

@@ -77,7 +77,7 @@ impl Tables {
 
 impl Holder {
     // The holder that an entry names.
-    pub fn named(entry: u16) -> Holder
+    fn named(entry: u16) -> Holder
         ensures { λ r. ⌜ r ≡ named entry ⌝ }
     {
         if entry < 512 {
