@@ -1,6 +1,5 @@
 -- A decision as the code comes to it is the decision of the call, and what a caller has of one.
--- In order: `decided-at`, where the record of page number % 64 is read and the holder is sought from `searchStart` on; `ruled-is`, with 5 and 6
--- before it; `decides-any`, what a caller has of a decision on any tables.
+-- In order: `decided-at`, where the record of page number % 64 is read; `ruled-is`, with 5 and 6 before it; `decides-any`, what a caller has of a decision on any tables.
 use Prim.Native.Nat.{ℕ, _%_, _<_}
 use mathlib.Core.Path.{_≡_, refl, sym, ap, _∙_}
 use mathlib.Core.Bool.{Bool, true, false, not, cond}

@@ -1,4 +1,4 @@
--- What the one pass over the copies of a page answers, and two laws that the functions of the register ask for.
+-- What the one pass over the copies of a page answers.
 use Prim.Native.Nat.{ℕ, _+_}
 use mathlib.Core.Path.{_≡_, refl, sym, ap}
 use mathlib.Core.Bool.{Bool, true, false, _&&_, _||_, cond, true≢false, false≢true}
