@@ -1,5 +1,5 @@
--- The bytes of a frame in the joined stores. In order: a list in three pieces; bytes laid into one frame; a write, which lays into the
--- frame of every CURRENT copy.
+-- The bytes of a frame in the joined stores. In order: a list in three pieces; bytes laid into one frame; bytes laid into
+-- the frames of some copies.
 use Prim.Native.Nat.{ℕ, _+_, _-_, _*_, _≤_, _<_}
 use mathlib.Core.Path.{_≡_, refl, sym, ap, ap₂, _∙_}
 use mathlib.Core.Logic.{_≢_}
@@ -15,8 +15,8 @@ use Rattle.tables.specs.declared.Copy.{Copy}
 use Rattle.tables.specs.Lists.{all, count}
 use Rattle.tables.specs.Model.{onFrame}
 use Rattle.tables.proofs.ListLaws.{and-left, and-right, not-so, all-first, all-rest, count-hit, count-miss, count-rest}
-use Rattle.steps.specs.Stores.{part, splice, block, lay, layCurrent}
-use Rattle.steps.specs.Promises.{currentWithin}
+use Rattle.steps.specs.Stores.{part, splice, block, lay, layEach}
+use Rattle.steps.specs.Promises.{frameWithin}
 use Rattle.steps.proofs.StoreLaws.{length-part, part-left, part-right, length-splice, splice-all, splice-left, splice-right}
 
 -- ---- a list in three pieces: a, then m, then z
@@ -88,92 +88,92 @@ pub block-lay-whole : (st : List ℕ) (x : ℕ) → 64 * x + 64 ≤ length st �
 block-lay-whole st x inside b e =
     block-lay-own st x inside 0 b (omega arith) ∙ splice-all (block st x) b (e ∙ sym (length-part st (64 * x) 64 inside))
 
--- ---- a write: the bytes laid into the frame of every CURRENT copy
+-- ---- the bytes laid into the frame of each copy that is one of `those`: of a write, the CURRENT ones
 
--- a CURRENT copy on frame x
-abbrev pub currentOn : ℕ → Copy → Bool
-currentOn x c = c .current && onFrame x c
+-- one of those on frame x
+abbrev pub oneOn : (Copy → Bool) → ℕ → Copy → Bool
+oneOn those x c = those c && onFrame x c
 
--- one copy of a write
-abbrev layOne : List ℕ → Copy → ℕ → List ℕ → List ℕ
-layOne st c o b = cond (c .current) (lay st (c .frame) o b) st
-
--- the frame of a CURRENT copy is below the limit
-pub current-low : (limit : ℕ) (c : Copy) → currentWithin limit c ≡ true → c .current ≡ true → c .frame < limit
-current-low limit c e u =
-    let k : leb limit (c .frame) ≡ false = rw u at (not-true (c .current && leb limit (c .frame)) e) in
+-- its frame is below the limit
+pub within-low : (those : Copy → Bool) (limit : ℕ) (c : Copy) → frameWithin those limit c ≡ true → those c ≡ true → c .frame < limit
+within-low those limit c e u =
+    let k : leb limit (c .frame) ≡ false = rw u at (not-true (those c && leb limit (c .frame)) e) in
     leb-false limit (c .frame) k
 
-module _ (limit : ℕ) (o : ℕ) (b : List ℕ) (span : o + length b ≤ 64) where
-  module _ (st : List ℕ) (long : length st ≡ 64 * limit) (c : Copy) (rule : currentWithin limit c ≡ true) where
-    inside : c .current ≡ true → 64 * c .frame + 64 ≤ length st
-    inside u = let k = current-low limit c rule u in omega arith
+module _ (those : Copy → Bool) (limit : ℕ) (o : ℕ) (b : List ℕ) (span : o + length b ≤ 64) where
+  -- one copy
+  abbrev layOne : List ℕ → Copy → List ℕ
+  layOne st c = cond (those c) (lay st (c .frame) o b) st
 
-    length-one : length (layOne st c o b) ≡ 64 * limit
-    length-one = go (c .current) inside
+  module _ (st : List ℕ) (long : length st ≡ 64 * limit) (c : Copy) (rule : frameWithin those limit c ≡ true) where
+    inside : those c ≡ true → 64 * c .frame + 64 ≤ length st
+    inside u = let k = within-low those limit c rule u in omega arith
+
+    length-one : length (layOne st c) ≡ 64 * limit
+    length-one = go (those c) inside
       where
         go : (u : Bool) → (u ≡ true → 64 * c .frame + 64 ≤ length st) → length (cond u (lay st (c .frame) o b) st) ≡ 64 * limit
         go true h = length-lay st (c .frame) (h refl) o b span ∙ long
         go false h = long
 
-    one-other : (x : ℕ) → currentOn x c ≡ false → block (layOne st c o b) x ≡ block st x
-    one-other x e = go (c .current) inside e
+    one-other : (x : ℕ) → oneOn those x c ≡ false → block (layOne st c) x ≡ block st x
+    one-other x e = go (those c) inside e
       where
         go : (u : Bool) → (u ≡ true → 64 * c .frame + 64 ≤ length st) → (u && onFrame x c) ≡ false
             → block (cond u (lay st (c .frame) o b) st) x ≡ block st x
         go true h z = block-lay-other st (c .frame) (h refl) o b span x (eqb-false (c .frame) x z)
         go false h z = refl
 
-    one-own : (x : ℕ) → currentOn x c ≡ true → block (layOne st c o b) x ≡ splice (block st x) o b
+    one-own : (x : ℕ) → oneOn those x c ≡ true → block (layOne st c) x ≡ splice (block st x) o b
     one-own x e =
-        let current = and-left (c .current) (onFrame x c) e in
-        let same : c .frame ≡ x = eqb-true (c .frame) x (and-right (c .current) (onFrame x c) e) in
-        rw (current, ← same) (block-lay-own st (c .frame) (inside current) o b span)
+        let one = and-left (those c) (onFrame x c) e in
+        let same : c .frame ≡ x = eqb-true (c .frame) x (and-right (those c) (onFrame x c) e) in
+        rw (one, ← same) (block-lay-own st (c .frame) (inside one) o b span)
 
-  pub length-write : (cs : List Copy) (st : List ℕ) → length st ≡ 64 * limit → all (currentWithin limit) cs ≡ true
-      → length (layCurrent st cs o b) ≡ 64 * limit
-  unfolding layCurrent
-  length-write [] st long rules = long
-  length-write (c ∷ cs) st long rules =
-      length-write cs (layOne st c o b) (length-one st long c (all-first (currentWithin limit) c cs rules)) (all-rest (currentWithin limit) c cs rules)
+  pub length-each : (cs : List Copy) (st : List ℕ) → length st ≡ 64 * limit → all (frameWithin those limit) cs ≡ true
+      → length (layEach those st cs o b) ≡ 64 * limit
+  unfolding layEach
+  length-each [] st long rules = long
+  length-each (c ∷ cs) st long rules =
+      length-each cs (layOne st c) (length-one st long c (all-first (frameWithin those limit) c cs rules)) (all-rest (frameWithin those limit) c cs rules)
 
   -- a frame of no copy of the page keeps its bytes
-  pub write-other : (cs : List Copy) (st : List ℕ) → length st ≡ 64 * limit → all (currentWithin limit) cs ≡ true
-      → (x : ℕ) → count (onFrame x) cs ≡ 0 → block (layCurrent st cs o b) x ≡ block st x
-  unfolding layCurrent
-  write-other [] st long rules x none = refl
-  write-other (c ∷ cs) st long rules x none =
-      let rule = all-first (currentWithin limit) c cs rules in
-      write-other cs (layOne st c o b) (length-one st long c rule) (all-rest (currentWithin limit) c cs rules) x
+  pub each-other : (cs : List Copy) (st : List ℕ) → length st ≡ 64 * limit → all (frameWithin those limit) cs ≡ true
+      → (x : ℕ) → count (onFrame x) cs ≡ 0 → block (layEach those st cs o b) x ≡ block st x
+  unfolding layEach
+  each-other [] st long rules x none = refl
+  each-other (c ∷ cs) st long rules x none =
+      let rule = all-first (frameWithin those limit) c cs rules in
+      each-other cs (layOne st c) (length-one st long c rule) (all-rest (frameWithin those limit) c cs rules) x
       (omega (arith, count-rest (onFrame x) c cs))
-      ∙ one-other st long c rule x (not-so (currentOn x c) (λ e.
-      let hit = count-hit (onFrame x) c cs (and-right (c .current) (onFrame x c) e) in
+      ∙ one-other st long c rule x (not-so (oneOn those x c) (λ e.
+      let hit = count-hit (onFrame x) c cs (and-right (those c) (onFrame x c) e) in
       omega arith))
 
-  -- the frame of a CURRENT copy, which no other copy of the page has, takes the bytes
-  pub write-own : (cs : List Copy) (st : List ℕ) → length st ≡ 64 * limit → all (currentWithin limit) cs ≡ true
-      → (x : ℕ) → count (onFrame x) cs ≤ 1 → 1 ≤ count (currentOn x) cs → block (layCurrent st cs o b) x ≡ splice (block st x) o b
-  unfolding layCurrent count
-  write-own [] st long rules x once some = absurd (omega arith)
-  write-own (c ∷ cs) st long rules x once some = go (currentOn x c) refl (write-own cs (layOne st c o b) long′ others x)
+  -- the frame of one of those, which no other copy of the page has, takes the bytes
+  pub each-own : (cs : List Copy) (st : List ℕ) → length st ≡ 64 * limit → all (frameWithin those limit) cs ≡ true
+      → (x : ℕ) → count (onFrame x) cs ≤ 1 → 1 ≤ count (oneOn those x) cs → block (layEach those st cs o b) x ≡ splice (block st x) o b
+  unfolding layEach count
+  each-own [] st long rules x once some = absurd (omega arith)
+  each-own (c ∷ cs) st long rules x once some = go (oneOn those x c) refl (each-own cs (layOne st c) long′ others x)
     where
-      rule : currentWithin limit c ≡ true
-      rule = all-first (currentWithin limit) c cs rules
+      rule : frameWithin those limit c ≡ true
+      rule = all-first (frameWithin those limit) c cs rules
 
-      others : all (currentWithin limit) cs ≡ true
-      others = all-rest (currentWithin limit) c cs rules
+      others : all (frameWithin those limit) cs ≡ true
+      others = all-rest (frameWithin those limit) c cs rules
 
-      long′ : length (layOne st c o b) ≡ 64 * limit
+      long′ : length (layOne st c) ≡ 64 * limit
       long′ = length-one st long c rule
 
-      go : (v : Bool) → currentOn x c ≡ v
-          → (count (onFrame x) cs ≤ 1 → 1 ≤ count (currentOn x) cs
-          → block (layCurrent (layOne st c o b) cs o b) x ≡ splice (block (layOne st c o b) x) o b)
-          → block (layCurrent (layOne st c o b) cs o b) x ≡ splice (block st x) o b
+      go : (v : Bool) → oneOn those x c ≡ v
+          → (count (onFrame x) cs ≤ 1 → 1 ≤ count (oneOn those x) cs
+          → block (layEach those (layOne st c) cs o b) x ≡ splice (block (layOne st c) x) o b)
+          → block (layEach those (layOne st c) cs o b) x ≡ splice (block st x) o b
       go true e later =
-          let hit = count-hit (onFrame x) c cs (and-right (c .current) (onFrame x c) e) in
-          write-other cs (layOne st c o b) long′ others x (omega arith) ∙ one-own st long c rule x e
+          let hit = count-hit (onFrame x) c cs (and-right (those c) (onFrame x c) e) in
+          each-other cs (layOne st c) long′ others x (omega arith) ∙ one-own st long c rule x e
       go false e later =
           let rest = count-rest (onFrame x) c cs in
-          let miss = count-miss (currentOn x) c cs e in
+          let miss = count-miss (oneOn those x) c cs e in
           later (omega arith) (omega arith) ∙ ap (λ (l : List ℕ). splice l o b) (one-other st long c rule x e)

@@ -1,7 +1,8 @@
--- Loops over the copies of a page: what is still to be done is told by `drop j (inUse g)`. In order: bytes laid into each CURRENT
--- copy; the entries that show the copies.
+-- Loops over the copies of a page: what is still to be done is told by `drop j (inUse g)`. In order: bytes laid into the frames
+-- of some copies; the entries that show the copies.
 use Prim.Native.Nat.{ℕ, _+_, _*_, _≤_, _<_}
 use mathlib.Core.Path.{_≡_, refl, sym, ap, _∙_}
+use mathlib.Core.Bool.{Bool}
 use mathlib.Core.List.{List, [], _∷_}
 use native.Mathlib.Omega.{arith}
 use lib.ListN.{length, drop, getD}
@@ -9,21 +10,21 @@ use Rattle.tables.specs.declared.Copy.{Copy}
 use Rattle.tables.specs.declared.Page.{Page}
 use Rattle.tables.specs.Model.{inUse, noCopyEntry}
 use Rattle.tables.proofs.Loops.{drop-end, use-more}
-use Rattle.steps.specs.Stores.{splice, layCurrent}
+use Rattle.steps.specs.Stores.{splice, layEach}
 use Rattle.steps.specs.Effects.{entries}
 use Rattle.steps.proofs.StoreLaws.{splice-next, splice-none}
 
 module _ (g : Page) (j : ℕ) where
-  -- ---- bytes laid into each CURRENT copy
-  module _ (o : ℕ) (b : List ℕ) where
-    pub lay-turn : (st st′ all : List ℕ) → j < length (inUse g) → st′ ≡ layCurrent st (getD (g .copies) j noCopyEntry ∷ []) o b
-        → layCurrent st (drop j (inUse g)) o b ≡ all → layCurrent st′ (drop (j + 1) (inUse g)) o b ≡ all
-    unfolding layCurrent
-    lay-turn st st′ all h e r = rw e (sym (ap (λ (cs : List Copy). layCurrent st cs o b) (use-more g j h)) ∙ r)
+  -- ---- bytes laid into the frame of each copy that is one of `those`
+  module _ (those : Copy → Bool) (o : ℕ) (b : List ℕ) where
+    pub lay-turn : (st st′ all : List ℕ) → j < length (inUse g) → st′ ≡ layEach those st (getD (g .copies) j noCopyEntry ∷ []) o b
+        → layEach those st (drop j (inUse g)) o b ≡ all → layEach those st′ (drop (j + 1) (inUse g)) o b ≡ all
+    unfolding layEach
+    lay-turn st st′ all h e r = rw e (sym (ap (λ (cs : List Copy). layEach those st cs o b) (use-more g j h)) ∙ r)
 
-    pub lay-ended : (st all : List ℕ) → length (inUse g) ≤ j → layCurrent st (drop j (inUse g)) o b ≡ all → st ≡ all
-    unfolding layCurrent
-    lay-ended st all h r = sym (ap (λ (cs : List Copy). layCurrent st cs o b) (drop-end (inUse g) j h)) ∙ r
+    pub lay-ended : (st all : List ℕ) → length (inUse g) ≤ j → layEach those st (drop j (inUse g)) o b ≡ all → st ≡ all
+    unfolding layEach
+    lay-ended st all h r = sym (ap (λ (cs : List Copy). layEach those st cs o b) (drop-end (inUse g) j h)) ∙ r
 
   -- ---- the entries that show the copies, three bytes each
   pub entries-turn : (out out′ all : List ℕ) → j < length (inUse g) → 1 + 3 * j + 3 ≤ length out

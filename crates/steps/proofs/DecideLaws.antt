@@ -24,7 +24,7 @@ use Rattle.tables.specs.Rules.{free, isCurrent, copyRule, sound}
 use Rattle.tables.specs.Search.{isFree, shown}
 use Rattle.tables.specs.Register.{registered}
 use Rattle.tables.proofs.ListLaws.{and-intro, and-left, and-right, or-left, or-right, all-imp, count-le}
-use Rattle.tables.proofs.RuleLaws.{good-copy, current-frame, StandingPage, copy-at, length-in-use, sound-of, standing-at}
+use Rattle.tables.proofs.RuleLaws.{GoodCopy, good-copy, current-placed, StandingPage, copy-at, length-in-use, sound-of, standing-at}
 use Rattle.tables.proofs.RegisterLaws.{registered-free}
 use Rattle.tables.proofs.Allowed.{FrameOk, Allowed}
 use Rattle.steps.specs.declared.Kind.{Kind}
@@ -37,7 +37,7 @@ use Rattle.steps.specs.Kinds.{offset, bytes, frame, names, code, among, 
 use Rattle.steps.specs.Calls.{nameOutside, frameOutside, badSpan, spanOutside}
 use Rattle.steps.specs.Steps.{Outcome, refuse, accept, test, Plan, editing, showing, laying, mayRead, mayWrite, owns, copyAt, currents, recents, firstCurrent, standing, numbered, copying, perform, decideOn, decide}
 use Rattle.steps.specs.Effects.{shownOf}
-use Rattle.steps.specs.Promises.{currentWithin, workWithin}
+use Rattle.steps.specs.Promises.{frameWithin, workWithin}
 use Rattle.steps.proofs.StoreLaws.{length-frame-part}
 use Rattle.steps.proofs.CopyLaws.{length-entries}
 
@@ -79,25 +79,30 @@ page-near c e =
 pub span-within : (o n : ℕ) → badSpan o n ≡ false → o + n ≤ 64
 span-within o n e = ltb-false 64 (o + n) (or-right (eqb n 0) _ (or-right (ltb 63 o) _ e))
 
--- ---- the CURRENT copies of a page that stands
+-- ---- the copies of a page that stands
 
 module _ {limit : ℕ} where
-  -- are on frames below the limit
-  pub currents-within : {g : Page} → StandingPage limit g → all (currentWithin limit) (inUse g) ≡ true
-  currents-within {g} s = all-imp (copyRule limit (g .n)) (currentWithin limit) (inUse g) one (s .copies-ok)
+  -- those that have a frame have it below the limit
+  those-within : (those : Copy → Bool) {g : Page} → StandingPage limit g
+      → ((c : Copy) → GoodCopy limit (g .n) c → those c ≡ true → isNull c ≡ false) → all (frameWithin those limit) (inUse g) ≡ true
+  those-within those {g} s placed = all-imp (copyRule limit (g .n)) (frameWithin those limit) (inUse g) one (s .copies-ok)
     where
-      one : (c : Copy) → copyRule limit (g .n) c ≡ true → currentWithin limit c ≡ true
-      one c e = go (c .current) refl
+      one : (c : Copy) → copyRule limit (g .n) c ≡ true → frameWithin those limit c ≡ true
+      one c e = go (those c) refl
         where
-          go : (u : Bool) → c .current ≡ u → not (u && leb limit (c .frame)) ≡ true
-          go true q = ap not (lt-leb limit (c .frame) (current-frame (good-copy limit (g .n) c e) q))
+          go : (u : Bool) → those c ≡ u → not (u && leb limit (c .frame)) ≡ true
+          go true q = let k = good-copy limit (g .n) c e in ap not (lt-leb limit (c .frame) (k .placed (placed c k q)))
           go false q = refl
 
+  -- the CURRENT ones
+  pub currents-within : {g : Page} → StandingPage limit g → all (frameWithin isCurrent limit) (inUse g) ≡ true
+  currents-within s = those-within isCurrent s (λ c k q. current-placed k q)
+
   -- the frame of the first, where there is one
-  first-low : (cs : List Copy) → all (currentWithin limit) cs ≡ true → 1 ≤ count isCurrent cs → firstCurrent cs < limit
+  first-low : (cs : List Copy) → all (frameWithin isCurrent limit) cs ≡ true → 1 ≤ count isCurrent cs → firstCurrent cs < limit
   unfolding all count firstCurrent
   first-low [] e h = absurd (omega arith)
-  first-low (c ∷ cs) e h = go (c .current) (and-left (currentWithin limit c) _ e) (first-low cs (and-right (currentWithin limit c) _ e)) h
+  first-low (c ∷ cs) e h = go (c .current) (and-left (frameWithin isCurrent limit c) _ e) (first-low cs (and-right (frameWithin isCurrent limit c) _ e)) h
     where
       go : (u : Bool) → not (u && leb limit (c .frame)) ≡ true → (1 ≤ count isCurrent cs → firstCurrent cs < limit)
           → 1 ≤ cond u 1 0 + count isCurrent cs → cond u (c .frame) (firstCurrent cs) < limit

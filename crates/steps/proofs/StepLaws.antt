@@ -14,7 +14,7 @@ use Rattle.tables.specs.declared.Tables.{Tables}
 use Rattle.tables.specs.Lists.{listed}
 use Rattle.tables.specs.Numbers.{accepted, brokenTables, misfitStore, table}
 use Rattle.tables.specs.Model.{frames, isNull, inUse, absent, pageAt}
-use Rattle.tables.specs.Rules.{sound}
+use Rattle.tables.specs.Rules.{isCurrent, sound}
 use Rattle.tables.specs.Changes.{after}
 use Rattle.tables.proofs.ListLaws.{and-intro, and-left, and-right}
 use Rattle.tables.proofs.RuleLaws.{StandingPage, copy-at, sound-of, standing-at}
@@ -28,11 +28,11 @@ use Rattle.steps.specs.Stores.{fits, block, held, zeros, over}
 use Rattle.steps.specs.Steps.{Outcome, refuse, accept, test, mapped, Plan, copyAt, decide, decideAny, numberOf}
 use Rattle.steps.specs.Effects.{laidIn, shownOf, State, joined, Result, carriedOut, step, left, laidBy, dataOf}
 use Rattle.steps.specs.Promises.{stateOf, rulesNumber, decisionOf, Lent, lent, workWithin, within, carried, Stepped, settled}
-use Rattle.steps.specs.Private.{Decides}
+use Rattle.steps.specs.Private.{framesIn, Decides}
 use Rattle.steps.proofs.JudgeLaws.{decides-any}
 use Rattle.steps.proofs.StoreLaws.{length-part}
-use Rattle.steps.proofs.Blocks.{length-lay, length-write}
-use Rattle.steps.proofs.CarryLaws.{framesIn, lent-same}
+use Rattle.steps.proofs.Blocks.{length-lay, length-each}
+use Rattle.steps.proofs.CarryLaws.{lent-same}
 use Rattle.steps.proofs.DecideLaws.{IfAccepted, if-refused, if-accepted, past, then-keeps, PlanOk, decide-ok}
 
 -- ---- tables and stores that keep the rules
@@ -117,7 +117,7 @@ length-laid g (Duplicate from to) len limit bs st l e =
     let b = length-part st (64 * from) 64 (omega arith) in
     length-lay st to (omega arith) 0 (block st from) (omega arith)
 length-laid g (Spread o) len limit bs st l e =
-    length-write limit o bs (leb-true (o + length bs) 64 (and-left (leb (o + length bs) 64) _ e)) (inUse g) st l
+    length-each isCurrent limit o bs (leb-true (o + length bs) 64 (and-left (leb (o + length bs) 64) _ e)) (inUse g) st l
     (and-right (leb (o + length bs) 64) _ e)
     ∙ sym l
 length-laid g (Show f o) len limit bs st l e = refl

@@ -8,6 +8,7 @@ use Rattle.tables.specs.declared.Copy.{Copy}
 use Rattle.tables.specs.declared.Page.{Page}
 use Rattle.tables.specs.declared.Tables.{Tables}
 use Rattle.tables.specs.Model.{inUse, pageAt}
+use Rattle.tables.specs.Rules.{isCurrent}
 use Rattle.tables.specs.Search.{shown}
 use Rattle.tables.specs.Changes.{edited, after}
 use Rattle.steps.specs.declared.Kind.the-variants.{Read}
@@ -16,7 +17,7 @@ use Rattle.steps.specs.declared.Place.{Place}
 use Rattle.steps.specs.declared.Work.{Work}
 use Rattle.steps.specs.declared.Work.the-variants.{Nothing, Clear, Duplicate, Spread, Show, ShowPage, ShowHolder}
 use Rattle.steps.specs.Kinds.{callOf}
-use Rattle.steps.specs.Stores.{part, block, lay, zeros, layCurrent}
+use Rattle.steps.specs.Stores.{part, block, lay, zeros, layEach}
 use Rattle.steps.specs.Steps.{Outcome, refuse, accept, mapped, Plan, pageFor, decideAny}
 
 abbrev pub bit : Bool → ℕ
@@ -28,12 +29,12 @@ unfoldable pub entries : List Copy → List ℕ
 entries [] = []
 entries (c ∷ cs) = c .frame ∷ bit (c .current) ∷ bit (c .recent) ∷ entries cs
 
--- the joined stores st after a work on page g, with a write's bytes bs
+-- the joined stores st after a work on page g, with a write's bytes bs: step 5, "All CURRENT copies take the bytes"
 unfoldable pub laidIn : Page → Work → List ℕ → List ℕ → List ℕ
 laidIn g Nothing bs st = st
 laidIn g (Clear f) bs st = lay st f 0 zeros
 laidIn g (Duplicate from to) bs st = lay st to 0 (block st from)
-laidIn g (Spread offset) bs st = layCurrent st (inUse g) offset bs
+laidIn g (Spread offset) bs st = layEach isCurrent st (inUse g) offset bs
 laidIn g (Show f offset) bs st = st
 laidIn g ShowPage bs st = st
 laidIn g (ShowHolder h) bs st = st

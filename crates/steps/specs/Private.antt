@@ -1,10 +1,11 @@
 -- What the private functions of this layer ask of each other and promise. For the proofs alone: no exported contract names it.
-use Prim.Native.Nat.{ℕ, _+_, _*_, _%_, _≤_, _<_}
+use Prim.Native.Nat.{ℕ, _+_, _*_, _/_, _%_, _≤_, _<_}
 use mathlib.Core.Bool.{Bool, false, not, _||_, cond}
-use mathlib.Core.List.{List}
+use mathlib.Core.List.{List, _++_}
 use mathlib.Core.Path.{_≡_}
 use lib.ListN.{length}
 use lib.Dec.{eqb}
+use Rattle.tables.specs.declared.Copy.{Copy}
 use Rattle.tables.specs.declared.Page.{Page}
 use Rattle.tables.specs.declared.Shared.{Shared}
 use Rattle.tables.specs.declared.Tables.{Tables}
@@ -12,17 +13,22 @@ use Rattle.tables.specs.declared.Holder.{Holder}
 use Rattle.tables.specs.declared.Edit.the-variants.{Kept}
 use Rattle.tables.specs.Numbers.{accepted}
 use Rattle.tables.specs.Model.{inUse, absent, pageAt}
+use Rattle.tables.specs.Rules.{isRecent, isCurrent}
 use Rattle.tables.specs.Register.{registered}
 use Rattle.tables.specs.Changes.{changed, edited, after}
 use Rattle.tables.specs.Keep.{unchanged}
 use Rattle.steps.specs.declared.Call.{Call}
+use Rattle.steps.specs.declared.Which.{Which}
+use Rattle.steps.specs.declared.Which.the-variants.{Current, Recent, Placed}
 use Rattle.steps.specs.declared.Work.the-variants.{Nothing}
 use Rattle.steps.specs.declared.Verdict.{Verdict}
 use Rattle.steps.specs.declared.Decision.{Decision}
 use Rattle.steps.specs.declared.Place.{Place}
 use Rattle.steps.specs.Calls.{nameOutside, frameOutside, spanOutside}
-use Rattle.steps.specs.Steps.{Outcome, refuse, accept, Plan, test, copyAt, currents, firstCurrent, numbered, decideOn, pageFor, numberOf}
-use Rattle.steps.specs.Promises.{laidOf, lenOf, workOf, settled}
+use Rattle.steps.specs.Steps.{Outcome, refuse, accept, Plan, test, isPlaced, copyAt, currents, firstCurrent, numbered, decideOn, pageFor, numberOf}
+use Rattle.steps.specs.Stores.{over}
+use Rattle.steps.specs.Effects.{laidIn, shownOf}
+use Rattle.steps.specs.Promises.{laidOf, lenOf, workOf, settled, workWithin}
 
 -- ---- what is lent
 
@@ -34,6 +40,35 @@ pub record Room (fast slow : List ℕ) (p f : ℕ) : Type 0 where
 -- a place lies within its store
 abbrev pub PlaceIn : Place → List ℕ → List ℕ → Type 0
 PlaceIn place fast slow = place .start + place .len ≤ length (cond (place .slow) slow fast)
+
+-- the fast store is a whole number of frames
+abbrev pub WholeFrames : List ℕ → Type 0
+WholeFrames fast = length fast % 64 ≡ 0
+
+-- how many frames two stores have
+abbrev pub framesIn : List ℕ → List ℕ → ℕ
+framesIn fast slow = length fast / 64 + length slow / 64
+
+-- the copies that `Which` names
+abbrev pub chosen : Which → Copy → Bool
+chosen Current = isCurrent
+chosen Recent = isRecent
+chosen Placed = isPlaced
+
+-- ---- what was decided, carried out
+
+-- it lies within two stores, where a write has so many bytes
+abbrev pub lies : Decision → ℕ → List ℕ → List ℕ → Bool
+lies d size fast slow = workWithin (d .before) (d .len) (framesIn fast slow) size (d .work)
+
+-- the two stores after it
+abbrev pub laidInto : Decision → List ℕ → List ℕ → List ℕ → List ℕ
+laidInto d bs fast slow = cond (lies d (length bs) fast slow) (laidIn (d .before) (d .work) bs (fast ++ slow)) (fast ++ slow)
+
+-- and the buffer
+abbrev pub shownInto : Decision → ℕ → List ℕ → List ℕ → List ℕ → List ℕ
+shownInto d size fast slow out =
+    cond (lies d size fast slow) (over (shownOf (d .before) (d .work) (d .len) (fast ++ slow)) out) out
 
 -- ---- number 7
 

@@ -13,7 +13,7 @@ use Rattle.tables.specs.declared.Edit.the-variants.{Kept}
 use Rattle.tables.specs.Lists.{all}
 use Rattle.tables.specs.Numbers.{accepted, brokenTables, misfitStore}
 use Rattle.tables.specs.Model.{inUse, pageAt}
-use Rattle.tables.specs.Rules.{sound}
+use Rattle.tables.specs.Rules.{isCurrent, sound}
 use Rattle.tables.specs.Changes.{changed, after}
 use Rattle.tables.specs.Keep.{unchanged}
 use Rattle.steps.specs.declared.Call.{Call}
@@ -94,16 +94,16 @@ pub record Lent : Type 0 where
 abbrev pub lent : List ℕ → List ℕ → List ℕ → Lent
 lent fast slow out = record { fast = fast; slow = slow; out = out }
 
--- a CURRENT copy's frame is one of so many
-abbrev pub currentWithin : ℕ → Copy → Bool
-currentWithin frames c = not (c .current && leb frames (c .frame))
+-- if a copy is one of `those`, its frame is one of so many
+abbrev pub frameWithin : (Copy → Bool) → ℕ → Copy → Bool
+frameWithin those frames c = not (those c && leb frames (c .frame))
 
 -- a work on page g lies within stores of so many frames, and what it shows within a page
 abbrev pub workWithin : Page → ℕ → ℕ → ℕ → Work → Bool
 workWithin g len frames size Nothing = true
 workWithin g len frames size (Clear f) = ltb f frames
 workWithin g len frames size (Duplicate from to) = ltb from frames && ltb to frames
-workWithin g len frames size (Spread offset) = leb (offset + size) 64 && all (currentWithin frames) (inUse g)
+workWithin g len frames size (Spread offset) = leb (offset + size) 64 && all (frameWithin isCurrent frames) (inUse g)
 workWithin g len frames size (Show f offset) = ltb f frames && leb (offset + len) 64
 workWithin g len frames size ShowPage = true
 workWithin g len frames size (ShowHolder h) = true

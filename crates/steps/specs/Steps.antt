@@ -78,6 +78,10 @@ owns g station = eqb (g .owner) station
 
 -- ---- copies
 
+-- it has a frame
+abbrev pub isPlaced : Copy → Bool
+isPlaced c = not (isNull c)
+
 abbrev pub copyAt : Page → ℕ → Copy
 copyAt g k = getD (g .copies) k noCopyEntry
 

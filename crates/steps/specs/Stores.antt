@@ -35,10 +35,10 @@ zeros = replicate 64 0
 abbrev pub held : List ℕ → Copy → List ℕ
 held st c = cond (isNull c) zeros (block st (c .frame))
 
--- "All CURRENT copies take the bytes"
-unfoldable pub layCurrent : List ℕ → List Copy → ℕ → List ℕ → List ℕ
-layCurrent st [] o b = st
-layCurrent st (c ∷ cs) o b = layCurrent (cond (c .current) (lay st (c .frame) o b) st) cs o b
+-- the stores with b laid, from offset o on, into the frame of each copy that is one of `those`
+unfoldable pub layEach : (Copy → Bool) → List ℕ → List Copy → ℕ → List ℕ → List ℕ
+layEach those st [] o b = st
+layEach those st (c ∷ cs) o b = layEach those (cond (those c) (lay st (c .frame) o b) st) cs o b
 
 -- a lent buffer with b at its front, and the rest as lent
 abbrev pub over : List ℕ → List ℕ → List ℕ

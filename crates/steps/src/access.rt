@@ -5,7 +5,9 @@ use crate::NO_RIGHT;
 use crate::NOTHING_CURRENT;
 use crate::Verdict;
 use crate::View;
+use crate::Which;
 use crate::Work;
+use crate::each::count_of;
 use crate::judgement::accepted;
 use crate::judgement::refused;
 use tables::Edit;
@@ -13,7 +15,7 @@ use tables::Page;
 ghost use mathlib.Core.Path.{_≡_};
 ghost use Prim.Native.Nat.{ℕ, _≤_};
 ghost use Rattle.steps.specs.declared.Kind.the-variants.{Read, Write};
-ghost use Rattle.steps.specs.Steps.{rightOf, currents, perform};
+ghost use Rattle.steps.specs.Steps.{rightOf, perform};
 ghost use Rattle.steps.specs.Private.{FirstCurrent, verdictOf};
 
 // The right of a station at a page.
@@ -22,22 +24,6 @@ fn right_of(page: Page, station: u8) -> u8
 {
     let s = station as usize;
     if s < 16 { page.rights[s] } else { 0 }
-}
-
-// How many of the page's copies are CURRENT.
-fn current_count(page: Page) -> usize
-    ensures { λ r. ⌜ (r ≡ currents page) × (r ≤ 8) ⌝ }
-{
-    let n = page.in_use();
-    let mut j: usize = 0;
-    let mut k: usize = 0;
-    while j < n {
-        if page.copies[j].current {
-            k += 1;
-        }
-        j += 1;
-    }
-    k
 }
 
 // The number of the lowest-numbered CURRENT copy; 8 where there is none.
@@ -92,7 +78,7 @@ pub(crate) fn write_page(view: View, call: Call, size: usize) -> Verdict
     if right_of(page, call.station) < 2 {
         return refused(NO_RIGHT);
     }
-    let k = current_count(page);
+    let k = count_of(page, Which::Current);
     if k == 0 {
         return refused(NOTHING_CURRENT);
     }

@@ -10,7 +10,9 @@ use crate::NO_PAGE;
 use crate::STALE;
 use crate::Verdict;
 use crate::View;
+use crate::Which;
 use crate::Work;
+use crate::each::count_of;
 use crate::judgement::accepted;
 use crate::judgement::refused;
 use tables::Copy;
@@ -20,7 +22,7 @@ use tables::Page;
 ghost use mathlib.Core.Path.{_≡_};
 ghost use Prim.Native.Nat.{ℕ};
 ghost use Rattle.steps.specs.declared.Kind.the-variants.{MakeCopy, DeleteCopy, SetCurrent, RemoveCurrent};
-ghost use Rattle.steps.specs.Steps.{copyAt, recents, copying, perform};
+ghost use Rattle.steps.specs.Steps.{copyAt, copying, perform};
 ghost use Rattle.steps.specs.Private.{Numbered, verdictOf};
 
 // Copy k of the page.
@@ -89,22 +91,6 @@ pub(crate) fn make_copy(view: View, call: Call) -> Verdict
     copied(c, call.frame)
 }
 
-// How many of the page's copies are MOST RECENT.
-fn recent_count(page: Page) -> usize
-    ensures { λ r. ⌜ r ≡ recents page ⌝ }
-{
-    let n = page.in_use();
-    let mut j: usize = 0;
-    let mut k: usize = 0;
-    while j < n {
-        if page.copies[j].recent {
-            k += 1;
-        }
-        j += 1;
-    }
-    k
-}
-
 pub(crate) fn delete_copy(view: View, call: Call) -> Verdict
     ensures { λ r. ⌜ ((size : ℕ) → r ≡ verdictOf (perform view call size DeleteCopy)) ⌝ }
 {
@@ -114,7 +100,7 @@ pub(crate) fn delete_copy(view: View, call: Call) -> Verdict
         return refused(number);
     }
     let c = copy_at(page, call.copy);
-    let recents = recent_count(page);
+    let recents = count_of(page, Which::Recent);
     if c.recent & (recents == 1) {
         return refused(LAST_RECENT);
     }

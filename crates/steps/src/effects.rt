@@ -4,7 +4,9 @@ use crate::Decision;
 use crate::Done;
 use crate::Kind;
 use crate::Place;
+use crate::Which;
 use crate::Work;
+use crate::each::frames_within;
 use crate::judgement::judge_any;
 use crate::judgement::settle;
 use crate::looks::show_holder;
@@ -13,21 +15,19 @@ use crate::stores::clear_frame;
 use crate::stores::copy_frame;
 use crate::stores::frame_part;
 use crate::stores::frame_place;
-use crate::stores::lay_current;
+use crate::stores::lay_each;
 use crate::stores::part_at;
 use crate::stores::put;
-use tables::Page;
 use tables::Tables;
 ghost use mathlib.Core.Path.{_≡_};
-ghost use mathlib.Core.List.{[]};
-ghost use Prim.Native.Nat.{_+_};
+ghost use mathlib.Core.List.{[], _++_};
+ghost use Prim.Native.Nat.{ℕ, _+_, _≤_};
 ghost use lib.Dec.{leb};
 ghost use lib.ListN.{length};
 ghost use denote.Ref.{ptr};
-ghost use Rattle.tables.specs.Lists.{all};
-ghost use Rattle.tables.specs.Model.{inUse};
 ghost use Rattle.steps.specs.Effects.{step, readCall, readPlace};
-ghost use Rattle.steps.specs.Promises.{stateOf, lent, currentWithin, carried, Stepped, ReadPart};
+ghost use Rattle.steps.specs.Promises.{stateOf, lent, carried, Stepped, ReadPart};
+ghost use Rattle.steps.specs.Private.{WholeFrames, laidInto, shownInto};
 
 // Whether so many bytes from an offset on lie within a page.
 fn span_within(offset: u8, count: usize) -> bool
@@ -40,38 +40,40 @@ fn span_within(offset: u8, count: usize) -> bool
     count <= 64 - o
 }
 
-// Whether the CURRENT copies of a page are on frames below the limit.
-fn current_within(page: Page, limit: usize) -> bool
-    ensures { λ r. ⌜ r ≡ all (currentWithin limit) (inUse page) ⌝ }
+// Shows in the reply what was decided, out of the stores as they are lent.
+fn show<'a>(d: Decision, fast: &'a [u8], slow: &'a [u8], out: &mut [u8])
+    requires { ⌜ WholeFrames (now fast) ⌝ }
+    requires { ⌜ 64 ≤ length (now out) ⌝ }
+    ensures { λ _. ⌜ ((size : ℕ) → now (out .exit) ≡ shownInto d size (now (fast .entry)) (now (slow .entry)) (now (out .entry))) ⌝ }
 {
-    let n = page.in_use();
-    let mut j: usize = 0;
-    while j < n {
-        let c = page.copies[j];
-        if c.current & (c.frame as usize >= limit) {
-            return false;
-        }
-        j += 1;
-    }
-    true
-}
-
-// Lays and shows what was decided. Where that does not lie within what is lent, nothing is done: a decision on tables that
-// the stores fit always does.
-pub fn carry(d: Decision, bytes: &[u8], fast: &mut [u8], slow: &mut [u8], out: &mut [u8])
-    ensures { λ _. ⌜ lent (now (fast .exit)) (now (slow .exit)) (now (out .exit))
-        ≡ carried d (now (bytes .entry)) (lent (now (fast .entry)) (now (slow .entry)) (now (out .entry))) ⌝ }
-{
-    let work = d.work;
     let page = d.before;
     let len = d.len;
-    if (out.len() < 64) | (fast.len() % 64 != 0) {
-        return;
+    let work = d.work;
+    match work {
+        Work::Show { frame, offset } => {
+            let f = frame as usize;
+            let p = fast.len() / 64;
+            if (f < p + slow.len() / 64) & span_within(offset, len) {
+                let part = frame_part(fast, slow, p, f, offset as usize, len);
+                put(out, 0, part);
+            }
+        }
+        Work::ShowPage => show_page(page, out),
+        Work::ShowHolder { holder } => show_holder(holder, out),
+        _ => {}
     }
+}
+
+// Lays into the stores what was decided.
+fn lay(d: Decision, bytes: &[u8], fast: &mut [u8], slow: &mut [u8])
+    requires { ⌜ WholeFrames (now fast) ⌝ }
+    ensures { λ _. ⌜ now (fast .exit) ++ now (slow .exit) ≡ laidInto d (now (bytes .entry)) (now (fast .entry)) (now (slow .entry)) ⌝ }
+{
+    let page = d.before;
+    let work = d.work;
     let p = fast.len() / 64;
     let limit = p + slow.len() / 64;
     match work {
-        Work::Nothing => {}
         Work::Clear { frame } => {
             let f = frame as usize;
             if f < limit {
@@ -86,20 +88,25 @@ pub fn carry(d: Decision, bytes: &[u8], fast: &mut [u8], slow: &mut [u8], out: &
             }
         }
         Work::Spread { offset } => {
-            if span_within(offset, bytes.len()) & current_within(page, limit) {
-                lay_current(fast, slow, p, page, offset as usize, bytes);
+            if span_within(offset, bytes.len()) & frames_within(page, Which::Current, limit) {
+                lay_each(fast, slow, p, page, Which::Current, offset as usize, bytes);
             }
         }
-        Work::Show { frame, offset } => {
-            let f = frame as usize;
-            if (f < limit) & span_within(offset, len) {
-                let part = frame_part(&fast[..], &slow[..], p, f, offset as usize, len);
-                put(out, 0, part);
-            }
-        }
-        Work::ShowPage => show_page(page, out),
-        Work::ShowHolder { holder } => show_holder(holder, out),
+        _ => {}
     }
+}
+
+// Shows and lays what was decided. Where that does not lie within what is lent, nothing is done: a decision on tables that
+// the stores fit always does.
+pub fn carry(d: Decision, bytes: &[u8], fast: &mut [u8], slow: &mut [u8], out: &mut [u8])
+    ensures { λ _. ⌜ lent (now (fast .exit)) (now (slow .exit)) (now (out .exit))
+        ≡ carried d (now (bytes .entry)) (lent (now (fast .entry)) (now (slow .entry)) (now (out .entry))) ⌝ }
+{
+    if (out.len() < 64) | (fast.len() % 64 != 0) {
+        return;
+    }
+    show(d, &fast[..], &slow[..], out);
+    lay(d, bytes, fast, slow);
 }
 
 // A call on any tables and stores.

@@ -2,6 +2,7 @@
 // what was decided, and `settle` puts the change into the tables.
 mod access;
 mod copies;
+mod each;
 mod effects;
 mod judgement;
 mod kinds;
@@ -97,6 +98,14 @@ pub struct View {
     pub frames: u16,
     pub page: Page,
     pub holder: Holder,
+}
+
+// Which copies of a page a step is about.
+pub enum Which {
+    Current,
+    Recent,
+    // Those that have a frame.
+    Placed,
 }
 
 // What a step lays into the stores or shows in the reply.

@@ -1,5 +1,7 @@
 // The two lent stores: frame f is in the fast one where f is below p, and else in the slow one.
 use crate::Place;
+use crate::Which;
+use crate::each::is_chosen;
 use tables::Copy;
 use tables::Page;
 ghost use mathlib.Core.Path.{_≡_};
@@ -9,10 +11,10 @@ ghost use Prim.Native.Nat.{ℕ, _+_, _<_, _≤_};
 ghost use lib.ListN.{length, getD};
 ghost use denote.Ref.{ptr};
 ghost use Rattle.tables.specs.Model.{noCopyEntry, inUse};
-ghost use Rattle.steps.specs.Stores.{part, splice, block, lay, zeros, layCurrent};
+ghost use Rattle.steps.specs.Stores.{part, splice, block, lay, zeros, layEach};
 ghost use Rattle.steps.specs.Effects.{framePlace};
 ghost use Rattle.steps.specs.Promises.{bytesAt, pointerAt};
-ghost use Rattle.steps.specs.Private.{Room, PlaceIn};
+ghost use Rattle.steps.specs.Private.{chosen, Room, PlaceIn};
 
 // Lays all of src into dst from index at on.
 pub(crate) fn put(dst: &mut [u8], at: usize, src: &[u8])
@@ -139,36 +141,45 @@ pub(crate) fn part_at<'a>(fast: &'a [u8], slow: &'a [u8], place: Place) -> &'a [
     }
 }
 
-// Lays src into the copy's frame where the copy is CURRENT.
-fn lay_copy(fast: &mut [u8], slow: &mut [u8], p: usize, c: Copy, offset: usize, src: &[u8])
-    requires { ⌜ (c .current ≡ true → Room (now fast) (now slow) p (c .frame)) ⌝ }
+// Lays src into the copy's frame where the copy is one of these.
+fn lay_copy(
+    fast: &mut [u8],
+    slow: &mut [u8],
+    p: usize,
+    c: Copy,
+    which: Which,
+    offset: usize,
+    src: &[u8],
+)
+    requires { ⌜ (chosen which c ≡ true → Room (now fast) (now slow) p (c .frame)) ⌝ }
     requires { ⌜ offset + length (now src) ≤ 64 ⌝ }
-    ensures { λ _. ⌜ now (fast .exit) ++ now (slow .exit) ≡ layCurrent (now (fast .entry) ++ now (slow .entry)) (c ∷ []) offset (now (src .entry)) ⌝ }
+    ensures { λ _. ⌜ now (fast .exit) ++ now (slow .exit) ≡ layEach (chosen which) (now (fast .entry) ++ now (slow .entry)) (c ∷ []) offset (now (src .entry)) ⌝ }
 {
-    if c.current {
+    if is_chosen(c, which) {
         let f = c.frame as usize;
         lay_frame(fast, slow, p, f, offset, src);
     }
 }
 
-// Lays src into each CURRENT copy of the page.
-pub(crate) fn lay_current(
+// Lays src into the frame of each of these copies of the page.
+pub(crate) fn lay_each(
     fast: &mut [u8],
     slow: &mut [u8],
     p: usize,
     page: Page,
+    which: Which,
     offset: usize,
     src: &[u8],
 )
-    requires { ⌜ ((i : ℕ) → i < length (inUse page) → getD (page .copies) i noCopyEntry .current ≡ true → Room (now fast) (now slow) p (getD (page .copies) i noCopyEntry .frame)) ⌝ }
+    requires { ⌜ ((i : ℕ) → i < length (inUse page) → chosen which (getD (page .copies) i noCopyEntry) ≡ true → Room (now fast) (now slow) p (getD (page .copies) i noCopyEntry .frame)) ⌝ }
     requires { ⌜ offset + length (now src) ≤ 64 ⌝ }
-    ensures { λ _. ⌜ now (fast .exit) ++ now (slow .exit) ≡ layCurrent (now (fast .entry) ++ now (slow .entry)) (inUse page) offset (now (src .entry)) ⌝ }
+    ensures { λ _. ⌜ now (fast .exit) ++ now (slow .exit) ≡ layEach (chosen which) (now (fast .entry) ++ now (slow .entry)) (inUse page) offset (now (src .entry)) ⌝ }
 {
     let n = page.in_use();
     let mut j: usize = 0;
     while j < n {
         let c = page.copies[j];
-        lay_copy(fast, slow, p, c, offset, src);
+        lay_copy(fast, slow, p, c, which, offset, src);
         j += 1;
     }
 }

@@ -12,7 +12,7 @@ use Rattle.tables.specs.declared.Edit.the-variants.{Staled}
 use Rattle.tables.specs.Lists.{all}
 use Rattle.tables.specs.Numbers.{outOfRange, noRight}
 use Rattle.tables.specs.Model.{frames, inUse, absent, pageAt}
-use Rattle.tables.specs.Rules.{uses, copyRule}
+use Rattle.tables.specs.Rules.{uses, isCurrent, copyRule}
 use Rattle.tables.specs.Changes.{changed}
 use Rattle.tables.proofs.RuleLaws.{sound-of}
 use Rattle.tables.proofs.UsesLaws.{uses-at, uses-two}
@@ -21,11 +21,11 @@ use Rattle.steps.specs.declared.Kind.the-variants.{Read, Write}
 use Rattle.steps.specs.declared.Call.{Call}
 use Rattle.steps.specs.Kinds.{names, code, among}
 use Rattle.steps.specs.Calls.{nameOutside, badSpan}
-use Rattle.steps.specs.Stores.{part, splice, layCurrent}
+use Rattle.steps.specs.Stores.{part, splice, layEach}
 use Rattle.steps.specs.Steps.{currents, perform, decideOn}
 use Rattle.steps.specs.Effects.{laidIn, shownOf, State, joined}
-use Rattle.steps.proofs.Blocks.{write-other, write-own}
-use Rattle.steps.specs.Promises.{currentWithin}
+use Rattle.steps.proofs.Blocks.{each-other, each-own}
+use Rattle.steps.specs.Promises.{frameWithin}
 use Rattle.steps.proofs.DecideLaws.{page-near, span-within, currents-within}
 use Rattle.steps.proofs.StepLaws.{joined-long, page-stands}
 use Rattle.theorems.specs.Flat.{Flat, FlatPage, here, slotAt, reactAs}
@@ -46,7 +46,7 @@ module _ (s : State) (f : Flat) (i : Inv s f) where
   -- page p, which stands as b, written
   written : (p : ℕ) → p < 64 → absent (pageAt (s .tables) p) ≡ false → (b : FlatPage) → Alike (joined s) (pageAt (s .tables) p) b
       → (o : ℕ) (bs : List ℕ) → o + length bs ≤ 64
-      → Same (applied s p Staled (layCurrent (joined s) (inUse (pageAt (s .tables) p)) o bs))
+      → Same (applied s p Staled (layEach isCurrent (joined s) (inUse (pageAt (s .tables) p)) o bs))
       (set f p (here (record { owner = b .owner; rights = b .rights; bytes = splice (b .bytes) o bs })))
   unfolding changed
   written p near some b own o bs span =
@@ -56,11 +56,11 @@ module _ (s : State) (f : Flat) (i : Inv s f) where
           owners = own .owners;
           rights = own .rights;
           holds = rw (in-use-staled g) (holds-written limit (g .n) (joined s) _ (b .bytes) o bs (inUse g) rules (λ x l current.
-              write-own limit o bs span (inUse g) (joined s) long within x (omega (arith, once x l, uses-at x (s .tables .pages) p)) current)
+              each-own isCurrent limit o bs span (inUse g) (joined s) long within x (omega (arith, once x l, uses-at x (s .tables .pages) p)) current)
               (own .holds));
         },
       )
-      (λ q d y l used. write-other limit o bs span (inUse g) (joined s) long within y
+      (λ q d y l used. each-other isCurrent limit o bs span (inUse g) (joined s) long within y
       (omega (arith, once y l, uses-two y (s .tables .pages) p q (λ e. d (sym e)))))
     where
       g : Page
@@ -75,7 +75,7 @@ module _ (s : State) (f : Flat) (i : Inv s f) where
       rules : all (copyRule limit (g .n)) (inUse g) ≡ true
       rules = page-stands (i .good) p near some .copies-ok
 
-      within : all (currentWithin limit) (inUse g) ≡ true
+      within : all (frameWithin isCurrent limit) (inUse g) ≡ true
       within = currents-within (page-stands (i .good) p near some)
 
       once : (x : ℕ) → x < limit → uses x (s .tables .pages) ≤ 1

@@ -19,7 +19,7 @@ use Rattle.tables.proofs.ChangeLaws.{without}
 use Rattle.steps.specs.Stores.{splice, block, held, zeros}
 use Rattle.steps.specs.Steps.{firstCurrent}
 use Rattle.theorems.specs.Demand3.{Holds}
-use Rattle.steps.proofs.Blocks.{currentOn}
+use Rattle.steps.proofs.Blocks.{oneOn}
 
 -- what `Holds` says of one copy
 abbrev pub HoldsOne : List ℕ → Copy → List ℕ → Type 0
@@ -70,17 +70,17 @@ module _ (limit n : ℕ) (st st′ bs : List ℕ) where
 
   -- where the CURRENT copies' frames took the bytes b
   pub holds-written : (o : ℕ) (b : List ℕ) (cs : List Copy) → all (copyRule limit n) cs ≡ true
-      → ((x : ℕ) → x < limit → 1 ≤ count (currentOn x) cs → block st′ x ≡ splice (block st x) o b)
+      → ((x : ℕ) → x < limit → 1 ≤ count (oneOn isCurrent x) cs → block st′ x ≡ splice (block st x) o b)
       → Holds st cs bs → Holds st′ (map staleCopy cs) (splice bs o b)
   holds-written o b [] rules laid e = tt
   holds-written o b (c ∷ cs) rules laid e = (
     λ r.
         let current = and-right (c .recent) (c .current) r in
         let framed = current-placed facts current in
-        let hit = count-hit (currentOn (c .frame)) c cs (and-intro current (eq-eqb (c .frame) (c .frame) refl)) in
+        let hit = count-hit (oneOn isCurrent (c .frame)) c cs (and-intro current (eq-eqb (c .frame) (c .frame) refl)) in
         held-framed st′ c framed ∙ laid (c .frame) (current-frame facts current) (omega arith)
         ∙ ap (λ (l : List ℕ). splice l o b) (sym (held-framed st c framed) ∙ e .0 (facts .marks current)),
-    holds-written o b cs (all-rest (copyRule limit n) c cs rules) (λ x l k. laid x l (omega (arith, count-rest (currentOn x) c cs))) (e .1),
+    holds-written o b cs (all-rest (copyRule limit n) c cs rules) (λ x l k. laid x l (omega (arith, count-rest (oneOn isCurrent x) c cs))) (e .1),
   )
     where
       facts : GoodCopy limit n c

@@ -9,7 +9,7 @@ use Rattle.tables.specs.Rules.{uses, standingRule, absentRule, pageRule, alone,
 use Rattle.tables.specs.Search.{inCopies, inPages}
 use Rattle.tables.specs.Register.{rightRegister, vacated, occupied}
 use Rattle.tables.specs.Changes.{created, closeGap, changed, after}
-use Rattle.steps.specs.Stores.{part, splice, fits, layCurrent}
+use Rattle.steps.specs.Stores.{part, splice, fits, layEach}
 use Rattle.steps.specs.Kinds.{names, kinds, code, among, leastLength, mostLength, argument, callOf}
 use Rattle.steps.specs.Steps.{Outcome, firstCurrent, perform, decideOn}
 use Rattle.steps.specs.Effects.{entries, laidIn, shownOf, State, Result, step}
@@ -42,12 +42,12 @@ file₁ =
 
 -- the run with the least reply buffer; to open it is to open all that it computes by
 unfoldable pub runOn : State → List ℕ → Run
-unfolding messagesOf split turnsOf endOf answer parse names kinds code among argument callOf step decideOn laidIn shownOf sound alone allBelow all count uses pageRule standingRule absentRule fits freshTables freshPage after changed created closeGap inPages inCopies rightRegister vacated occupied perform firstCurrent entries layCurrent splice part reply
+unfolding messagesOf split turnsOf endOf answer parse names kinds code among argument callOf step decideOn laidIn shownOf sound alone allBelow all count uses pageRule standingRule absentRule fits freshTables freshPage after changed created closeGap inPages inCopies rightRegister vacated occupied perform firstCurrent entries layEach splice part reply
 runOn s file = run 70 file s
 
 -- one turn of it
 unfoldable pub rightTurn : State → Sent → Outcome Result
-unfolding answer parse names kinds code among argument callOf step decideOn laidIn shownOf sound alone allBelow all count uses pageRule standingRule absentRule fits freshTables freshPage after changed created closeGap inPages inCopies rightRegister vacated occupied perform firstCurrent entries layCurrent splice part reply
+unfolding answer parse names kinds code among argument callOf step decideOn laidIn shownOf sound alone allBelow all count uses pageRule standingRule absentRule fits freshTables freshPage after changed created closeGap inPages inCopies rightRegister vacated occupied perform firstCurrent entries layEach splice part reply
 rightTurn s x = answer 70 s x
 
 abbrev pub repliesOf : State → List ℕ → List (List ℕ)

@@ -26,8 +26,8 @@ returns-2 c =
     let r = c .before .before in
     rw (ne-eqb _ 0 (r .before .if1 .left), ← r .right-of .ensures, lt-leb 2 _ (c .before .if2 .taken)) (c .refused2 .ensures)
 
-current-count-requires : tie.Need-current-count-requires
-current-count-requires c κs = search needs
+count-of-requires : tie.Need-count-of-requires
+count-of-requires c κs = search needs
 
 refused-requires-3 : tie.Need-refused-requires-3
 refused-requires-3 c κs = search needs
@@ -41,15 +41,15 @@ returns-3 c =
       ne-eqb _ 0 (r .before .if1 .left),
       ← r .right-of .ensures,
       le-leb 2 _ (k .before .if2 .left),
-      ← k .current-count .ensures .0,
+      ← k .count-of .ensures .0,
       eq-eqb _ 0 (c .before .if3 .taken),
     ) (c .refused3 .ensures)
 
 mul-laid : tie.Need-mul-laid
-mul-laid c = omega (arith, mul-le-mul (c .before .before .before .before .before .before .before .pre) (c .before .current-count .ensures .1))
+mul-laid c = omega (arith, mul-le-mul (c .before .before .before .before .before .before .before .pre) (c .before .count-of .ensures .1))
 
 cast-accepted : tie.Need-cast-accepted
-cast-accepted c = omega (arith, mul-le-mul (c .before .before .before .before .before .before .before .pre) (c .before .current-count .ensures .1))
+cast-accepted c = omega (arith, mul-le-mul (c .before .before .before .before .before .before .before .pre) (c .before .count-of .ensures .1))
 
 accepted-requires : tie.Need-accepted-requires
 accepted-requires c κs = search needs
@@ -63,7 +63,7 @@ returns-4 c =
       ne-eqb _ 0 (r .before .if1 .left),
       ← r .right-of .ensures,
       le-leb 2 _ (k .before .if2 .left),
-      ← k .current-count .ensures .0,
+      ← k .count-of .ensures .0,
       ne-eqb _ 0 (c .before .if3 .left),
     ) (c .accepted .ensures)
 
@@ -76,7 +76,7 @@ write-page-spec =
     right-of-requires
     refused-requires-2
     returns-2
-    current-count-requires
+    count-of-requires
     refused-requires-3
     returns-3
     mul-laid

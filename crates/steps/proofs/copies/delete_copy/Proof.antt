@@ -18,8 +18,8 @@ returns c = λ size. numbered-refused (c .before .before .unnumbered .ensures) _
 copy-at-requires : tie.Need-copy-at-requires
 copy-at-requires c κs = search needs
 
-recent-count-requires : tie.Need-recent-count-requires
-recent-count-requires c κs = search needs
+count-of-requires : tie.Need-count-of-requires
+count-of-requires c κs = search needs
 
 refused-requires-2 : tie.Need-refused-requires-2
 refused-requires-2 c κs = search needs
@@ -29,7 +29,7 @@ unfolding perform
 returns-2 c = λ size.
     let n = c .before .before .before in
     numbered-on (n .before .before .before .unnumbered .ensures) _ (n .before .before .if1 .left)
-    (rw (← n .before .copy-at .ensures, ← n .recent-count .ensures, c .before .if2 .taken) (c .refused2 .ensures))
+    (rw (← n .before .copy-at .ensures, ← n .count-of .ensures .0, c .before .if2 .taken) (c .refused2 .ensures))
 
 accepted-requires : tie.Need-accepted-requires
 accepted-requires c κs = search needs
@@ -39,7 +39,7 @@ unfolding perform
 returns-3 c = λ size.
     let n = c .before .before .before in
     numbered-on (n .before .before .before .unnumbered .ensures) _ (n .before .before .if1 .left)
-    (rw (← n .before .copy-at .ensures, ← n .recent-count .ensures, c .before .if2 .left) (c .accepted .ensures))
+    (rw (← n .before .copy-at .ensures, ← n .count-of .ensures .0, c .before .if2 .left) (c .accepted .ensures))
 
 pub delete-copy-spec : {M : Type 1} → statement M
 delete-copy-spec =
@@ -49,7 +49,7 @@ delete-copy-spec =
     refused-requires
     returns
     copy-at-requires
-    recent-count-requires
+    count-of-requires
     refused-requires-2
     returns-2
     accepted-requires

@@ -1,17 +1,18 @@
--- `lay_copy`: where the copy is CURRENT, what `lay_frame` ensures; else nothing is laid.
-use mathlib.Core.Path.{_∙_}
-use Rattle.steps.specs.Stores.{layCurrent}
+-- `lay_copy`: where the copy is one of these, what `lay_frame` ensures; else nothing is laid.
+use mathlib.Core.Path.{sym, _∙_}
+use Rattle.steps.specs.Stores.{layEach}
 use borrow.Author.Needs.{needs}
 use Rattle.steps.proofs.stores.lay_copy.Statement.{statement}
 use Rattle.steps.proofs.stores.lay_copy.Tie as tie
+
+is-chosen-requires : tie.Need-is-chosen-requires
+is-chosen-requires c κs = search needs
 
 cast-f : tie.Need-cast-f
 cast-f c = search needs
 
 lay-frame-requires : tie.Need-lay-frame-requires
-lay-frame-requires c κs =
-    let v = c .before .before .before in
-    (v .before .before .before .before .pre .0 (v .if1 .taken), v .before .before .before .before .pre .1)
+lay-frame-requires c κs = (c .before .before .before .before .before .before .before .before .pre .0 (sym (c .before .before .before .before .is-chosen .ensures) ∙ c .before .before .before .if1 .taken), c .before .before .before .before .before .before .before .before .pre .1)
 
 same-length : tie.Need-same-length
 same-length c = search needs
@@ -20,13 +21,21 @@ same-length-2 : tie.Need-same-length-2
 same-length-2 c = search needs
 
 returns : tie.Need-returns
-unfolding layCurrent
-returns c = c .before .before .before .before .lay-frame .ensures ∙ simp (c .before .before .before .before .before .before .before .before .if1 .taken)
+unfolding layEach
+returns c = c .before .before .before .before .lay-frame .ensures ∙ simp (sym (c .before .before .before .before .before .before .before .before .before .is-chosen .ensures) ∙ c .before .before .before .before .before .before .before .before .if1 .taken)
 
 returns-2 : tie.Need-returns-2
-unfolding layCurrent
-returns-2 c = simp (c .if1 .left)
+unfolding layEach
+returns-2 c = simp (sym (c .before .is-chosen .ensures) ∙ c .if1 .left)
 
 pub lay-copy-spec : {M : Type 1} → statement M
 lay-copy-spec =
-    tie.close (tie.spec cast-f lay-frame-requires same-length same-length-2 returns returns-2)
+    tie.close
+    (tie.spec
+    is-chosen-requires
+    cast-f
+    lay-frame-requires
+    same-length
+    same-length-2
+    returns
+    returns-2)

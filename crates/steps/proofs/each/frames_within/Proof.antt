@@ -1,4 +1,4 @@
--- `current_within`. The answer is that of the copies from j on.
+-- `frames_within`. The answer is that of the copies from j on.
 use Prim.Native.Nat.{_-_, _≤_}
 use mathlib.Core.Path.{_≡_, refl, sym, _∙_}
 use native.Mathlib.Omega.{arith}
@@ -6,18 +6,19 @@ use lib.ListN.{length, drop}
 use Rattle.tables.specs.Lists.{all}
 use Rattle.tables.specs.Model.{inUse}
 use Rattle.tables.proofs.Loops.{drop-end, use-more}
-use Rattle.steps.specs.Promises.{currentWithin}
+use Rattle.steps.specs.Promises.{frameWithin}
+use Rattle.steps.specs.Private.{chosen}
 use borrow.Author.Needs.{needs}
-use Rattle.steps.proofs.effects.current_within.Statement.{statement}
-use Rattle.steps.proofs.effects.current_within.Tie as tie
+use Rattle.steps.proofs.each.frames_within.Statement.{statement}
+use Rattle.steps.proofs.each.frames_within.Tie as tie
 
 abbrev Inv-loop : tie.InvT-loop
-Inv-loop limit page n j₀ j =
+Inv-loop which limit page n j₀ j =
     (n ≡ length (inUse page)) × (n ≤ 8) × (j ≤ n)
-    × (all (currentWithin limit) (inUse page) ≡ all (currentWithin limit) (drop j (inUse page)))
+    × (all (frameWithin (chosen which) limit) (inUse page) ≡ all (frameWithin (chosen which) limit) (drop j (inUse page)))
 
 abbrev μ-loop : tie.MeasureT-loop
-μ-loop limit page n j₀ j = n - j
+μ-loop which limit page n j₀ j = n - j
 
 in-use-requires : tie.Need-in-use-requires Inv-loop μ-loop
 in-use-requires c κs = search needs
@@ -31,6 +32,9 @@ mul-c c = search needs
 element-copy-out-c : tie.Need-element-copy-out-c Inv-loop μ-loop
 element-copy-out-c c = search needs
 
+is-chosen-requires : tie.Need-is-chosen-requires Inv-loop μ-loop
+is-chosen-requires c κs = search needs
+
 cast-if1 : tie.Need-cast-if1 Inv-loop μ-loop
 cast-if1 c = search needs
 
@@ -39,7 +43,7 @@ unfolding all
 returns c =
     let v = c .before .before .before .before .before .loop in
     let g = c .before .before .before .before .before .before .before .args .t1 in
-    sym (v .inv .3 ∙ rw (use-more g (v .j) (omega arith), c .if1 .taken))
+    sym (v .inv .3 ∙ rw (use-more g (v .j) (omega arith), rw (c .before .before .is-chosen .ensures) at (c .if1 .taken)))
 
 add-j : tie.Need-add-j Inv-loop μ-loop
 add-j c = search needs
@@ -52,7 +56,7 @@ unfolding all
 loop-again c =
     let v = c .before .before .before .before .before .loop in
     let g = c .before .before .before .before .before .before .before .args .t1 in
-    (v .inv .0, v .inv .1, search needs, v .inv .3 ∙ rw (use-more g (v .j) (omega arith), c .if1 .left))
+    (v .inv .0, v .inv .1, search needs, v .inv .3 ∙ rw (use-more g (v .j) (omega arith), rw (c .before .before .is-chosen .ensures) at (c .if1 .left)))
 
 returns-2 : tie.Need-returns-2 Inv-loop μ-loop
 unfolding all
@@ -61,8 +65,8 @@ returns-2 c =
     let g = c .before .before .before .args .t1 in
     sym (v .inv .3 ∙ rw (drop-end (inUse g) (v .j) (omega arith)))
 
-pub current-within-spec : {M : Type 1} → statement M
-current-within-spec =
+pub frames-within-spec : {M : Type 1} → statement M
+frames-within-spec =
     tie.close
     (tie.spec
     Inv-loop
@@ -71,6 +75,7 @@ current-within-spec =
     loop-holds
     mul-c
     element-copy-out-c
+    is-chosen-requires
     cast-if1
     returns
     add-j

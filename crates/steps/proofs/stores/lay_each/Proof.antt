@@ -1,27 +1,28 @@
--- `lay_current`. The invariant: what is still to be laid gives the whole.
+-- `lay_each`. The invariant: what is still to be laid gives the whole.
 use Prim.Native.Nat.{_-_, _≤_}
 use mathlib.Core.Path.{_≡_, refl, _∙_}
 use mathlib.Core.List.{_++_}
 use native.Mathlib.Omega.{arith}
 use lib.ListN.{length, drop}
 use Rattle.tables.specs.Model.{inUse}
-use Rattle.steps.specs.Stores.{layCurrent}
+use Rattle.steps.specs.Stores.{layEach}
+use Rattle.steps.specs.Private.{chosen}
 use Rattle.steps.proofs.CopyLaws.{lay-turn, lay-ended}
 use borrow.Author.Needs.{needs}
-use Rattle.steps.proofs.stores.lay_current.Statement.{statement}
-use Rattle.steps.proofs.stores.lay_current.Tie as tie
+use Rattle.steps.proofs.stores.lay_each.Statement.{statement}
+use Rattle.steps.proofs.stores.lay_each.Tie as tie
 
 abbrev Inv-loop : tie.InvT-loop
-Inv-loop fast₀ slow₀ p offset src page n j₀ fast slow j =
+Inv-loop fast₀ slow₀ p which offset src page n j₀ fast slow j =
     (n ≡ length (inUse page))
     × (n ≤ 8)
     × (j ≤ n)
     × (length fast ≡ length fast₀)
     × (length slow ≡ length slow₀)
-    × (layCurrent (fast ++ slow) (drop j (inUse page)) offset src ≡ layCurrent (fast₀ ++ slow₀) (inUse page) offset src)
+    × (layEach (chosen which) (fast ++ slow) (drop j (inUse page)) offset src ≡ layEach (chosen which) (fast₀ ++ slow₀) (inUse page) offset src)
 
 abbrev μ-loop : tie.MeasureT-loop
-μ-loop fast₀ slow₀ p offset src page n j₀ fast slow j = n - j
+μ-loop fast₀ slow₀ p which offset src page n j₀ fast slow j = n - j
 
 in-use-requires : tie.Need-in-use-requires Inv-loop μ-loop
 in-use-requires c κs = search needs
@@ -57,7 +58,7 @@ loop-again c =
       omega arith,
       w .kept .0 ∙ v .inv .3,
       w .kept .1 .0 ∙ v .inv .4,
-      lay-turn (a .t4) (v .j) (a .offset) (a .src .now) (v .fast ++ v .slow) (w .last .0 ++ w .last .1 .0) _ (omega arith) (w .ensures) (v .inv .5),
+      lay-turn (a .t4) (v .j) (chosen (a .which)) (a .offset) (a .src .now) (v .fast ++ v .slow) (w .last .0 ++ w .last .1 .0) _ (omega arith) (w .ensures) (v .inv .5),
     )
 
 same-length : tie.Need-same-length Inv-loop μ-loop
@@ -70,10 +71,10 @@ returns : tie.Need-returns Inv-loop μ-loop
 returns c =
     let v = c .before .loop in
     let a = c .before .before .before .before .before .before .args in
-    lay-ended (a .t4) (v .j) (a .offset) (a .src .now) (v .fast ++ v .slow) _ (omega arith) (v .inv .5)
+    lay-ended (a .t4) (v .j) (chosen (a .which)) (a .offset) (a .src .now) (v .fast ++ v .slow) _ (omega arith) (v .inv .5)
 
-pub lay-current-spec : {M : Type 1} → statement M
-lay-current-spec =
+pub lay-each-spec : {M : Type 1} → statement M
+lay-each-spec =
     tie.close
     (tie.spec
     Inv-loop
