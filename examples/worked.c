@@ -1,6 +1,6 @@
 /*
- * The worked example of document 01 through every function of reel.h, each reply compared, and what the functions answer where
- * something is wrong. After `bash tools/build`:
+ * The worked example of document 01 through every function of reel.h, each reply compared, what deletes leave in the stores, and
+ * what the functions answer where something is wrong. After `bash tools/build`:
  *
  *   gcc -std=c99 -I target/reel examples/worked.c target/reel/libreel.a -o target/worked && target/worked
  */
@@ -177,6 +177,53 @@ static void in_place(void) {
   printf("in place: the rules hold, page 5 is read in the fast store and in the slow one\n");
 }
 
+/* Whether a frame holds zeros alone. */
+static int zeros(const uint8_t *frame) {
+  size_t i;
+  for (i = 0; i < REEL_FRAME_SIZE; i++)
+    if (frame[i] != 0) return 0;
+  return 1;
+}
+
+/* What is deleted is gone from the stores: each frame that becomes free is filled with zeros, and 64 bytes are laid for it. */
+static void deleted(void) {
+  static const uint8_t make_copy[] = {0, 5, 1, REEL_KIND_MAKE_COPY, 5, 0, 5}; /* page 5, copy 0, to frame 5 */
+  static const uint8_t delete_copy[] = {0, 4, 1, REEL_KIND_DELETE_COPY, 5, 0};
+  static const uint8_t by_another[] = {0, 4, 1, REEL_KIND_DELETE_PAGE, 4, 5}; /* station 4 is not the owner */
+  static const uint8_t by_owner[] = {0, 4, 1, REEL_KIND_DELETE_PAGE, 3, 5};
+  static const uint8_t create[] = {0, 4, 1, REEL_KIND_CREATE, 3, 5};
+  struct unit u = fresh_unit(REEL_REPLY_SIZE);
+  const uint8_t *frame0 = u.fast, *frame5 = u.slow + REEL_FRAME_SIZE * (5 - P);
+  uint32_t given;
+  run(u, calls, sizeof calls);
+
+  expect(answer(u, delete_copy, sizeof delete_copy) == REEL_LAST_RECENT + 256 * REEL_REPLY_HEAD, "the only copy is not deleted");
+  expect(frame0[0] == 0x41 && frame0[1] == 0x37, "a refused delete leaves its bytes");
+
+  expect(reel_answer_number(answer(u, make_copy, sizeof make_copy)) == REEL_ACCEPTED, "a copy on frame 5");
+  given = answer(u, delete_copy, sizeof delete_copy);
+  expect(reel_answer_number(given) == REEL_ACCEPTED && reel_answer_laid(given) == REEL_FRAME_SIZE, "delete copy: 64 laid");
+  expect(u.out[4] == 0 && u.out[5] == REEL_FRAME_SIZE, "delete copy: 64 in the reply");
+  expect(zeros(frame0), "delete copy: zeros on frame 0");
+  expect(frame5[0] == 0x41 && frame5[1] == 0x37, "delete copy: the other copy keeps its bytes");
+
+  expect(reel_answer_number(answer(u, by_another, sizeof by_another)) == REEL_NO_RIGHT, "delete page: the owner alone");
+  expect(frame5[0] == 0x41, "a refused delete leaves its bytes");
+  given = answer(u, by_owner, sizeof by_owner);
+  expect(reel_answer_number(given) == REEL_ACCEPTED && reel_answer_laid(given) == REEL_FRAME_SIZE, "delete page: 64 laid");
+  expect(zeros(frame5), "delete page: zeros on frame 5");
+
+  /* Frames that no copy ever had hold what the caller lent; a page without a frame has nothing to clear. */
+  expect(untouched(u.fast + REEL_FRAME_SIZE, REEL_FRAME_SIZE * (P - 1)), "frames 1 to 3");
+  expect(untouched(u.slow, REEL_FRAME_SIZE), "frame 4");
+  expect(untouched(u.slow + 2 * REEL_FRAME_SIZE, REEL_FRAME_SIZE * (S - 2)), "frames 6 and 7");
+  expect(reel_answer_number(answer(u, create, sizeof create)) == REEL_ACCEPTED, "page 5 anew");
+  expect(reel_answer_laid(answer(u, by_owner, sizeof by_owner)) == 0, "delete page: nothing laid for a null copy");
+  expect(untouched(u.fast + REEL_FRAME_SIZE, REEL_FRAME_SIZE * (P - 1)), "frames 1 to 3 again");
+  give_up(u);
+  printf("deletes: zeros on each frame that they free, and 64 bytes laid for it\n");
+}
+
 /* What is wrong is answered by its number; tables and stores remain as they were. */
 static void refused(void) {
   static const uint8_t look[] = {0, 3, 1, REEL_KIND_LOOK_PAGE, 5};
@@ -261,6 +308,7 @@ int main(void) {
   by_run();
   by_replies();
   in_place();
+  deleted();
   refused();
   wrong_register();
   return 0;

@@ -37,7 +37,7 @@ extern "C" {
 /* ---- the version: major, minor and patch */
 
 #define REEL_VERSION_MAJOR 2
-#define REEL_VERSION_MINOR 0
+#define REEL_VERSION_MINOR 1
 #define REEL_VERSION_PATCH 0
 #define REEL_VERSION (65536 * REEL_VERSION_MAJOR + 256 * REEL_VERSION_MINOR + REEL_VERSION_PATCH)
 
@@ -179,7 +179,8 @@ uint8_t reel_rules(const uint8_t *tables, size_t tables_len, size_t fast_len, si
 /*
  * Answers one message, its two bytes of length first, and lays the reply at the head of out. Bytes after the message are not
  * looked at; none at all count as cut short. The table rules are tested at each call. A refusal leaves tables and stores as
- * they were. The answer is number + 256 * length of the reply + 65536 * bytes laid; functions below take it apart.
+ * they were; a delete fills each frame that it frees with zeros. The answer is number + 256 * length of the reply + 65536 * bytes
+ * laid; functions below take it apart.
  */
 uint32_t reel_answer(uint8_t *tables, size_t tables_len, uint8_t *fast, size_t fast_len, uint8_t *slow, size_t slow_len,
                      const uint8_t *message, size_t message_len, uint8_t *out, size_t out_len);
@@ -217,7 +218,10 @@ static inline unsigned reel_answer_number(uint32_t answer) { return answer & 255
 /* The length of the reply in out; 0 with REEL_SHORT_SLIP. */
 static inline size_t reel_answer_length(uint32_t answer) { return answer >> 8 & 255; }
 
-/* The bytes laid into the stores. */
+/*
+ * The bytes laid into the stores: by a write its length for each CURRENT copy, by make copy REEL_FRAME_SIZE, by delete copy and
+ * delete page REEL_FRAME_SIZE for each frame freed, also where it held zeros already; a null copy has no frame. By all others 0.
+ */
 static inline unsigned reel_answer_laid(uint32_t answer) { return answer >> 16; }
 
 /* ---- a place of reel_read, taken apart */

@@ -1,5 +1,5 @@
 //! Call files, made up beside a peer that keeps the tables: a shift of placement moves with reads,
-//! writes, looks and some refusals, and a steady round of calls on tables of a given size.
+//! writes, looks and some refusals, a steady round of calls on tables of a given size, and deletes.
 
 use crate::peer::{Peer, Tables, NULL_FRAME};
 
@@ -273,6 +273,57 @@ impl Calls {
                 self.send(&[1, 6, page, 0, frame]);
                 self.send(&[1, 8, page, k]);
             }
+        }
+    }
+
+    /// Of one of so many pages a copy is made and one deleted, any of them; so many times.
+    pub fn copies_in_turn(&mut self, pages: usize, times: usize) {
+        for _ in 0..times {
+            let page = self.random.below(pages) as u8;
+            let frame = self.free_frame().expect("a free frame");
+            self.send(&[1, 6, page, 0, frame]);
+            self.delete_copy(page);
+        }
+    }
+
+    /// A page is created, copied until it has so many copies, and deleted; so many times.
+    pub fn pages_in_turn(&mut self, page: u8, copies: u8, times: usize) {
+        for _ in 0..times {
+            let station = self.random.below(16) as u8;
+            self.send(&[1, 1, station, page]);
+            for _ in 0..copies {
+                let frame = self.free_frame().expect("a free frame");
+                self.send(&[1, 6, page, 0, frame]);
+            }
+            self.send(&[1, 2, station, page]);
+        }
+    }
+
+    /// Deletes any copy of a page.
+    fn delete_copy(&mut self, page: u8) {
+        let n = self.tables().pages[usize::from(page)].n;
+        let copy = self.random.below(n.into()) as u8;
+        self.send(&[1, 7, page, copy]);
+    }
+
+    /// The owner of page 0 grants station 15 to read it.
+    pub fn grant_to_read(&mut self) {
+        let owner = self.tables().pages[0].owner;
+        self.send(&[1, 3, owner, 0, 15, 1]);
+    }
+
+    /// Deletes copies of so many pages, of each in turn, until each has one left.
+    pub fn delete_copies(&mut self, pages: u8) {
+        while self.tables().pages[0].n > 1 {
+            (0..pages).for_each(|page| self.delete_copy(page));
+        }
+    }
+
+    /// Deletes so many pages, each by its owner.
+    pub fn delete_pages(&mut self, pages: u8) {
+        for page in 0..pages {
+            let owner = self.tables().pages[usize::from(page)].owner;
+            self.send(&[1, 2, owner, page]);
         }
     }
 

@@ -3,8 +3,10 @@
 //! `bench` prints every figure. `bench WORK SIDE`, with SIDE kernel, unchecked, registered or checked,
 //! does that work once on that side, for a count of instructions, and `bench WORK count` prints how
 //! many messages, tests or calls it has. WORK is run, answer or sound, or frames1, frames8 or
-//! frames64, looks at frames on so many pages; on the kernel's side alone kept or parts, a run with
-//! its replies, and refused, look, grant or empty, the C call by itself.
+//! frames64, looks at frames on so many pages, or copies, pages, copydeletes or pagedeletes, the
+//! deletes; on the kernel's side alone kept or parts, a run with its replies, and refused, look,
+//! grant or empty, the C call by itself. no-copydeletes and no-pagedeletes are the same files without
+//! the deletes, to be taken off.
 
 mod timing;
 
@@ -20,6 +22,8 @@ const TESTS: u32 = 5_000;
 const CALLS: usize = 1_000;
 /// A reply buffer that is emptied between the parts of a run.
 const PART: usize = 4096;
+/// On so many pages there are deletes; with eight copies each they hold 248 of the 254 frames.
+const DELETED_PAGES: u8 = 31;
 
 /// Who answers a call file, and how.
 #[derive(Clone, Copy)]
@@ -45,6 +49,9 @@ struct Work {
     start: Peer<true>,
     file: Vec<u8>,
     counts: Counts,
+    /// Where the work is told apart from the rest of its file: the bytes and the messages that stand
+    /// before it. Else none.
+    before: (usize, usize),
 }
 
 impl Work {
@@ -53,6 +60,7 @@ impl Work {
             start,
             file: calls.file,
             counts: calls.counts,
+            before: (0, 0),
         }
     }
 
@@ -91,6 +99,59 @@ impl Work {
         let start = calls.peer.clone();
         calls.frames(20_000);
         Work::of(start, calls)
+    }
+
+    /// Deletes on pages with so many copies each, in the file that is made there.
+    fn deletes(copies: u8, make: impl Fn(&mut Calls)) -> Work {
+        let mut calls = Calls::new(FAST, SLOW);
+        calls.spread(DELETED_PAGES, copies);
+        calls.begin();
+        let start = calls.peer.clone();
+        make(&mut calls);
+        assert_eq!(calls.counts.refused, 0, "deletes refused");
+        Work::of(start, calls)
+    }
+
+    /// A copy made and one deleted in turn, on pages with seven copies.
+    fn copies_in_turn() -> Work {
+        Work::deletes(7, |calls| {
+            calls.copies_in_turn(DELETED_PAGES.into(), 10_000);
+        })
+    }
+
+    /// A page created, copied to eight frames and deleted in turn, beside pages with seven copies.
+    fn pages_in_turn() -> Work {
+        Work::deletes(7, |calls| calls.pages_in_turn(63, 8, 2_000))
+    }
+
+    /// Deletes alone, behind a grant: pages with eight copies come down to one each.
+    fn copy_deletes() -> Work {
+        Work::deletes_alone(|calls| calls.delete_copies(DELETED_PAGES))
+    }
+
+    /// Deletes alone, behind a grant: of pages with eight copies each.
+    fn page_deletes() -> Work {
+        Work::deletes_alone(|calls| calls.delete_pages(DELETED_PAGES))
+    }
+
+    /// The grant changes the tables, so that a run without the deletes also puts them back.
+    fn deletes_alone(make: impl Fn(&mut Calls)) -> Work {
+        let work = Work::deletes(8, |calls| {
+            calls.grant_to_read();
+            make(calls);
+        });
+        let before = (2 + usize::from(work.file[1]), 1);
+        Work { before, ..work }
+    }
+
+    /// The file without the work that is told apart.
+    fn rest(&self) -> &[u8] {
+        &self.file[..self.before.0]
+    }
+
+    /// How many messages the work has.
+    fn count(&self) -> usize {
+        self.counts.messages - self.before.1
     }
 
     /// The kernel with a reply buffer of this length.
@@ -163,8 +224,28 @@ impl Work {
         }
     }
 
-    /// The times of each side, round by round.
+    /// The times of each side, round by round, for each message.
     fn times<const N: usize>(&self, rounds: usize, sides: [Side; N]) -> [Vec<f64>; N] {
+        self.times_of(rounds, &self.file, self.counts.messages, sides)
+    }
+
+    /// What the work adds to the rest of its file, for each message: by the best times of the file
+    /// with it and without.
+    fn added<const N: usize>(&self, rounds: usize, sides: [Side; N]) -> [f64; N] {
+        let with = self.times_of(rounds, &self.file, 1, sides);
+        let without = self.times_of(rounds, self.rest(), 1, sides);
+        let added = |i: usize| best(&with[i]) - best(&without[i]);
+        std::array::from_fn(|i| added(i) / self.count() as f64)
+    }
+
+    /// The times of each side for a file from the work's start, round by round, by `count`.
+    fn times_of<const N: usize>(
+        &self,
+        rounds: usize,
+        file: &[u8],
+        count: usize,
+        sides: [Side; N],
+    ) -> [Vec<f64>; N] {
         let mut on = self.sides();
         let bytes = self.start.tables.bytes();
         let mut times = [const { vec![] }; N];
@@ -175,7 +256,7 @@ impl Work {
                 }
                 on.searching.tables = self.start.tables.searching();
                 on.registered.tables.clone_from(&self.start.tables);
-                times.push(time(self.counts.messages, || on.answer(*side, &self.file)));
+                times.push(time(count, || on.answer(*side, file)));
             }
         }
         times
@@ -360,6 +441,7 @@ fn report() {
     }
     by_size();
     by_pages();
+    deletes();
 }
 
 /// The times of the test of the rules, by the kernel and by Rust.
@@ -416,12 +498,59 @@ fn by_pages() {
     }
 }
 
+/// (e) Deletes: within files that also make what is deleted, and by themselves.
+fn deletes() {
+    println!("\n| (e) | run | Rust that searches | ratio | Rust with the register | ratio |");
+    println!("|---|---|---|---|---|---|");
+    let sides = [Side::Run, Side::Unchecked, Side::Registered];
+    let row = |what: &str, [run, unchecked, registered]: [f64; 3]| {
+        println!(
+            "| {what} | {run:.1} | {unchecked:.1} | {:.2} | {registered:.1} | {:.2} |",
+            run / unchecked,
+            run / registered
+        );
+    };
+    let in_turn = [
+        (
+            "a copy made and one deleted in turn, a message",
+            Work::copies_in_turn(),
+        ),
+        (
+            "a page created, copied to eight frames and deleted in turn, a message",
+            Work::pages_in_turn(),
+        ),
+    ];
+    for (what, work) in in_turn {
+        work.check();
+        row(what, work.times(150, sides).map(|times| best(&times)));
+    }
+    let alone = [
+        ("delete copy alone", Work::copy_deletes()),
+        (
+            "delete page of eight copies alone, 512 bytes laid",
+            Work::page_deletes(),
+        ),
+    ];
+    for (what, work) in alone {
+        work.check();
+        row(what, work.added(1_000, sides));
+    }
+}
+
 /// One piece of work, once.
 fn once(work: &str, side: &str) {
+    let (work, is_whole) = match work.strip_prefix("no-") {
+        Some(work) => (work, false),
+        None => (work, true),
+    };
     let pages = work.strip_prefix("frames").and_then(|n| n.parse().ok());
     let given = match (work, pages) {
         (_, Some(pages)) => Work::frames(pages),
         ("run" | "kept" | "parts", _) => Work::shift(),
+        ("copies", _) => Work::copies_in_turn(),
+        ("pages", _) => Work::pages_in_turn(),
+        ("copydeletes", _) => Work::copy_deletes(),
+        ("pagedeletes", _) => Work::page_deletes(),
         _ => Work::full(),
     };
     let mut sides = given.sides();
@@ -433,7 +562,7 @@ fn once(work: &str, side: &str) {
     }
     let side = match (work, side) {
         ("sound", "count") => return println!("{TESTS}"),
-        (_, "count") => return println!("{}", given.counts.messages),
+        (_, "count") => return println!("{}", given.count()),
         ("sound", "kernel") => return assert_eq!(timing::sound(&sides.last, TESTS), TESTS),
         ("sound", _) => return assert_eq!(sides.registered.sound_by_rust(TESTS), TESTS),
         ("kept", _) => Side::Kept,
@@ -444,7 +573,8 @@ fn once(work: &str, side: &str) {
         (_, "registered") => Side::Registered,
         _ => Side::Checked,
     };
-    sides.answer(side, &given.file);
+    let file = if is_whole { &given.file } else { given.rest() };
+    sides.answer(side, file);
 }
 
 fn main() {

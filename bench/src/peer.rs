@@ -251,10 +251,15 @@ fn station_step<const REGISTER: bool>(
         2 => {
             test(g.n != 0, 9)?;
             test(g.owner == station, 10)?;
+            let mut laid = 0;
             for c in std::mem::replace(g, ABSENT).used() {
-                t.enter(c.frame, NO_HOLDER);
+                if c.frame != NULL_FRAME {
+                    t.enter(c.frame, NO_HOLDER);
+                    frame_mut(p, fast, slow, c.frame).fill(0);
+                    laid += 64;
+                }
             }
-            Ok((0, 0))
+            Ok((laid, 0))
         }
         3 => {
             let (other, right) = (m[4], m[5]);
@@ -363,7 +368,9 @@ fn placement_step<const REGISTER: bool>(
         7 => {
             let recents = g.used().iter().filter(|c| c.recent).count();
             test(!g.copies[k].recent || recents != 1, 15)?;
+            // Not null: a null copy is the only MOST RECENT one.
             let freed = g.copies[k].frame;
+            frame_mut(p, fast, slow, freed).fill(0);
             g.copies.copy_within(k + 1..n, k);
             g.copies[n - 1] = FRESH;
             g.n -= 1;
@@ -371,15 +378,19 @@ fn placement_step<const REGISTER: bool>(
             for k in k..n - 1 {
                 t.enter(t.pages[page].copies[k].frame, registered(page, k));
             }
+            Ok((64, 0))
         }
         8 => {
             test(g.copies[k].frame != NULL_FRAME, 17)?;
             test(g.copies[k].recent, 16)?;
             g.copies[k].current = true;
+            Ok((0, 0))
         }
-        _ => g.copies[k].current = false,
+        _ => {
+            g.copies[k].current = false;
+            Ok((0, 0))
+        }
     }
-    Ok((0, 0))
 }
 
 impl<const REGISTER: bool> Peer<REGISTER> {

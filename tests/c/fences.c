@@ -2,7 +2,8 @@
  * Lends every buffer flush against memory that may be neither read nor written, before it or behind it, and what is const in
  * memory that may only be read. So the processor stops any access of the library outside what it is lent, which no
  * instrumentation of this file could see. The same file is served message by message, in one run and in parts, and all that
- * is left is compared. Messages and sizes follow from a seed.
+ * is left is compared. Of each delete it is tested what it leaves in the lent stores: zeros in the frames that it frees, by the
+ * register, and every other byte as it was. Messages and sizes follow from a seed.
  */
 #define _DEFAULT_SOURCE
 #include <reel.h>
@@ -12,7 +13,8 @@
 #include <string.h>
 #include <sys/mman.h>
 
-enum { PAGE = 4096, MESSAGES = 4000, FILE_MOST = MESSAGES * REEL_MESSAGE_SIZE, REPLIES_MOST = MESSAGES * REEL_REPLY_SIZE };
+enum { PAGE = 4096, FILLER = 0xA5, STORE_MOST = REEL_FRAME_SIZE * REEL_MOST_FRAMES };
+enum { MESSAGES = 4000, FILE_MOST = MESSAGES * REEL_MESSAGE_SIZE, REPLIES_MOST = MESSAGES * REEL_REPLY_SIZE };
 
 /* Readable memory between two fences. */
 struct block {
@@ -29,6 +31,7 @@ struct unit {
 static uint32_t seed = 7;
 static int behind;    /* whether the fence stands behind the buffers, or before them */
 static uint32_t frames; /* so many frames may be named */
+static unsigned freed;  /* so many frames were seen freed */
 
 static uint32_t any(uint32_t below) {
   seed = seed * 1664525u + 1013904223u;
@@ -82,15 +85,15 @@ static void make_fresh(struct unit *u, uint8_t p, uint8_t s) {
   u->fast_len = REEL_FRAME_SIZE * (size_t)p;
   u->slow_len = REEL_FRAME_SIZE * (size_t)s;
   expect(reel_fresh(p, s, part(u->tables, REEL_TABLES_SIZE), REEL_TABLES_SIZE) == REEL_ACCEPTED, "fresh tables");
-  memset(u->fast.start, 0, u->fast.room);
-  memset(u->slow.start, 0, u->slow.room);
+  memset(u->fast.start, FILLER, u->fast.room);
+  memset(u->slow.start, FILLER, u->slow.room);
   memset(u->tally.start, 0, u->tally.room);
 }
 
 /* A message, mostly one of the right form and with arguments that have a chance. */
 static size_t message(uint8_t *to) {
   static const uint8_t lengths[] = {4, 4, 6, 6, 6, 5, 4, 4, 4, 3, 3};
-  static const uint8_t kinds[] = {1, 1, 1, 1, 2, 3, 3, 4, 4, 4, 5, 5, 5, 5, 6, 6, 6, 6, 6, 7, 8, 8, 8, 8, 9, 10, 11};
+  static const uint8_t kinds[] = {1, 1, 1, 1, 2, 3, 3, 4, 4, 4, 5, 5, 5, 5, 6, 6, 6, 6, 6, 6, 6, 7, 7, 8, 8, 8, 8, 9, 10, 11};
   size_t kind = kinds[any(sizeof kinds)], length = lengths[kind - 1], i;
   if (kind == REEL_KIND_WRITE) length += any(64);
   if (any(50) == 0) length = any(70);
@@ -123,6 +126,47 @@ static void read_alike(struct unit u, struct block lent, const uint8_t *m, uint3
   }
 }
 
+/* Tables and stores as they were before a message. */
+struct state {
+  uint8_t tables[REEL_TABLES_SIZE], stores[2 * STORE_MOST];
+};
+
+/* The stores one behind the other, so that frame f is the f-th block. */
+static void joined(struct unit u, uint8_t *to) {
+  memcpy(to, part(u.fast, u.fast_len), u.fast_len);
+  memcpy(to + u.fast_len, part(u.slow, u.slow_len), u.slow_len);
+}
+
+static struct state state_of(struct unit u) {
+  struct state now;
+  memcpy(now.tables, part(u.tables, REEL_TABLES_SIZE), REEL_TABLES_SIZE);
+  joined(u, now.stores);
+  return now;
+}
+
+/* Whether a copy is on a frame, by the register. */
+static int is_held(const uint8_t *tables, size_t frame) {
+  const uint8_t *entry = tables + REEL_TABLES_REGISTER + REEL_ENTRY_SIZE * frame;
+  return 256u * entry[0] + entry[1] != REEL_NO_HOLDER;
+}
+
+/* After a delete each frame that it freed holds zeros, 64 bytes are laid for each, and no other byte is another. */
+static void cleared(struct unit u, struct state before, uint32_t answered) {
+  static uint8_t now[2 * STORE_MOST];
+  unsigned laid = 0;
+  size_t f;
+  for (f = 0; f < frames; f++)
+    if (is_held(before.tables, f) && !is_held(part(u.tables, REEL_TABLES_SIZE), f)) {
+      memset(before.stores + REEL_FRAME_SIZE * f, 0, REEL_FRAME_SIZE);
+      laid += REEL_FRAME_SIZE;
+      freed++;
+    }
+  joined(u, now);
+  expect(memcmp(now, before.stores, REEL_FRAME_SIZE * frames) == 0, "the stores after a delete");
+  expect(reel_answer_laid(answered) == laid, "the bytes laid by a delete");
+  expect(reel_answer_number(answered) == REEL_ACCEPTED || laid == 0, "a refused delete");
+}
+
 static void same(struct unit one, struct unit other) {
   expect(memcmp(part(one.tables, REEL_TABLES_SIZE), part(other.tables, REEL_TABLES_SIZE), REEL_TABLES_SIZE) == 0, "tables");
   expect(memcmp(part(one.fast, one.fast_len), part(other.fast, other.fast_len), one.fast_len) == 0, "the fast store");
@@ -142,7 +186,10 @@ static void serve(struct unit one, struct unit whole, struct unit parts, struct 
   make_fresh(&parts, p, s);
   for (i = 0; i < MESSAGES; i++) {
     size_t size = message(file + length);
+    uint8_t kind = file[length + 3];
+    struct state before = state_of(one);
     uint32_t answered = answer(one, sealed(lent, file + length, size), size);
+    if (size > 3 && (kind == REEL_KIND_DELETE_PAGE || kind == REEL_KIND_DELETE_COPY)) cleared(one, before, answered);
     memcpy(replies + said, part(one.out, REEL_REPLY_SIZE), reel_answer_length(answered));
     if (size == 8 && file[length + 2] == REEL_MESSAGE_VERSION && file[length + 3] == REEL_KIND_READ)
       read_alike(one, lent, file + length, answered);
@@ -200,6 +247,7 @@ int main(void) {
     for (i = 0; i < sizeof sizes / sizeof *sizes; i++) serve(one, whole, parts, lent, sizes[i][0], sizes[i][1]);
     for (i = 0; i < 20000; i++) senseless(one, lent);
   }
-  printf("%u messages three times, %u senseless calls\n", 12u * MESSAGES, 2u * 20000);
+  expect(freed > 1000, "deletes that free frames");
+  printf("%u messages three times, %u frames freed, %u senseless calls\n", 12u * MESSAGES, freed, 2u * 20000);
   return 0;
 }

@@ -2,7 +2,7 @@
 //! a unit that owns all it lends.
 
 /// The version of the library that this binding is for: 65536 * major + 256 * minor + patch.
-pub const VERSION: u32 = 2 * 65536;
+pub const VERSION: u32 = 2 * 65536 + 256;
 /// How many bytes the tables take. Nothing in Rust looks into them.
 pub const TABLES: usize = 3198;
 /// The bytes of a frame, and so of a page.
@@ -246,7 +246,7 @@ pub struct Unit {
 pub struct Answer<'a> {
     /// 0 accepted, else the number of the refusal.
     pub number: u8,
-    /// The bytes laid.
+    /// The bytes laid; by a delete 64 for each frame freed, which is filled with zeros.
     pub laid: u16,
     /// The whole reply, its length first.
     pub reply: &'a [u8],
@@ -425,6 +425,23 @@ mod tests {
         }
         assert_eq!(unit.read(3, 5, 1, 63).unwrap().as_ptr(), &unit.slow[65]);
         assert_eq!(unit.read(3, 5, 0, 2), Some(&[0x41, 0x37][..]));
+    }
+
+    #[test]
+    fn deletes_leave_zeros_where_the_bytes_were() {
+        let mut unit = Unit::fresh(1, 2).unwrap();
+        unit.slow.fill(0xDD);
+        for message in FILE {
+            unit.answer(message);
+        }
+        assert_eq!(unit.answer(&[0, 5, 1, 6, 5, 0, 2]).laid, 64);
+        assert_eq!(unit.answer(&[0, 4, 1, 7, 5, 0]).laid, 64);
+        assert_eq!(unit.fast, [0; 64]);
+        assert_eq!(unit.slow[64..66], [0x41, 0x37]);
+        assert_eq!(unit.answer(&[0, 4, 1, 2, 4, 5]).number, 10);
+        assert_eq!(unit.slow[64..66], [0x41, 0x37]);
+        assert_eq!(unit.answer(&[0, 4, 1, 2, 3, 5]).laid, 64);
+        assert_eq!(unit.slow, [[0xDD; 64], [0; 64]].concat());
     }
 
     #[test]

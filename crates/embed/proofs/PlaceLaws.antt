@@ -13,7 +13,7 @@ use Rattle.tables.proofs.ListLaws.{and-left, and-right}
 use Rattle.tables.proofs.RuleLaws.{sound-of}
 use Rattle.steps.specs.declared.Call.{Call}
 use Rattle.steps.specs.declared.Work.{Work}
-use Rattle.steps.specs.declared.Work.the-variants.{Nothing, Clear, Duplicate, Spread, Show, ShowPage, ShowHolder}
+use Rattle.steps.specs.declared.Work.the-variants.{Nothing, Clear, ClearPage, Duplicate, Spread, Show, ShowPage, ShowHolder}
 use Rattle.steps.specs.Stores.{fits}
 use Rattle.steps.specs.Steps.{Outcome, refuse, accept, Plan, decideAny}
 use Rattle.steps.specs.Effects.{framePlace, noPlace, shownAt, placeOf, readPlace}
@@ -35,6 +35,7 @@ frame-small p f offset len h k = go (ltb f p)
 work-small : (p limit len : ℕ) (g : Page) (w : Work) → limit ≤ 254 → workWithin g len limit 0 w ≡ true → Small (shownAt p w len)
 work-small p limit len g Nothing h e = nowhere-small
 work-small p limit len g (Clear f) h e = nowhere-small
+work-small p limit len g ClearPage h e = nowhere-small
 work-small p limit len g (Duplicate from to) h e = nowhere-small
 work-small p limit len g (Spread offset) h e = nowhere-small
 work-small p limit len g (Show f offset) h e =

@@ -42,7 +42,7 @@ const TABLES_SIZE: usize = REGISTER_AT + 2 * 254;
 // The version of what C and Rust see: these functions, and the tables as bytes.
 const MAJOR: u32 = 2;
 
-const MINOR: u32 = 0;
+const MINOR: u32 = 1;
 
 const PATCH: u32 = 0;
 

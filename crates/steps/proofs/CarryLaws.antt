@@ -1,6 +1,6 @@
 -- What `carry` leaves: all as lent where the decision does not lie within it, and else what its work says. In order: what is lent; what
 -- `lay` and `show` leave of it, by the work; the first test; both together.
-use Prim.Native.Nat.{ℕ, _+_, _/_, _%_, _≤_, _<_}
+use Prim.Native.Nat.{ℕ, _/_, _%_, _≤_, _<_}
 use mathlib.Core.Path.{_≡_, refl, sym, ap, _∙_}
 use mathlib.Core.Bool.{Bool, true, false, not, _||_, cond}
 use mathlib.Core.List.{List, [], _++_}
@@ -17,12 +17,12 @@ use Rattle.tables.specs.Model.{inUse, noCopyEntry}
 use Rattle.tables.proofs.ListLaws.{or-left, or-right, all-at}
 use Rattle.tables.proofs.Loops.{use-low}
 use Rattle.steps.specs.declared.Work.{Work}
-use Rattle.steps.specs.declared.Work.the-variants.{Nothing, Clear, Duplicate, Spread, Show, ShowPage, ShowHolder}
+use Rattle.steps.specs.declared.Work.the-variants.{Nothing, Clear, ClearPage, Duplicate, Spread, Show, ShowPage, ShowHolder}
 use Rattle.steps.specs.declared.Decision.{Decision}
 use Rattle.steps.specs.Stores.{over}
 use Rattle.steps.specs.Effects.{laidIn, shownOf}
-use Rattle.steps.specs.Promises.{lent, frameWithin, workWithin, within, carried}
-use Rattle.steps.specs.Private.{Room, WholeFrames, framesIn, lies, laidInto, shownInto}
+use Rattle.steps.specs.Promises.{lent, frameWithin, workWithin, carried}
+use Rattle.steps.specs.Private.{Room, RoomEach, WholeFrames, framesIn, lies, laidInto, shownInto}
 use Rattle.steps.proofs.StoreLaws.{taken-apart}
 use Rattle.steps.proofs.Blocks.{within-low}
 
@@ -34,8 +34,8 @@ module _ (x y : List ℕ) (whole : WholeFrames x) where
   room-at f h = let e = whole in record { split = omega arith; there = omega arith }
 
   -- so is that of each copy which lies within
-  pub room-each : (those : Copy → Bool) (g : Page) → all (frameWithin those (framesIn x y)) (inUse g) ≡ true → (i : ℕ) → i < length (inUse g)
-      → those (getD (g .copies) i noCopyEntry) ≡ true → Room x y (length x / 64) (getD (g .copies) i noCopyEntry .frame)
+  pub room-each : (those : Copy → Bool) (g : Page) → all (frameWithin those (framesIn x y)) (inUse g) ≡ true
+      → RoomEach those x y (length x / 64) g
   room-each those g e i h u =
       room-at _ (within-low those (framesIn x y) (getD (g .copies) i noCopyEntry)
       (rw (getD-take (g .n) (g .copies) i noCopyEntry (use-low g i h)) at (all-at (frameWithin those (framesIn x y)) (inUse g) i noCopyEntry e h)) u)
@@ -63,17 +63,18 @@ module _ (d : Decision) (w : Work) (is : d .work ≡ w) (x y : List ℕ) where
     shown-outside e = rw (is, e)
 
 -- one that lays nothing
-pub nothing-laid : (d : Decision) (bs x y : List ℕ) → ((f : ℕ) → d .work ≡ Clear f → ⊥) → ((a b : ℕ) → d .work ≡ Duplicate a b → ⊥)
+pub nothing-laid : (d : Decision) (bs x y : List ℕ) → ((f : ℕ) → d .work ≡ Clear f → ⊥) → (d .work ≡ ClearPage → ⊥) → ((a b : ℕ) → d .work ≡ Duplicate a b → ⊥)
     → ((o : ℕ) → d .work ≡ Spread o → ⊥) → x ++ y ≡ laidInto d bs x y
 unfolding laidIn
-nothing-laid d bs x y no₁ no₂ no₃ =
+nothing-laid d bs x y no₁ no₂ no₃ no₄ =
     sym (ap (λ (st : List ℕ). cond (lies d (length bs) x y) st (x ++ y)) (go (d .work) refl) ∙ same (lies d (length bs) x y) (x ++ y))
   where
     go : (w : Work) → d .work ≡ w → laidIn (d .before) w bs (x ++ y) ≡ x ++ y
     go Nothing e = refl
     go (Clear f) e = absurd (no₁ f e)
-    go (Duplicate a b) e = absurd (no₂ a b e)
-    go (Spread o) e = absurd (no₃ o e)
+    go ClearPage e = absurd (no₂ e)
+    go (Duplicate a b) e = absurd (no₃ a b e)
+    go (Spread o) e = absurd (no₄ o e)
     go (Show f o) e = refl
     go ShowPage e = refl
     go (ShowHolder h) e = refl
@@ -88,6 +89,7 @@ nothing-shown d size x y out no₁ no₂ no₃ =
     go : (w : Work) → d .work ≡ w → shownOf (d .before) w (d .len) (x ++ y) ≡ []
     go Nothing e = refl
     go (Clear f) e = refl
+    go ClearPage e = refl
     go (Duplicate a b) e = refl
     go (Spread o) e = refl
     go (Show f o) e = absurd (no₁ f o e)

@@ -1,5 +1,5 @@
 -- What is to be known of a call's plan, from one walk over the kinds. In order: what holds of an outcome if it is accepted; the
--- CURRENT copies of a page; one plan of each form; the walk; the call on tables that keep the rules.
+-- copies of a page; one plan of each form; the walk; the call on tables that keep the rules.
 use Prim.Native.Nat.{ℕ, _+_, _*_, _≤_, _<_, zero-le}
 use mathlib.Core.Path.{_≡_, refl, ap, _∙_}
 use mathlib.Core.Logic.{_≢_}
@@ -23,23 +23,28 @@ use Rattle.tables.specs.Model.{frames, isNull, inUse, absent, pageAt}
 use Rattle.tables.specs.Rules.{free, isCurrent, copyRule, sound}
 use Rattle.tables.specs.Search.{isFree, shown}
 use Rattle.tables.specs.Register.{registered}
-use Rattle.tables.proofs.ListLaws.{and-intro, and-left, and-right, or-left, or-right, all-imp, count-le}
-use Rattle.tables.proofs.RuleLaws.{GoodCopy, good-copy, current-placed, StandingPage, copy-at, length-in-use, sound-of, standing-at}
+use Rattle.tables.specs.Changes.{changed}
+use Rattle.tables.proofs.ListLaws.{and-intro, and-left, and-right, or-left, or-right, all-imp, count-le, not-so}
+use Rattle.tables.proofs.RuleLaws.{GoodCopy, good-copy, current-placed, StandingPage, copy-at, length-in-use, Sound, sound-of, standing-at}
 use Rattle.tables.proofs.RegisterLaws.{registered-free}
-use Rattle.tables.proofs.Allowed.{FrameOk, Allowed}
+use Rattle.tables.proofs.Allowed.{FrameOk, RemoveOk, Allowed}
+use Rattle.tables.proofs.UsesLaws.{uses-at}
+use Rattle.tables.proofs.PageChanges.{removed-ok, staled-on, marked-on, removed-on, added-on}
 use Rattle.steps.specs.declared.Kind.{Kind}
 use Rattle.steps.specs.declared.Kind.the-variants.{Create, DeletePage, Grant, Read, Write, MakeCopy, DeleteCopy, SetCurrent, RemoveCurrent, LookPage, LookFrame}
 use Rattle.steps.specs.declared.Call.{Call}
 use Rattle.steps.specs.declared.View.{View}
 use Rattle.steps.specs.declared.Work.{Work}
-use Rattle.steps.specs.declared.Work.the-variants.{Clear, Duplicate, Spread, Show, ShowPage, ShowHolder}
+use Rattle.steps.specs.declared.Work.the-variants.{Clear, ClearPage, Duplicate, Spread, Show, ShowPage, ShowHolder}
 use Rattle.steps.specs.Kinds.{offset, bytes, frame, names, code, among, has, leastLength}
 use Rattle.steps.specs.Calls.{nameOutside, frameOutside, badSpan, spanOutside}
-use Rattle.steps.specs.Steps.{Outcome, refuse, accept, test, Plan, editing, showing, laying, mayRead, mayWrite, owns, copyAt, currents, recents, firstCurrent, standing, numbered, copying, perform, decideOn, decide}
-use Rattle.steps.specs.Effects.{shownOf}
+use Rattle.steps.specs.Steps.{Outcome, refuse, accept, test, Plan, editing, showing, laying, mayRead, mayWrite, owns, isPlaced, copyAt, currents, recents, placed, firstCurrent, standing, numbered, copying, perform, decideOn, decide}
+use Rattle.steps.specs.Stores.{block, zeros}
+use Rattle.steps.specs.Effects.{laidIn, shownOf}
 use Rattle.steps.specs.Promises.{frameWithin, workWithin}
-use Rattle.steps.proofs.StoreLaws.{length-frame-part}
+use Rattle.steps.proofs.StoreLaws.{length-part, length-frame-part}
 use Rattle.steps.proofs.CopyLaws.{length-entries}
+use Rattle.steps.proofs.ClearLaws.{on, Clears, kept-clears, written-clears, made-clears, removed-clears, deleted-clears, created-over, granted-on, null-placed}
 
 -- ---- what holds of an outcome if it is accepted
 
@@ -98,6 +103,19 @@ module _ {limit : ℕ} where
   pub currents-within : {g : Page} → StandingPage limit g → all (frameWithin isCurrent limit) (inUse g) ≡ true
   currents-within s = those-within isCurrent s (λ c k q. current-placed k q)
 
+  -- those that have one
+  pub placed-within : {g : Page} → StandingPage limit g → all (frameWithin isPlaced limit) (inUse g) ≡ true
+  placed-within s = those-within isPlaced s (λ c k q. not-true (isNull c) q)
+
+  -- one that is not the only MOST RECENT copy has a frame
+  pub removed-placed : {g : Page} (s : StandingPage limit g) (k : ℕ) → RemoveOk g k → isNull (copyAt g k) ≡ false
+  unfolding changed
+  removed-placed s k a =
+      not-so _ (λ z.
+      let one = copy-at s k (a .in-use) .lone z in
+      let left = removed-ok s k a .some in
+      omega arith)
+
   -- the frame of the first, where there is one
   first-low : (cs : List Copy) → all (frameWithin isCurrent limit) cs ≡ true → 1 ≤ count isCurrent cs → firstCurrent cs < limit
   unfolding all count firstCurrent
@@ -112,7 +130,7 @@ module _ {limit : ℕ} where
 -- ---- one plan
 
 -- what is known of the plan of a call of kind k on page g of tables t: its edit is allowed, what it lays and shows fits, and lies within the
--- frames; and its reply has at most 35 bytes for each 4 of its message
+-- frames; it clears the frames that it frees; and its reply has at most 35 bytes for each 4 of its message
 pub record PlanOk (t : Tables) (c : Call) (size : ℕ) (k : Kind) (plan : Plan) : Type 0 where
   pub near : c .page < 64
   pub allowed : Allowed t (c .page) (plan .edit)
@@ -121,39 +139,80 @@ pub record PlanOk (t : Tables) (c : Call) (size : ℕ) (k : Kind) (plan : Plan) 
   pub laid-fits : plan .laid ≤ 512
   pub inside : workWithin (pageAt t (c .page)) (plan .len) (frames t) size (plan .work) ≡ true
   pub shows : (st : List ℕ) → length st ≡ 64 * frames t → length (shownOf (pageAt t (c .page)) (plan .work) (plan .len) st) ≡ plan .len
+  pub clears : (bs st : List ℕ) → length bs ≡ size → length st ≡ 64 * frames t
+      → Clears (frames t) (pageAt t (c .page)) (changed (pageAt t (c .page)) (plan .edit)) st (laidIn (pageAt t (c .page)) (plan .work) bs st)
 
-module _ (t : Tables) (c : Call) (size : ℕ) (near : c .page < 64)
-    (stands : absent (pageAt t (c .page)) ≡ false → StandingPage (frames t) (pageAt t (c .page)))
+module _ (t : Tables) (c : Call) (size : ℕ) (near : c .page < 64) (rules : Sound t)
     (told : (f : ℕ) → f < frames t → free t f ≡ isFree (registered t f)) where
   abbrev g : Page
   g = pageAt t (c .page)
 
+  stands : absent g ≡ false → StandingPage (frames t) g
+  stands some = standing-at t (c .page) rules near some
+
+  few-frames : frames t ≤ 254
+  few-frames = omega (arith, rules .fast-ok, rules .slow-ok)
+
+  -- what a plan with this edit and this work leaves in the frames
+  abbrev Leaves : Edit → Work → Type 0
+  Leaves e w = (bs st : List ℕ) → length bs ≡ size → length st ≡ 64 * frames t → Clears (frames t) g (changed g e) st (laidIn g w bs st)
+
   module _ (kind : Kind) where
     -- one that only edits, shows or lays
-    edit-ok : (e : Edit) → Allowed t (c .page) e → IfAccepted (PlanOk t c size kind) (editing e)
-    unfolding shownOf
-    edit-ok e a =
+    edit-ok : (e : Edit) → Allowed t (c .page) e → ((f : ℕ) → f < frames t → on f (changed g e) ≡ on f g)
+        → IfAccepted (PlanOk t c size kind) (editing e)
+    unfolding shownOf laidIn
+    edit-ok e a same =
         if-accepted
-        (record { near = near; allowed = a; short = zero-le; paid = omega arith; laid-fits = zero-le; inside = refl; shows = λ st l. refl })
+        (record {
+          near = near;
+          allowed = a;
+          short = zero-le;
+          paid = omega arith;
+          laid-fits = zero-le;
+          inside = refl;
+          shows = λ st l. refl;
+          clears = λ bs st _ l. kept-clears (frames t) g (changed g e) st same;
+        })
 
     show-ok : (len : ℕ) (w : Work) → len ≤ 64 → 4 * (6 + len) ≤ 35 * (2 + leastLength kind) → workWithin g len (frames t) size w ≡ true
-        → ((st : List ℕ) → length st ≡ 64 * frames t → length (shownOf g w len st) ≡ len)
+        → ((st : List ℕ) → length st ≡ 64 * frames t → length (shownOf g w len st) ≡ len) → ((bs st : List ℕ) → laidIn g w bs st ≡ st)
         → IfAccepted (PlanOk t c size kind) (showing len w)
-    show-ok len w short paid inside shows =
-        if-accepted (record { near = near; allowed = tt; short = short; paid = paid; laid-fits = zero-le; inside = inside; shows = shows })
+    unfolding changed
+    show-ok len w short paid inside shows still =
+        if-accepted
+        (record {
+          near = near;
+          allowed = tt;
+          short = short;
+          paid = paid;
+          laid-fits = zero-le;
+          inside = inside;
+          shows = shows;
+          clears = λ bs st _ l f low none. ap (λ (x : List ℕ). block x f) (still bs st) ∙ kept-clears (frames t) g g st (λ y _. refl) f low none;
+        })
 
     lay-ok : (e : Edit) (laid : ℕ) (w : Work) → Allowed t (c .page) e → laid ≤ 512
-        → workWithin g 0 (frames t) size w ≡ true → ((st : List ℕ) → length (shownOf g w 0 st) ≡ 0)
+        → workWithin g 0 (frames t) size w ≡ true → ((st : List ℕ) → length (shownOf g w 0 st) ≡ 0) → Leaves e w
         → IfAccepted (PlanOk t c size kind) (laying e laid w)
-    lay-ok e laid w a few inside none =
+    lay-ok e laid w a few inside none clears =
         if-accepted
-        (record { near = near; allowed = a; short = zero-le; paid = omega arith; laid-fits = few; inside = inside; shows = λ st l. none st })
+        (record {
+          near = near;
+          allowed = a;
+          short = zero-le;
+          paid = omega arith;
+          laid-fits = few;
+          inside = inside;
+          shows = λ st l. none st;
+          clears = clears;
+        })
 
   -- ---- the walk
 
   copy-ok : (kind : Kind) (k f : ℕ) → k < g .n → f < frames t → free t f ≡ true → absent g ≡ false
       → g .n ≢ 8 → IfAccepted (PlanOk t c size kind) (copying (copyAt g k) f)
-  unfolding shownOf
+  unfolding shownOf laidIn
   copy-ok kind k f less low spare some room =
       go (isNull (copyAt g k)) refl (copy-at (stands some) k less .placed)
     where
@@ -163,26 +222,41 @@ module _ (t : Tables) (c : Call) (size : ℕ) (near : c .page < 64)
       go : (z : Bool) → isNull (copyAt g k) ≡ z → (z ≡ false → copyAt g k .frame < frames t)
           → IfAccepted (PlanOk t c size kind) (cond z (laying (Placed f) 64 (Clear f))
           (laying (Added f (copyAt g k .recent)) 64 (Duplicate (copyAt g k .frame) f)))
-      go true e at = lay-ok kind (Placed f) 64 (Clear f) (record { onto = onto; stands = some }) (omega arith) (lt-ltb f (frames t) low) (λ st. refl)
+      go true e at =
+          lay-ok kind (Placed f) 64 (Clear f) (record { onto = onto; stands = some }) (omega arith) (lt-ltb f (frames t) low) (λ st. refl)
+          (λ bs st _ l. made-clears (frames t) g (changed g (Placed f)) st l f low
+          (λ y near. null-placed (stands some) k less e f y (omega (arith, few-frames))) zeros refl)
       go false e at =
           lay-ok kind (Added f _) 64 (Duplicate _ f)
           (record { onto = onto; room = omega (arith, stands some .most); from = k; from-in = less; from-placed = e }) (omega arith)
           (and-intro (lt-ltb _ (frames t) (at refl)) (lt-ltb f (frames t) low)) (λ st. refl)
+          (λ bs st _ l.
+          let from = at refl in
+          made-clears (frames t) g (changed g (Added f (copyAt g k .recent))) st l f low
+          (λ y _. added-on (stands some) f (copyAt g k .recent) y (omega (arith, stands some .most))) (block st (copyAt g k .frame))
+          (length-part st (64 * copyAt g k .frame) 64 (omega arith)))
 
   perform-ok : (k : Kind) → nameOutside c ≡ false → (has frame k && leb (frames t) (c .frame)) ≡ false
       → (has offset k && badSpan (c .offset) (cond (has bytes k) size (c .count))) ≡ false
       → IfAccepted (PlanOk t c size k)
       (perform (record { frames = frames t; page = g; holder = registered t (c .frame) }) c size k)
-  unfolding perform shownOf names code among
+  unfolding perform shownOf laidIn names code among
   perform-ok Create name far span =
       let low = ltb-false 15 (c .station) (or-left (ltb 15 (c .station)) _ (or-left (ltb 15 (c .station) || ltb 63 (c .page)) _ name)) in
-      past (not (absent g)) _ refl (λ _. edit-ok Create (Created (c .station)) (omega arith))
+      past (not (absent g)) _ refl (λ none. edit-ok Create (Created (c .station)) (omega arith) (λ f l.
+      created-over g (not-false _ none) (c .station) f (omega (arith, few-frames))))
   perform-ok DeletePage name far span =
-      past-standing g (owns g (c .station)) (λ _. edit-ok DeletePage Deleted tt)
+      past-standing g (owns g (c .station)) (λ some.
+      let few = count-le isPlaced (inUse g) in
+      let most = stands some .most in
+      let long = length-in-use (stands some) in
+      lay-ok DeletePage Deleted (64 * placed g) ClearPage tt (omega arith) (placed-within (stands some)) (λ st. refl)
+      (λ bs st _ l. deleted-clears (frames t) (omega (arith, few-frames)) g (changed g Deleted) st l (placed-within (stands some))
+      (λ f near. omega (arith, uses-at f (t .pages) (c .page), rules .once f near))))
   perform-ok Grant name far span =
       let low = ltb-false 2 (c .right) (or-right (ltb 15 (c .other)) _ (or-right (ltb 15 (c .station) || ltb 63 (c .page)) _ name)) in
       past-standing g (owns g (c .station)) (λ some.
-      edit-ok Grant (Granted (c .other) (c .right)) (record { stands = some; low = low }))
+      edit-ok Grant (Granted (c .other) (c .right)) (record { stands = some; low = low }) (λ f _. granted-on g (c .other) (c .right) f))
   perform-ok Read name far span =
       past-standing g (mayRead g (c .station)) (λ some.
       past (eqb (currents g) 0) _ refl (λ e.
@@ -190,7 +264,7 @@ module _ (t : Tables) (c : Call) (size : ℕ) (near : c .page < 64)
       let low = first-low (inUse g) (currents-within (stands some)) (omega arith) in
       let span = span-within (c .offset) (c .count) span in
       show-ok Read (c .count) (Show _ (c .offset)) (omega arith) (omega arith) (and-intro (lt-ltb _ (frames t) low) (le-leb (c .offset + c .count) 64 span))
-      (λ st l. length-frame-part st _ (c .offset) (c .count) (omega arith) span)))
+      (λ st l. length-frame-part st _ (c .offset) (c .count) (omega arith) span) (λ bs st. refl)))
   perform-ok Write name far span =
       past-standing g (mayWrite g (c .station)) (λ some.
       past (eqb (currents g) 0) _ refl (λ e.
@@ -201,30 +275,39 @@ module _ (t : Tables) (c : Call) (size : ℕ) (near : c .page < 64)
       let long = length-in-use (stands some) in
       lay-ok Write Staled (size * currents g) (Spread (c .offset)) (record { stands = some; written = omega arith })
       (mul-le-mul {n₂ = 64} {m₂ = 8} (omega arith) (omega arith))
-      (and-intro (le-leb (c .offset + size) 64 span) (currents-within (stands some))) (λ st. refl)))
+      (and-intro (le-leb (c .offset + size) 64 span) (currents-within (stands some))) (λ st. refl)
+      (λ bs st b l. written-clears (frames t) g (changed g Staled) st l (λ f. staled-on (stands some) f) isCurrent (c .offset) bs
+      (omega arith) (currents-within (stands some)))))
   perform-ok MakeCopy name far span =
       past-numbered g (c .copy) (λ some less. past (not (isFree (registered t (c .frame)))) _ refl (λ is.
       past (eqb (g .n) 8) _ refl (λ room.
       let low = leb-false (frames t) (c .frame) far in
       copy-ok MakeCopy (c .copy) (c .frame) less low (told (c .frame) low ∙ not-false _ is) some (eqb-false (g .n) 8 room))))
   perform-ok DeleteCopy name far span =
-      past-numbered g (c .copy) (λ _ less.
+      past-numbered g (c .copy) (λ some less.
       past (copyAt g (c .copy) .recent && eqb (recents g) 1) _ refl (λ last.
-      edit-ok DeleteCopy (Removed (c .copy)) (record { in-use = less; not-last = last })))
+      let ok : RemoveOk g (c .copy) = record { in-use = less; not-last = last } in
+      lay-ok DeleteCopy (Removed (c .copy)) 64 (Clear (copyAt g (c .copy) .frame)) ok (omega arith)
+      (lt-ltb _ (frames t) (copy-at (stands some) (c .copy) less .placed (removed-placed (stands some) (c .copy) ok))) (λ st. refl)
+      (λ bs st _ l. removed-clears (frames t) g (changed g (Removed (c .copy))) st l (copyAt g (c .copy) .frame)
+      (copy-at (stands some) (c .copy) less .placed (removed-placed (stands some) (c .copy) ok)) (λ f. removed-on (stands some) (c .copy) f less))))
   perform-ok SetCurrent name far span =
-      past-numbered g (c .copy) (λ _ less. past (isNull (copyAt g (c .copy))) _ refl (λ full.
+      past-numbered g (c .copy) (λ some less. past (isNull (copyAt g (c .copy))) _ refl (λ full.
       past (not (copyAt g (c .copy) .recent)) _ refl (λ new.
-      edit-ok SetCurrent (Marked (c .copy) true) (record { in-use = less; fresh = λ _. not-false _ new; placed = λ _. full }))))
+      edit-ok SetCurrent (Marked (c .copy) true) (record { in-use = less; fresh = λ _. not-false _ new; placed = λ _. full })
+      (λ f _. marked-on (stands some) (c .copy) true f less))))
   perform-ok RemoveCurrent name far span =
-      past-numbered g (c .copy) (λ _ less.
-      edit-ok RemoveCurrent (Marked (c .copy) false) (record { in-use = less; fresh = λ e. absurd (false≢true e); placed = λ e. absurd (false≢true e) }))
+      past-numbered g (c .copy) (λ some less.
+      edit-ok RemoveCurrent (Marked (c .copy) false) (record { in-use = less; fresh = λ e. absurd (false≢true e); placed = λ e. absurd (false≢true e) })
+      (λ f _. marked-on (stands some) (c .copy) false f less))
   perform-ok LookPage name far span =
       past (absent g) _ refl (λ some.
       let most = stands some .most in
       let long = length-in-use (stands some) in
       let data-long = length-entries (inUse g) in
-      show-ok LookPage (1 + 3 * length (inUse g)) ShowPage (omega arith) (omega arith) refl (λ st l. omega arith))
-  perform-ok LookFrame name far span = show-ok LookFrame 3 (ShowHolder _) (omega arith) (omega arith) refl (λ st l. three (registered t (c .frame)))
+      show-ok LookPage (1 + 3 * length (inUse g)) ShowPage (omega arith) (omega arith) refl (λ st l. omega arith) (λ bs st. refl))
+  perform-ok LookFrame name far span = show-ok LookFrame 3 (ShowHolder _) (omega arith) (omega arith) refl
+      (λ st l. three (registered t (c .frame))) (λ bs st. refl)
     where
       three : (h : Holder) → length (shown h) ≡ 3
       three (At p k) = refl
@@ -237,7 +320,7 @@ unfolding decideOn
 decide-ok t c size e =
     past (nameOutside c) _ refl (λ name. past (frameOutside (frames t) c) _ refl (λ far. past (spanOutside size c) _ refl (λ span.
     let near = page-near c name in
-    perform-ok t c size near (λ some. standing-at t (c .page) (sound-of t e) near some) (λ f l. registered-free t f e l) (c .kind) name far span)))
+    perform-ok t c size near (sound-of t e) (λ f l. registered-free t f e l) (c .kind) name far span)))
 
 -- an accepted read shows bytes of the lowest-numbered CURRENT copy
 pub read-shows : (v : View) (c : Call) (size : ℕ) → c .kind ≡ Read

@@ -7,6 +7,7 @@ pub mod Rows
 pub mod StoreLaws
 pub mod CopyLaws
 pub mod Blocks
+pub mod ClearLaws
 pub mod CarryLaws
 pub mod DecideLaws
 pub mod StepLaws

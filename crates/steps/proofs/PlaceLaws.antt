@@ -16,7 +16,7 @@ use Rattle.steps.specs.declared.Kind.the-variants.{Read}
 use Rattle.steps.specs.declared.Call.{Call}
 use Rattle.steps.specs.declared.Place.{Place}
 use Rattle.steps.specs.declared.Work.{Work}
-use Rattle.steps.specs.declared.Work.the-variants.{Nothing, Clear, Duplicate, Spread, Show, ShowPage, ShowHolder}
+use Rattle.steps.specs.declared.Work.the-variants.{Nothing, Clear, ClearPage, Duplicate, Spread, Show, ShowPage, ShowHolder}
 use Rattle.steps.specs.declared.Decision.{Decision}
 use Rattle.steps.specs.Stores.{fits, part, block}
 use Rattle.steps.specs.Steps.{Outcome, refuse, accept, mapped, Plan, firstCurrent, viewOf, decideAny}
@@ -68,6 +68,7 @@ place-low place x y limit h k l = go (place .slow) h
 none-shown : (p : ℕ) (w : Work) (len : ℕ) → ((f o : ℕ) → w ≡ Show f o → ⊥) → shownAt p w len ≡ noPlace
 none-shown p Nothing len none = refl
 none-shown p (Clear f) len none = refl
+none-shown p ClearPage len none = refl
 none-shown p (Duplicate from to) len none = refl
 none-shown p (Spread o) len none = refl
 none-shown p (Show f o) len none = absurd (none f o refl)

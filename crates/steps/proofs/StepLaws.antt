@@ -21,11 +21,11 @@ use Rattle.tables.proofs.RuleLaws.{StandingPage, copy-at, sound-of, standing-at
 use Rattle.tables.proofs.ChangeSound.{sound-after}
 use Rattle.steps.specs.declared.Call.{Call}
 use Rattle.steps.specs.declared.Work.{Work}
-use Rattle.steps.specs.declared.Work.the-variants.{Nothing, Clear, Duplicate, Spread, Show, ShowPage, ShowHolder}
+use Rattle.steps.specs.declared.Work.the-variants.{Nothing, Clear, ClearPage, Duplicate, Spread, Show, ShowPage, ShowHolder}
 use Rattle.steps.specs.declared.Decision.{Decision}
 use Rattle.steps.specs.Kinds.{leastLength}
 use Rattle.steps.specs.Stores.{fits, block, held, zeros, over}
-use Rattle.steps.specs.Steps.{Outcome, refuse, accept, test, mapped, Plan, copyAt, decide, decideAny, numberOf}
+use Rattle.steps.specs.Steps.{Outcome, refuse, accept, test, mapped, Plan, isPlaced, copyAt, decide, decideAny, numberOf}
 use Rattle.steps.specs.Effects.{laidIn, shownOf, State, joined, Result, carriedOut, step, left, laidBy, dataOf}
 use Rattle.steps.specs.Promises.{stateOf, rulesNumber, decisionOf, Lent, lent, workWithin, within, carried, Stepped, settled}
 use Rattle.steps.specs.Private.{framesIn, Decides}
@@ -111,6 +111,7 @@ length-laid g Nothing len limit bs st l e = refl
 length-laid g (Clear f) len limit bs st l e =
     let h = ltb-true f limit e in
     length-lay st f (omega arith) 0 zeros (omega arith)
+length-laid g ClearPage len limit bs st l e = length-each isPlaced limit 0 zeros (omega arith) (inUse g) st l e ∙ sym l
 length-laid g (Duplicate from to) len limit bs st l e =
     let h = ltb-true from limit (and-left (ltb from limit) _ e) in
     let k = ltb-true to limit (and-right (ltb from limit) _ e) in

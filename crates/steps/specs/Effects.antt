@@ -15,10 +15,10 @@ use Rattle.steps.specs.declared.Kind.the-variants.{Read}
 use Rattle.steps.specs.declared.Call.{Call}
 use Rattle.steps.specs.declared.Place.{Place}
 use Rattle.steps.specs.declared.Work.{Work}
-use Rattle.steps.specs.declared.Work.the-variants.{Nothing, Clear, Duplicate, Spread, Show, ShowPage, ShowHolder}
+use Rattle.steps.specs.declared.Work.the-variants.{Nothing, Clear, ClearPage, Duplicate, Spread, Show, ShowPage, ShowHolder}
 use Rattle.steps.specs.Kinds.{callOf}
 use Rattle.steps.specs.Stores.{part, block, lay, zeros, layEach}
-use Rattle.steps.specs.Steps.{Outcome, refuse, accept, mapped, Plan, pageFor, decideAny}
+use Rattle.steps.specs.Steps.{Outcome, refuse, accept, mapped, Plan, isPlaced, pageFor, decideAny}
 
 abbrev pub bit : Bool → ℕ
 bit true = 1
@@ -29,10 +29,12 @@ unfoldable pub entries : List Copy → List ℕ
 entries [] = []
 entries (c ∷ cs) = c .frame ∷ bit (c .current) ∷ bit (c .recent) ∷ entries cs
 
--- the joined stores st after a work on page g, with a write's bytes bs: step 5, "All CURRENT copies take the bytes"
+-- The joined stores st after a work on page g, with a write's bytes bs. Step 5: "All CURRENT copies take the bytes"; step 6: "all 64 bytes are
+-- copied", and "From a null copy: 64 zeros"; document 02, request [2]: "a frame that is freed .. is filled with 64 zeros, fast or slow".
 unfoldable pub laidIn : Page → Work → List ℕ → List ℕ → List ℕ
 laidIn g Nothing bs st = st
 laidIn g (Clear f) bs st = lay st f 0 zeros
+laidIn g ClearPage bs st = layEach isPlaced st (inUse g) 0 zeros
 laidIn g (Duplicate from to) bs st = lay st to 0 (block st from)
 laidIn g (Spread offset) bs st = layEach isCurrent st (inUse g) offset bs
 laidIn g (Show f offset) bs st = st
@@ -43,6 +45,7 @@ laidIn g (ShowHolder h) bs st = st
 unfoldable pub shownOf : Page → Work → ℕ → List ℕ → List ℕ
 shownOf g Nothing len st = []
 shownOf g (Clear f) len st = []
+shownOf g ClearPage len st = []
 shownOf g (Duplicate from to) len st = []
 shownOf g (Spread offset) len st = []
 shownOf g (Show f offset) len st = part (block st f) offset len
@@ -112,6 +115,7 @@ noPlace = record { slow = false; start = 0; len = 0 }
 abbrev pub shownAt : ℕ → Work → ℕ → Place
 shownAt p Nothing len = noPlace
 shownAt p (Clear f) len = noPlace
+shownAt p ClearPage len = noPlace
 shownAt p (Duplicate from to) len = noPlace
 shownAt p (Spread offset) len = noPlace
 shownAt p (Show f offset) len = framePlace p f offset len

@@ -1,9 +1,9 @@
 -- What the private functions of this layer ask of each other and promise. For the proofs alone: no exported contract names it.
 use Prim.Native.Nat.{ℕ, _+_, _*_, _/_, _%_, _≤_, _<_}
-use mathlib.Core.Bool.{Bool, false, not, _||_, cond}
+use mathlib.Core.Bool.{Bool, true, false, not, _||_, cond}
 use mathlib.Core.List.{List, _++_}
 use mathlib.Core.Path.{_≡_}
-use lib.ListN.{length}
+use lib.ListN.{length, getD}
 use lib.Dec.{eqb}
 use Rattle.tables.specs.declared.Copy.{Copy}
 use Rattle.tables.specs.declared.Page.{Page}
@@ -12,7 +12,7 @@ use Rattle.tables.specs.declared.Tables.{Tables}
 use Rattle.tables.specs.declared.Holder.{Holder}
 use Rattle.tables.specs.declared.Edit.the-variants.{Kept}
 use Rattle.tables.specs.Numbers.{accepted}
-use Rattle.tables.specs.Model.{inUse, absent, pageAt}
+use Rattle.tables.specs.Model.{inUse, absent, noCopyEntry, pageAt}
 use Rattle.tables.specs.Rules.{isRecent, isCurrent}
 use Rattle.tables.specs.Register.{registered}
 use Rattle.tables.specs.Changes.{changed, edited, after}
@@ -36,6 +36,11 @@ use Rattle.steps.specs.Promises.{laidOf, lenOf, workOf, settled, workWit
 pub record Room (fast slow : List ℕ) (p f : ℕ) : Type 0 where
   pub split : length fast ≡ 64 * p
   pub there : 64 * f + 64 ≤ length fast + length slow
+
+-- so does the frame of each copy of page g that is one of `those`
+abbrev pub RoomEach : (Copy → Bool) → List ℕ → List ℕ → ℕ → Page → Type 0
+RoomEach those fast slow p g =
+    (i : ℕ) → i < length (inUse g) → those (getD (g .copies) i noCopyEntry) ≡ true → Room fast slow p (getD (g .copies) i noCopyEntry .frame)
 
 -- a place lies within its store
 abbrev pub PlaceIn : Place → List ℕ → List ℕ → Type 0

@@ -19,13 +19,13 @@ use Rattle.tables.specs.Keep.{unchanged}
 use Rattle.steps.specs.declared.Call.{Call}
 use Rattle.steps.specs.declared.Form.{Form}
 use Rattle.steps.specs.declared.Work.{Work}
-use Rattle.steps.specs.declared.Work.the-variants.{Nothing, Clear, Duplicate, Spread, Show, ShowPage, ShowHolder}
+use Rattle.steps.specs.declared.Work.the-variants.{Nothing, Clear, ClearPage, Duplicate, Spread, Show, ShowPage, ShowHolder}
 use Rattle.steps.specs.declared.Decision.{Decision}
 use Rattle.steps.specs.declared.Done.{Done}
 use Rattle.steps.specs.declared.Place.{Place}
 use Rattle.steps.specs.Kinds.{kindOf, leastLength, mostLength, callOf}
 use Rattle.steps.specs.Stores.{fits, part, over}
-use Rattle.steps.specs.Steps.{Outcome, refuse, accept, Plan, numberOf}
+use Rattle.steps.specs.Steps.{Outcome, refuse, accept, Plan, isPlaced, numberOf}
 use Rattle.steps.specs.Effects.{laidIn, shownOf, State, Result, left, laidBy, dataOf}
 
 -- the state of tables and two lent stores
@@ -102,6 +102,7 @@ frameWithin those frames c = not (those c && leb frames (c .frame))
 abbrev pub workWithin : Page → ℕ → ℕ → ℕ → Work → Bool
 workWithin g len frames size Nothing = true
 workWithin g len frames size (Clear f) = ltb f frames
+workWithin g len frames size ClearPage = all (frameWithin isPlaced frames) (inUse g)
 workWithin g len frames size (Duplicate from to) = ltb from frames && ltb to frames
 workWithin g len frames size (Spread offset) = leb (offset + size) 64 && all (frameWithin isCurrent frames) (inUse g)
 workWithin g len frames size (Show f offset) = ltb f frames && leb (offset + len) 64

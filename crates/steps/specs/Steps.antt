@@ -22,7 +22,7 @@ use Rattle.steps.specs.declared.Kind.the-variants.{Create, DeletePage, G
 use Rattle.steps.specs.declared.Call.{Call}
 use Rattle.steps.specs.declared.View.{View}
 use Rattle.steps.specs.declared.Work.{Work}
-use Rattle.steps.specs.declared.Work.the-variants.{Nothing, Clear, Duplicate, Spread, Show, ShowPage, ShowHolder}
+use Rattle.steps.specs.declared.Work.the-variants.{Nothing, Clear, ClearPage, Duplicate, Spread, Show, ShowPage, ShowHolder}
 use Rattle.steps.specs.Calls.{nameOutside, frameOutside, spanOutside}
 use Rattle.steps.specs.Stores.{fits}
 
@@ -40,7 +40,9 @@ abbrev pub mapped : {A B : Type 0} → (A → B) → Outcome A → Outcome B
 mapped f (refuse n) = refuse n
 mapped f (accept a) = accept (f a)
 
--- what an accepted call does: the edit of its page's record, the bytes laid, the length of its data, and what it lays or shows
+-- What an accepted call does: the edit of its page's record, the bytes laid, the length of its data, and what it lays or shows. "Every accepted
+-- reply states the bytes laid: 64 for make copy, for write its length times the number of current copies"; since request [2] of
+-- document 02, 64 also for each frame that a delete frees; else 0.
 pub record Plan : Type 0 where
   pub edit : Edit
   pub laid : ℕ
@@ -91,6 +93,10 @@ currents g = count isCurrent (inUse g)
 abbrev pub recents : Page → ℕ
 recents g = count isRecent (inUse g)
 
+-- how many frames its copies have
+abbrev pub placed : Page → ℕ
+placed g = count isPlaced (inUse g)
+
 -- the frame of "the lowest-numbered CURRENT copy"
 unfoldable pub firstCurrent : List Copy → ℕ
 firstCurrent [] = 255
@@ -110,10 +116,13 @@ numbered g k o = test (absent g) noPage (test (leb (g .n) k) noCopy o)
 abbrev pub copying : Copy → ℕ → Outcome Plan
 copying c f = cond (isNull c) (laying (Placed f) 64 (Clear f)) (laying (Added f (c .recent)) 64 (Duplicate (c .frame) f))
 
--- the call c on what it looks at, v; a write has `size` bytes
+-- The call c on what it looks at, v; a write has `size` bytes. Document 02, request [2], of both deletes: "a frame that is freed .. is filled
+-- with 64 zeros, fast or slow", and "Each filled frame counts 64 bytes laid". A copy that delete copy accepts has a frame: a null one is
+-- alone and MOST RECENT, so 15.
 unfoldable pub perform : View → Call → ℕ → Kind → Outcome Plan
 perform v c size Create = test (not (absent (v .page))) pageStands (editing (Created (c .station)))
-perform v c size DeletePage = standing (v .page) (owns (v .page) (c .station)) (editing Deleted)
+perform v c size DeletePage =
+    standing (v .page) (owns (v .page) (c .station)) (laying Deleted (64 * placed (v .page)) ClearPage)
 perform v c size Grant = standing (v .page) (owns (v .page) (c .station)) (editing (Granted (c .other) (c .right)))
 perform v c size Read =
     standing (v .page) (mayRead (v .page) (c .station)) (test (eqb (currents (v .page)) 0) nothingCurrent
@@ -126,7 +135,7 @@ perform v c size MakeCopy =
     (copying (copyAt (v .page) (c .copy)) (c .frame))))
 perform v c size DeleteCopy =
     numbered (v .page) (c .copy) (test (copyAt (v .page) (c .copy) .recent && eqb (recents (v .page)) 1) lastRecent
-    (editing (Removed (c .copy))))
+    (laying (Removed (c .copy)) 64 (Clear (copyAt (v .page) (c .copy) .frame))))
 perform v c size SetCurrent =
     numbered (v .page) (c .copy) (test (isNull (copyAt (v .page) (c .copy))) noFrame (test (not (copyAt (v .page) (c .copy) .recent)) stale
     (editing (Marked (c .copy) true))))

@@ -104,7 +104,12 @@ pub(crate) fn delete_copy(view: View, call: Call) -> Verdict
     if c.recent & (recents == 1) {
         return refused(LAST_RECENT);
     }
-    accepted(0, 0, Edit::Removed { copy: call.copy }, Work::Nothing)
+    accepted(
+        64,
+        0,
+        Edit::Removed { copy: call.copy },
+        Work::Clear { frame: c.frame },
+    )
 }
 
 pub(crate) fn set_current(view: View, call: Call) -> Verdict

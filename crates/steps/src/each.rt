@@ -10,7 +10,7 @@ ghost use Rattle.tables.specs.Model.{inUse};
 ghost use Rattle.steps.specs.Promises.{frameWithin};
 ghost use Rattle.steps.specs.Private.{chosen};
 
-// Whether the copy is one of these.
+// Whether `which` names the copy.
 pub(crate) fn is_chosen(c: Copy, which: Which) -> bool
     ensures { λ r. ⌜ r ≡ chosen which c ⌝ }
 {
@@ -21,7 +21,7 @@ pub(crate) fn is_chosen(c: Copy, which: Which) -> bool
     }
 }
 
-// How many of the page's copies are.
+// How many copies of the page it names.
 pub(crate) fn count_of(page: Page, which: Which) -> usize
     ensures { λ r. ⌜ (r ≡ count (chosen which) (inUse page)) × (r ≤ 8) ⌝ }
 {
@@ -37,7 +37,7 @@ pub(crate) fn count_of(page: Page, which: Which) -> usize
     k
 }
 
-// Whether the frames of these copies are below the limit.
+// Whether the frames of the copies that it names are below the limit.
 pub(crate) fn frames_within(page: Page, which: Which, limit: usize) -> bool
     ensures { λ r. ⌜ r ≡ all (frameWithin (chosen which) limit) (inUse page) ⌝ }
 {

@@ -12,6 +12,7 @@ use crate::judgement::settle;
 use crate::looks::show_holder;
 use crate::looks::show_page;
 use crate::stores::clear_frame;
+use crate::stores::clear_page;
 use crate::stores::copy_frame;
 use crate::stores::frame_part;
 use crate::stores::frame_place;
@@ -78,6 +79,11 @@ fn lay(d: Decision, bytes: &[u8], fast: &mut [u8], slow: &mut [u8])
             let f = frame as usize;
             if f < limit {
                 clear_frame(fast, slow, p, f);
+            }
+        }
+        Work::ClearPage => {
+            if frames_within(page, Which::Placed, limit) {
+                clear_page(fast, slow, p, page);
             }
         }
         Work::Duplicate { from, to } => {

@@ -17,7 +17,8 @@ use crate::copies::remove_current;
 use crate::copies::set_current;
 use crate::looks::look_page;
 use crate::pages::create;
-use crate::pages::owner_step;
+use crate::pages::delete_page;
+use crate::pages::grant;
 use crate::range::outside;
 use tables::Change;
 use tables::Edit;
@@ -67,15 +68,8 @@ fn verdict(view: View, call: Call, size: usize) -> Verdict
     let kind = call.kind;
     match kind {
         Kind::Create => create(view, call),
-        Kind::DeletePage => owner_step(view, call, Edit::Deleted),
-        Kind::Grant => owner_step(
-            view,
-            call,
-            Edit::Granted {
-                station: call.other,
-                right: call.right,
-            },
-        ),
+        Kind::DeletePage => delete_page(view, call),
+        Kind::Grant => grant(view, call),
         Kind::Read => read_page(view, call),
         Kind::Write => write_page(view, call, size),
         Kind::MakeCopy => make_copy(view, call),

@@ -113,6 +113,8 @@ pub enum Work {
     Nothing,
     // Zeros into a frame.
     Clear { frame: u8 },
+    // Zeros into the frame of each copy of the page that has one.
+    ClearPage,
     // A frame's bytes into another.
     Duplicate { from: u8, to: u8 },
     // A write's bytes into each CURRENT copy of the page.

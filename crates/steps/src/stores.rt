@@ -7,14 +7,15 @@ use tables::Page;
 ghost use mathlib.Core.Path.{_≡_};
 ghost use mathlib.Core.Bool.{true};
 ghost use mathlib.Core.List.{[], _∷_, _++_};
-ghost use Prim.Native.Nat.{ℕ, _+_, _<_, _≤_};
-ghost use lib.ListN.{length, getD};
+ghost use Prim.Native.Nat.{_+_, _≤_};
+ghost use lib.ListN.{length};
 ghost use denote.Ref.{ptr};
-ghost use Rattle.tables.specs.Model.{noCopyEntry, inUse};
+ghost use Rattle.tables.specs.Model.{inUse};
 ghost use Rattle.steps.specs.Stores.{part, splice, block, lay, zeros, layEach};
+ghost use Rattle.steps.specs.Steps.{isPlaced};
 ghost use Rattle.steps.specs.Effects.{framePlace};
 ghost use Rattle.steps.specs.Promises.{bytesAt, pointerAt};
-ghost use Rattle.steps.specs.Private.{chosen, Room, PlaceIn};
+ghost use Rattle.steps.specs.Private.{chosen, Room, RoomEach, PlaceIn};
 
 // Lays all of src into dst from index at on.
 pub(crate) fn put(dst: &mut [u8], at: usize, src: &[u8])
@@ -141,7 +142,7 @@ pub(crate) fn part_at<'a>(fast: &'a [u8], slow: &'a [u8], place: Place) -> &'a [
     }
 }
 
-// Lays src into the copy's frame where the copy is one of these.
+// Lays src into the copy's frame where `which` names the copy.
 fn lay_copy(
     fast: &mut [u8],
     slow: &mut [u8],
@@ -161,7 +162,7 @@ fn lay_copy(
     }
 }
 
-// Lays src into the frame of each of these copies of the page.
+// Lays src into the frame of each copy of the page that `which` names.
 pub(crate) fn lay_each(
     fast: &mut [u8],
     slow: &mut [u8],
@@ -171,7 +172,7 @@ pub(crate) fn lay_each(
     offset: usize,
     src: &[u8],
 )
-    requires { ⌜ ((i : ℕ) → i < length (inUse page) → chosen which (getD (page .copies) i noCopyEntry) ≡ true → Room (now fast) (now slow) p (getD (page .copies) i noCopyEntry .frame)) ⌝ }
+    requires { ⌜ RoomEach (chosen which) (now fast) (now slow) p page ⌝ }
     requires { ⌜ offset + length (now src) ≤ 64 ⌝ }
     ensures { λ _. ⌜ now (fast .exit) ++ now (slow .exit) ≡ layEach (chosen which) (now (fast .entry) ++ now (slow .entry)) (inUse page) offset (now (src .entry)) ⌝ }
 {
@@ -182,4 +183,13 @@ pub(crate) fn lay_each(
         lay_copy(fast, slow, p, c, which, offset, src);
         j += 1;
     }
+}
+
+// Sets the frame of each copy of the page that has one to zeros, in one pass.
+pub(crate) fn clear_page(fast: &mut [u8], slow: &mut [u8], p: usize, page: Page)
+    requires { ⌜ RoomEach isPlaced (now fast) (now slow) p page ⌝ }
+    ensures { λ _. ⌜ now (fast .exit) ++ now (slow .exit) ≡ layEach isPlaced (now (fast .entry) ++ now (slow .entry)) (inUse page) 0 zeros ⌝ }
+{
+    let zeros = [0u8; 64];
+    lay_each(fast, slow, p, page, Which::Placed, 0, &zeros);
 }

@@ -107,7 +107,8 @@ sound-after t p c h e a = of-sound (withPage t p (changed (pageAt t p) c)) (by c
         fewer t p h s (changed (pageAt t p) Staled) (of-standing (staled-ok g a)) (λ f l. rw (staled-on g f) (le-refl _))
     by (Placed x) a =
         let g = up (a .stands) in
-        onto t p h s (changed (pageAt t p) (Placed x)) x (of-standing (placed-ok g x (a .onto .in-range) small)) (a .onto .unused) (placed-on g x)
+        onto t p h s (changed (pageAt t p) (Placed x)) x (of-standing (placed-ok g x (a .onto .in-range) small)) (a .onto .unused)
+        (λ f. omega (arith, placed-on g x f))
     by (Added x r) a =
         let g = has (a .from-in) in
         onto t p h s (changed (pageAt t p) (Added x r)) x
@@ -115,7 +116,7 @@ sound-after t p c h e a = of-sound (withPage t p (changed (pageAt t p) c)) (by c
         (λ f. rw (added-on g x r f (a .room)) (le-refl _))
     by (Removed k) a =
         let g = has (a .in-use) in
-        fewer t p h s (changed (pageAt t p) (Removed k)) (of-standing (removed-ok g k a)) (λ f l. removed-on g k f (a .in-use))
+        fewer t p h s (changed (pageAt t p) (Removed k)) (of-standing (removed-ok g k a)) (λ f l. omega (arith, removed-on g k f (a .in-use)))
     by (Marked k b) a =
         let g = has (a .in-use) in
         fewer t p h s (changed (pageAt t p) (Marked k b)) (of-standing (marked-ok g k b a)) (λ f l. rw (marked-on g k b f (a .in-use)) (le-refl _))

@@ -234,17 +234,20 @@ module _ {limit : ℕ} {g : Page} (s : StandingPage limit g) where
       rw (getD-take (g .n) (g .copies) k noCopyEntry h) at (count-set (onFrame f) (inUse g) k c noCopyEntry (rw (length-in-use s) h)) in
       rw (in-use-marked g k b h) (omega arith)
 
-  -- with one copy fewer, no more than before
-  pub removed-on : (k f : ℕ) → k < g .n → count (onFrame f) (inUse (changed g (Removed k))) ≤ count (onFrame f) (inUse g)
+  -- without copy k, one fewer where that was
+  pub removed-on : (k f : ℕ) → k < g .n
+      → count (onFrame f) (inUse (changed g (Removed k))) + cond (onFrame f (getD (g .copies) k noCopyEntry)) 1 0 ≡ count (onFrame f) (inUse g)
   removed-on k f h =
-      let u = count-without (onFrame f) (inUse g) k noCopyEntry (rw (length-in-use s) h) in
-      rw (in-use-removed g (s .copies-long) k h (s .most)) (omega arith)
+      rw (in-use-removed g (s .copies-long) k h (s .most), ← getD-take (g .n) (g .copies) k noCopyEntry h)
+      (count-without (onFrame f) (inUse g) k noCopyEntry (rw (length-in-use s) h))
 
-  -- with a copy placed on frame x, at most one more there
-  pub placed-on : (x f : ℕ) → count (onFrame f) (inUse (changed g (Placed x))) ≤ count (onFrame f) (inUse g) + cond (eqb x f) 1 0
+  -- with copy 0 placed on frame x, one fewer where it was, and one more there
+  pub placed-on : (x f : ℕ)
+      → count (onFrame f) (inUse (changed g (Placed x))) + cond (onFrame f (getD (g .copies) 0 noCopyEntry)) 1 0
+      ≡ count (onFrame f) (inUse g) + cond (eqb x f) 1 0
   placed-on x f =
-      let u = count-set (onFrame f) (inUse g) 0 (newCopy x true) noCopyEntry (rw (length-in-use s) (s .some)) in
-      rw (in-use-placed g x (s .some)) (omega arith)
+      rw (in-use-placed g x (s .some), ← getD-take (g .n) (g .copies) 0 noCopyEntry (s .some))
+      (count-set (onFrame f) (inUse g) 0 (newCopy x true) noCopyEntry (rw (length-in-use s) (s .some)))
 
   -- with a copy more on frame x, one more there
   pub added-on : (x : ℕ) (r : Bool) (f : ℕ) → g .n < 8 → count (onFrame f) (inUse (changed g (Added x r))) ≡ count (onFrame f) (inUse g) + cond (eqb x f) 1 0

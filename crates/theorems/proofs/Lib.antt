@@ -9,3 +9,4 @@ pub mod Whole
 pub mod Caller
 pub mod Refusals
 pub mod Searched
+pub mod Clean

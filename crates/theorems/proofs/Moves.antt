@@ -1,5 +1,5 @@
 -- The calls that the flat memory passes over leave every page alike: copies are made, deleted and marked, and nothing that it holds changes.
-use Prim.Native.Nat.{ℕ, _+_, _*_, _<_}
+use Prim.Native.Nat.{ℕ, _+_, _*_, _≤_, _<_}
 use mathlib.Core.Path.{_≡_, refl, sym, _∙_, subst}
 use mathlib.Core.Logic.{_≢_}
 use mathlib.Core.Bool.{Bool, true, false, not, _&&_, cond, true≢false}
@@ -8,7 +8,7 @@ use native.Mathlib.Omega.{arith}
 use lib.ListN.{length, take, set}
 use lib.Seq.{getD-take}
 use lib.Dec.{leb, eqb}
-use borrow.Author.Tests.{leb-false, eqb-true, eqb-false, ne-eqb, not-false}
+use borrow.Author.Tests.{leb-false, eqb-true, eqb-false, eq-eqb, ne-eqb, not-false}
 use Rattle.tables.specs.declared.Copy.{Copy}
 use Rattle.tables.specs.declared.Page.{Page}
 use Rattle.tables.specs.declared.Edit.{Edit}
@@ -16,26 +16,27 @@ use Rattle.tables.specs.declared.Edit.the-variants.{Placed, Added, Removed, Mar
 use Rattle.tables.specs.Lists.{count}
 use Rattle.tables.specs.Numbers.{outOfRange, noPage, noCopy, frameHeld, eightCopies, lastRecent, stale, noFrame}
 use Rattle.tables.specs.Model.{frames, isNull, inUse, absent, pageAt, noCopyEntry, onFrame}
-use Rattle.tables.specs.Rules.{uses, free}
+use Rattle.tables.specs.Rules.{uses, free, copyRule}
 use Rattle.tables.specs.Search.{isFree}
 use Rattle.tables.specs.Register.{registered}
 use Rattle.tables.specs.Changes.{withCopies, newCopy, markedCopy, changed}
 use Rattle.tables.proofs.RuleLaws.{StandingPage, not-absent, length-in-use, copy-at, Sound, sound-of}
-use Rattle.tables.proofs.UsesLaws.{uses-at, other-frame}
+use Rattle.tables.proofs.UsesLaws.{uses-at, uses-two, other-frame}
 use Rattle.tables.proofs.RegisterLaws.{registered-free}
-use Rattle.tables.proofs.ChangeLaws.{in-use-marked, in-use-placed, added, in-use-added, in-use-removed}
+use Rattle.tables.proofs.ChangeLaws.{without, all-without, in-use-marked, in-use-placed, added, in-use-added, in-use-removed}
 use Rattle.tables.proofs.Allowed.{RemoveOk}
-use Rattle.tables.proofs.PageChanges.{removed-ok}
+use Rattle.tables.proofs.PageChanges.{removed-ok, removed-on}
 use Rattle.steps.specs.declared.Kind.the-variants.{MakeCopy, DeleteCopy, SetCurrent, RemoveCurrent, LookPage, LookFrame}
 use Rattle.steps.specs.declared.Call.{Call}
 use Rattle.steps.specs.declared.Work.the-variants.{Clear, Duplicate}
 use Rattle.steps.specs.Kinds.{names, code, among}
 use Rattle.steps.specs.Calls.{nameOutside}
-use Rattle.steps.specs.Stores.{lay, held, zeros}
+use Rattle.steps.specs.Stores.{block, lay, held, zeros}
 use Rattle.steps.specs.Steps.{Outcome, Plan, laying, numbered, copyAt, recents, copying, perform, decideOn}
 use Rattle.steps.specs.Effects.{laidIn, State, joined, carriedOut}
 use Rattle.steps.proofs.Blocks.{block-lay-whole, block-lay-other}
-use Rattle.steps.proofs.DecideLaws.{page-near}
+use Rattle.steps.proofs.ClearLaws.{on}
+use Rattle.steps.proofs.DecideLaws.{page-near, removed-placed}
 use Rattle.steps.proofs.StepLaws.{joined-long, page-stands, length-held}
 use Rattle.theorems.specs.Flat.{Flat, Slot, gone, here, slotAt, silent, reactAs}
 use Rattle.theorems.specs.Demand3.{Holds}
@@ -58,11 +59,16 @@ module _ {limit : ℕ} {g : Page} (d : StandingPage limit g) (st : List ℕ) (k 
       subst (λ (c : Copy). HoldsOne st c bs) (getD-take (g .n) (g .copies) k noCopyEntry less)
       (holds-at st bs (inUse g) k noCopyEntry (rw (length-in-use d) less) e)
 
-  removed-alike : RemoveOk g k → (x : Slot) → AlikeSlot st g x → AlikeSlot st (changed g (Removed k)) x
+  -- without it, and in stores that have the other copies' frames as they were
+  removed-alike : RemoveOk g k → (st′ : List ℕ)
+      → ((y : ℕ) → y < limit → 1 ≤ count (onFrame y) (inUse (changed g (Removed k))) → block st′ y ≡ block st y)
+      → (x : Slot) → AlikeSlot st g x → AlikeSlot st′ (changed g (Removed k)) x
   unfolding changed
-  removed-alike a x =
-      recopied-alike st st g _ _ x (not-absent d) (not-absent (removed-ok d k a)) (λ bs e.
-      rw (in-use-removed g (d .copies-long) k (a .in-use) (d .most)) (holds-without st bs (inUse g) k e))
+  removed-alike a st′ kept x =
+      let used = in-use-removed g (d .copies-long) k (a .in-use) (d .most) in
+      recopied-alike st st′ g _ _ x (not-absent d) (not-absent (removed-ok d k a)) (λ bs e.
+      rw used (holds-kept limit (g .n) st st′ bs (without (inUse g) k) (all-without (copyRule limit (g .n)) (inUse g) k (d .copies-ok)) (rw used at kept)
+      (holds-without st bs (inUse g) k e)))
 
   marked-alike : k < g .n → (b : Bool) (x : Slot) → AlikeSlot st g x → AlikeSlot st (changed g (Marked k b)) x
   unfolding changed
@@ -148,13 +154,40 @@ module _ (s : State) (f : Flat) (i : Inv s f) (c : Call) (bs : List ℕ) where
       alone (nameOutside c) outOfRange refl (λ e. alone-numbered page (c .copy) (λ some less.
       passed-over (moved (page-near c e) some (Marked (c .copy) false) (λ d. marked-alike d (joined s) (c .copy) less false))))
 
+  -- copy k of the page deleted, and its frame cleared, which no other copy has
+  deleted : c .page < 64 → absent page ≡ false → RemoveOk page (c .copy)
+      → Same (applied s (c .page) (Removed (c .copy)) (lay (joined s) (copyAt page (c .copy) .frame) 0 zeros)) f
+  deleted near some a =
+      page-moved s f i (c .page) near (Removed (c .copy)) _
+      (removed-alike d (joined s) (c .copy) a _ (λ y l used. others y (λ e.
+      omega (arith, left y e, once y l, uses-at y (s .tables .pages) (c .page)))) (slotAt f (c .page)) (i .same .alike (c .page) near))
+      (λ q d′ y l used. others y (λ e. omega (arith, left y e, once y l, uses-two y (s .tables .pages) (c .page) q (λ e. d′ (sym e)))))
+    where
+      d : StandingPage (frames (s .tables)) page
+      d = page-stands (i .good) (c .page) near some
+
+      once : (y : ℕ) → y < frames (s .tables) → uses y (s .tables .pages) ≤ 1
+      once = sound-of (s .tables) (i .good .tables-sound) .once
+
+      x : ℕ
+      x = copyAt page (c .copy) .frame
+
+      -- its frame has one copy fewer
+      left : (y : ℕ) → x ≡ y → on y (changed page (Removed (c .copy))) + 1 ≡ on y page
+      left y e = rw (eq-eqb x y e) at (removed-on d (c .copy) y (a .in-use))
+
+      low : x < frames (s .tables)
+      low = copy-at d (c .copy) (a .in-use) .placed (removed-placed d (c .copy) a)
+
+      others : (y : ℕ) → x ≢ y → block (lay (joined s) x 0 zeros) y ≡ block (joined s) y
+      others = block-lay-other (joined s) x (omega (arith, low, joined-long (i .good))) 0 zeros (omega arith)
+
   pub delete-copy-agrees : CallAgrees s f (ofKind DeleteCopy c) bs
   unfolding decideOn perform reactAs names code among laidIn
   delete-copy-agrees =
       alone (nameOutside c) outOfRange refl (λ e. alone-numbered page (c .copy) (λ some less.
       alone (copyAt page (c .copy) .recent && eqb (recents page) 1) lastRecent refl (λ last.
-      passed-over (moved (page-near c e) some (Removed (c .copy)) (λ d.
-      removed-alike d (joined s) (c .copy) (record { in-use = less; not-last = last }))))))
+      passed-over (deleted (page-near c e) some (record { in-use = less; not-last = last })))))
 
   -- on a free frame, which no page has
   module _ (near : c .page < 64) (some : absent page ≡ false) (less : c .copy < page .n) (in-range : c .frame < frames (s .tables))

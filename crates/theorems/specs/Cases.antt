@@ -9,10 +9,10 @@ use Rattle.tables.specs.Rules.{uses, standingRule, absentRule, pageRule, alone,
 use Rattle.tables.specs.Search.{inCopies, inPages}
 use Rattle.tables.specs.Register.{rightRegister, vacated, occupied}
 use Rattle.tables.specs.Changes.{created, closeGap, changed, after}
-use Rattle.steps.specs.Stores.{part, splice, fits, layEach}
+use Rattle.steps.specs.Stores.{part, splice, zeros, fits, layEach}
 use Rattle.steps.specs.Kinds.{names, kinds, code, among, leastLength, mostLength, argument, callOf}
 use Rattle.steps.specs.Steps.{Outcome, firstCurrent, perform, decideOn}
-use Rattle.steps.specs.Effects.{entries, laidIn, shownOf, State, Result, step}
+use Rattle.steps.specs.Effects.{entries, laidIn, shownOf, State, joined, Result, step}
 use Rattle.messages.specs.Messages.{parse}
 use Rattle.messages.specs.Replies.{reply}
 use Rattle.messages.specs.Run.{Sent, split, messagesOf, turnsOf, endOf, answer, Run, run, replies}
@@ -111,6 +111,37 @@ fileOf c = file₁ ++ flatten (c .messages)
 pub starred : map (λ (c : Case). repliesOf state₀ (fileOf c)) cases ≡ map (λ (c : Case). replies₁ ++ c .answers) cases
 unfolding runOn flatten
 starred = refl
+
+-- ---- document 02, request [2]: what deletes lay and leave
+
+-- Copies are made on frames 4 and 1; copy 0, which is on frame 0, is deleted; copy 2, which is none any more; the page, by a station that does
+-- not own it and by its owner; page 6 is created and deleted with its null copy.
+abbrev pub deleting : Case
+deleting =
+    ((0 ∷ 5 ∷ 1 ∷ 6 ∷ 5 ∷ 0 ∷ 4 ∷ []) ∷ (0 ∷ 5 ∷ 1 ∷ 6 ∷ 5 ∷ 0 ∷ 1 ∷ []) ∷ (0 ∷ 4 ∷ 1 ∷ 7 ∷ 5 ∷ 0 ∷ []) ∷ (0 ∷ 4 ∷ 1 ∷ 7 ∷ 5 ∷ 2 ∷ [])
+    ∷ (0 ∷ 4 ∷ 1 ∷ 2 ∷ 4 ∷ 5 ∷ []) ∷ (0 ∷ 4 ∷ 1 ∷ 2 ∷ 3 ∷ 5 ∷ []) ∷ (0 ∷ 4 ∷ 1 ∷ 1 ∷ 3 ∷ 6 ∷ []) ∷ (0 ∷ 4 ∷ 1 ∷ 2 ∷ 3 ∷ 6 ∷ []) ∷ [])
+    ↝ (laying 64 ∷ laying 64 ∷ laying 64 ∷ refused 12 ∷ refused 10 ∷ laying 128 ∷ laying 0 ∷ laying 0 ∷ [])
+
+pub deleting-replies : repliesOf state₀ (fileOf deleting) ≡ replies₁ ++ deleting .answers
+unfolding runOn flatten
+deleting-replies = refl
+
+-- frames 0, 1 and 4 are cleared, and the others are as they were
+pub deleting-stores : joined (runOn state₀ (fileOf deleting) .final)
+    ≡ (zeros ++ (zeros ++ replicate 128 0xEE)) ++ (zeros ++ replicate 192 0xDD)
+unfolding runOn flatten
+deleting-stores = refl
+
+-- a page with eight copies: 512 bytes laid
+abbrev pub deleting-eight : Case
+deleting-eight =
+    ((0 ∷ 5 ∷ 1 ∷ 6 ∷ 5 ∷ 0 ∷ 1 ∷ []) ∷ (0 ∷ 5 ∷ 1 ∷ 6 ∷ 5 ∷ 0 ∷ 2 ∷ []) ∷ (0 ∷ 5 ∷ 1 ∷ 6 ∷ 5 ∷ 0 ∷ 3 ∷ []) ∷ (0 ∷ 5 ∷ 1 ∷ 6 ∷ 5 ∷ 0 ∷ 4 ∷ [])
+    ∷ (0 ∷ 5 ∷ 1 ∷ 6 ∷ 5 ∷ 0 ∷ 5 ∷ []) ∷ (0 ∷ 5 ∷ 1 ∷ 6 ∷ 5 ∷ 0 ∷ 6 ∷ []) ∷ (0 ∷ 5 ∷ 1 ∷ 6 ∷ 5 ∷ 0 ∷ 7 ∷ []) ∷ (0 ∷ 4 ∷ 1 ∷ 2 ∷ 3 ∷ 5 ∷ []) ∷ [])
+    ↝ (laying 64 ∷ laying 64 ∷ laying 64 ∷ laying 64 ∷ laying 64 ∷ laying 64 ∷ laying 64 ∷ (0 ∷ 4 ∷ 1 ∷ 0 ∷ 2 ∷ 0 ∷ []) ∷ [])
+
+pub eight-replies : repliesOf state₀ (fileOf deleting-eight) ≡ replies₁ ++ deleting-eight .answers
+unfolding runOn flatten
+eight-replies = refl
 
 -- ---- the flat memory beside the worked example, a read answered 11 after it and a delete by another station
 

@@ -3,21 +3,21 @@
 use Prim.Native.Nat.{ℕ}
 use mathlib.Core.Path.{_≡_, refl, ap}
 use mathlib.Core.Bool.{Bool, true, false, _&&_, cond, false≢true}
-use mathlib.Core.List.{List, [], _∷_, map, dropLast}
-use lib.ListN.{length, take, drop}
+use mathlib.Core.List.{List, [], _∷_, _++_, map, dropLast}
+use lib.ListN.{length, take, drop, getD, replicate}
 use lib.Dec.{eqb}
 use Rattle.tables.specs.Numbers.{noPage, nothingCurrent}
-use Rattle.tables.specs.Model.{absent, inUse, pageAt}
+use Rattle.tables.specs.Model.{absent, inUse, pageAt, freshTables}
 use Rattle.steps.specs.declared.Call.{Call}
 use Rattle.steps.specs.Kinds.{offset, bytes, copy, frame, names, kinds, code, among, has, argument, callOf}
-use Rattle.steps.specs.Stores.{splice, lay}
-use Rattle.steps.specs.Steps.{Outcome, refuse, accept, firstCurrent}
+use Rattle.steps.specs.Stores.{part, splice, block, lay, zeros}
+use Rattle.steps.specs.Steps.{Outcome, refuse, accept, copyAt, firstCurrent}
 use Rattle.steps.specs.Effects.{State, joined, Result, left}
 use Rattle.messages.specs.declared.Parsed.{Parsed}
 use Rattle.messages.specs.declared.Parsed.the-variants.{Refused, Asked}
 use Rattle.messages.specs.Messages.{parse}
 use Rattle.messages.specs.Replies.{reply}
-use Rattle.messages.specs.Run.{Sent, split, messagesOf, asked, Turn, bytesOf}
+use Rattle.messages.specs.Run.{Sent, cut, whole, split, messagesOf, asked, Turn, bytesOf}
 use Rattle.theorems.specs.Flat.{none, reactAs, reactTo, Answer}
 use Rattle.theorems.specs.Demand3.{sentIn, elevens, flatAfter, flatAnswers, runAnswers, dues}
 use Rattle.theorems.specs.Cases.{state₀, file₁, replies₁, rightTurn}
@@ -188,10 +188,10 @@ seven-messages = refl
 
 -- the tables as the right kernel leaves them, with other stores
 abbrev pub withStores : Outcome Result → List ℕ → ℕ → Outcome Result
-withStores (refuse n) st cut = refuse n
-withStores (accept r) st cut =
+withStores (refuse n) st p = refuse n
+withStores (accept r) st p =
     accept (record {
-      state = record { tables = r .state .tables; fast = take cut st; slow = drop cut st };
+      state = record { tables = r .state .tables; fast = take p st; slow = drop p st };
       laid = r .laid;
       data-out = r .data-out;
     })
@@ -229,3 +229,76 @@ pub trusting-run : runSide trusting
     ≡ (record { number = 0; bytes = [] } ∷ record { number = 0; bytes = [] } ∷ record { number = 0; bytes = 0x41 ∷ 0x37 ∷ 0xEE ∷ [] } ∷ [])
 unfolding turnsBy messagesOf split rightTurn parse names kinds code among argument callOf runAnswers
 trusting-run = refl
+
+-- ---- document 02, request [2]: wrong deletes, which leave bytes of a deleted page
+
+unfoldable pub endBy : Kernel → State → List Sent → State
+endBy k s [] = s
+endBy k s (x ∷ xs) = endBy k (left s (k s x)) xs
+
+-- the right kernel, but for the stores st that a delete of page 5 leaves
+abbrev pub deleting-to : (State → Outcome Result → List ℕ) → Kernel
+deleting-to stores s x = cond (deletes x) (withStores (rightTurn s x) (stores s (rightTurn s x)) (length (s .fast))) (rightTurn s x)
+  where
+    deletes : Sent → Bool
+    deletes cut = false
+    deletes (whole m) = eqb (getD m 1 0) 2
+
+-- With P = 2 and S = 1, page 5 is made, copied to frame 0, set current and written, so that its bytes begin with 9; it is copied to frame 2, and
+-- deleted.
+abbrev pub state₄ : State
+state₄ = record { tables = freshTables 2 1; fast = replicate 128 0xEE; slow = replicate 64 0xDD }
+
+abbrev pub file₄ : List ℕ
+file₄ =
+    0 ∷ 4 ∷ 1 ∷ 1 ∷ 3 ∷ 5 ∷ 0 ∷ 5 ∷ 1 ∷ 6 ∷ 5 ∷ 0 ∷ 0 ∷ 0 ∷ 4 ∷ 1 ∷ 8 ∷ 5 ∷ 0 ∷ 0 ∷ 6 ∷ 1 ∷ 5 ∷ 3 ∷ 5 ∷ 0 ∷ 9 ∷ 0 ∷ 5 ∷ 1 ∷ 6 ∷ 5 ∷ 0 ∷ 2
+    ∷ 0 ∷ 4 ∷ 1 ∷ 2 ∷ 3 ∷ 5 ∷ []
+
+-- the first byte of each frame at its end
+abbrev pub firsts : Kernel → List ℕ
+firsts k = map (λ f. getD (block (joined (endBy k state₄ (messagesOf file₄))) f) 0 1) (0 ∷ 1 ∷ 2 ∷ [])
+
+pub right-clears : firsts rightTurn ≡ (0 ∷ 0xEE ∷ 0 ∷ [])
+unfolding endBy messagesOf split rightTurn parse names kinds code among argument callOf part
+right-clears = refl
+
+-- "The freed frame's bytes remain as they are", which document 01 said
+abbrev pub remaining : Kernel
+remaining = deleting-to (λ s o. joined s)
+
+pub remaining-leaves : firsts remaining ≡ (9 ∷ 0xEE ∷ 9 ∷ [])
+unfolding endBy messagesOf split rightTurn parse names kinds code among argument callOf part
+remaining-leaves = refl
+
+-- only slow frames are filled
+abbrev pub slow-only : Kernel
+slow-only = deleting-to (λ s o. s .fast ++ left s o .slow)
+
+pub slow-only-leaves : firsts slow-only ≡ (9 ∷ 0xEE ∷ 0 ∷ [])
+unfolding endBy messagesOf split rightTurn parse names kinds code among argument callOf part
+slow-only-leaves = refl
+
+-- only the first frame of a deleted page is filled
+abbrev pub first-only : Kernel
+first-only = deleting-to (λ s o. lay (joined s) (copyAt (pageAt (s .tables) 5) 0 .frame) 0 zeros)
+
+pub first-only-leaves : firsts first-only ≡ (0 ∷ 0xEE ∷ 9 ∷ [])
+unfolding endBy messagesOf split rightTurn parse names kinds code among argument callOf part splice
+first-only-leaves = refl
+
+-- a frame that no copy ever had is filled too
+abbrev pub over-filling : Kernel
+over-filling = deleting-to (λ s o. lay (joined (left s o)) 1 0 zeros)
+
+pub over-filling-leaves : firsts over-filling ≡ (0 ∷ 0 ∷ 0 ∷ [])
+unfolding endBy messagesOf split rightTurn parse names kinds code among argument callOf part splice
+over-filling-leaves = refl
+
+-- the first of them answers as the flat memory does, like the others, whose replies are the same
+abbrev pub answers-alike : Kernel → Type 0
+answers-alike k =
+    flatAnswers none (messagesOf file₄) (elevens 70 (turnsBy k state₄ (messagesOf file₄))) ≡ runAnswers 70 (turnsBy k state₄ (messagesOf file₄))
+
+pub remaining-unseen : answers-alike remaining
+unfolding turnsBy messagesOf split rightTurn parse names kinds code among argument callOf flatAnswers flatAfter reactAs reactTo runAnswers
+remaining-unseen = refl

@@ -2,6 +2,7 @@ pub mod Flat
 pub mod Demand1
 pub mod Demand3
 pub mod Held
+pub mod Clean
 pub mod Searched
 pub mod Cases
 pub mod Impostors

@@ -1,9 +1,10 @@
 //! The cases of document 01 as call files, each with the whole list of its replies: the worked
 //! example, the starred cases on its end state, and for each trap and impostor a file whose replies
-//! it gets wrong.
+//! it gets wrong. Then the deletes of request [2] of document 02, each also with the bytes that it
+//! leaves in the stores.
 
 use crate::kernel::Kernel;
-use crate::model::{Lent, Reader, Tables, Tally, FRAME, PROGRAM_FRAMES, SLIP};
+use crate::model::{frame_bytes, Lent, Reader, Tables, Tally, FRAME, PROGRAM_FRAMES, SLIP};
 use reel::lines;
 
 /// A call file that goes on from the worked example.
@@ -27,7 +28,7 @@ pub const CALLS: [&str; 6] = [
 ];
 pub const REPLIES: [&str; 6] = [
     DONE,
-    COPIED,
+    ONE_FRAME,
     DONE,
     "00 04 01 00 00 02",
     "00 07 01 00 00 00 41 37 00",
@@ -36,8 +37,8 @@ pub const REPLIES: [&str; 6] = [
 
 /// Accepted, nothing laid and nothing told.
 const DONE: &str = "00 04 01 00 00 00";
-/// Accepted, 64 bytes laid.
-const COPIED: &str = "00 04 01 00 00 40";
+/// Accepted, 64 bytes laid: a frame copied to, or freed and filled with zeros.
+const ONE_FRAME: &str = "00 04 01 00 00 40";
 
 pub const STARRED: [Case; 11] = [
     Case {
@@ -53,7 +54,7 @@ pub const STARRED: [Case; 11] = [
     Case {
         name: "frame 7 copied to: accepted",
         calls: &["copy 5 0 7"],
-        replies: &[COPIED],
+        replies: &[ONE_FRAME],
     },
     Case {
         name: "frame 8: 7",
@@ -83,7 +84,7 @@ pub const STARRED: [Case; 11] = [
     Case {
         name: "copy 1 made, then a write: set current 1 gives 16",
         calls: &["copy 5 0 1", "write 3 5 0 01", "current 5 1"],
-        replies: &[COPIED, "00 04 01 00 00 01", "00 04 01 10 00 00"],
+        replies: &[ONE_FRAME, "00 04 01 00 00 01", "00 04 01 10 00 00"],
     },
     Case {
         name: "remove current 0, then read: 11",
@@ -103,7 +104,7 @@ pub const EXPOSING: [Case; 13] = [
     Case {
         name: "a new copy takes its source's CURRENT mark",
         calls: &["copy 5 0 6", "look-page 5"],
-        replies: &[COPIED, "00 0B 01 00 00 00 02 00 01 01 06 00 01"],
+        replies: &[ONE_FRAME, "00 0B 01 00 00 00 02 00 01 01 06 00 01"],
     },
     Case {
         name: "stale marks spared when equal bytes are written",
@@ -114,7 +115,7 @@ pub const EXPOSING: [Case; 13] = [
             "current 5 1",
         ],
         replies: &[
-            COPIED,
+            ONE_FRAME,
             "00 04 01 00 00 02",
             "00 0B 01 00 00 00 02 00 01 01 06 00 00",
             "00 04 01 10 00 00",
@@ -130,7 +131,7 @@ pub const EXPOSING: [Case; 13] = [
             "read 3 5 0 5",
         ],
         replies: &[
-            COPIED,
+            ONE_FRAME,
             DONE,
             "00 04 01 00 00 06",
             DONE,
@@ -140,7 +141,7 @@ pub const EXPOSING: [Case; 13] = [
     Case {
         name: "last current spared for last recent",
         calls: &["copy 5 0 6", "delete-copy 5 0", "look-page 5"],
-        replies: &[COPIED, DONE, "00 08 01 00 00 00 01 06 00 01"],
+        replies: &[ONE_FRAME, ONE_FRAME, "00 08 01 00 00 00 01 06 00 01"],
     },
     Case {
         name: "last recent deleted where it is not current",
@@ -151,26 +152,19 @@ pub const EXPOSING: [Case; 13] = [
             "delete-copy 5 0",
             "delete-copy 5 1",
         ],
-        replies: &[COPIED, "00 04 01 00 00 01", DONE, "00 04 01 0F 00 00", DONE],
+        replies: &[
+            ONE_FRAME,
+            "00 04 01 00 00 01",
+            DONE,
+            "00 04 01 0F 00 00",
+            ONE_FRAME,
+        ],
     },
     Case {
         name: "a free frame's old bytes taken for zeros",
-        calls: &[
-            "copy 5 0 1",
-            "delete-copy 5 0",
-            "create 2 9",
-            "copy 9 0 0",
-            "current 9 0",
-            "read 2 9 0 3",
-        ],
-        replies: &[
-            COPIED,
-            DONE,
-            DONE,
-            COPIED,
-            DONE,
-            "00 07 01 00 00 00 00 00 00",
-        ],
+        // A frame that no copy ever had: a freed one is filled with zeros.
+        calls: &["create 2 9", "copy 9 0 1", "current 9 0", "read 2 9 0 3"],
+        replies: &[DONE, ONE_FRAME, DONE, "00 07 01 00 00 00 00 00 00"],
     },
     // The impostors.
     Case {
@@ -191,7 +185,7 @@ pub const EXPOSING: [Case; 13] = [
     Case {
         name: "drops moves",
         calls: &["copy 5 0 6", "current 5 1"],
-        replies: &[COPIED, DONE],
+        replies: &[ONE_FRAME, DONE],
     },
     Case {
         name: "serves the first message and then only acknowledges",
@@ -201,12 +195,205 @@ pub const EXPOSING: [Case; 13] = [
     Case {
         name: "invents bytes laid",
         calls: &["copy 5 0 6"],
-        replies: &[COPIED],
+        replies: &[ONE_FRAME],
     },
     Case {
         name: "a reader that reports the end too early",
         calls: &["read 3 5 0 1", "raw 00 00"],
         replies: &["00 05 01 00 00 00 41", "00 04 01 02 00 00"],
+    },
+];
+
+/// A case of deletes, and what it leaves in the stores.
+pub struct Deletes {
+    pub case: Case,
+    /// Of each of the program's eight frames `FIRST`, or the bytes at its front, in hexadecimal; all
+    /// behind these are zeros.
+    pub frames: [&'static str; 2 * PROGRAM_FRAMES as usize],
+}
+
+/// A frame that holds its first bytes, those of `unit`.
+const FIRST: &str = "first";
+const ZEROS: &str = "";
+/// The worked example's page 5.
+const PAGE: &str = "41 37";
+
+pub const DELETES: [Deletes; 13] = [
+    Deletes {
+        case: Case {
+            name: "delete copy, fast: 64 zeros, 64 laid",
+            calls: &["copy 5 0 6", "delete-copy 5 0"],
+            replies: &[ONE_FRAME, ONE_FRAME],
+        },
+        frames: [ZEROS, FIRST, FIRST, FIRST, FIRST, FIRST, PAGE, FIRST],
+    },
+    Deletes {
+        case: Case {
+            name: "delete copy, slow: 64 zeros, 64 laid",
+            calls: &["copy 5 0 6", "delete-copy 5 1"],
+            replies: &[ONE_FRAME, ONE_FRAME],
+        },
+        frames: [PAGE, FIRST, FIRST, FIRST, FIRST, FIRST, ZEROS, FIRST],
+    },
+    Deletes {
+        case: Case {
+            name: "delete copy of a stale copy: the copy that closes the gap keeps its bytes",
+            calls: &[
+                "copy 5 0 6",
+                "write 3 5 0 55",
+                "copy 5 0 2",
+                "delete-copy 5 1",
+                "look-page 5",
+            ],
+            replies: &[
+                ONE_FRAME,
+                "00 04 01 00 00 01",
+                ONE_FRAME,
+                ONE_FRAME,
+                "00 0B 01 00 00 00 02 00 01 01 02 00 01",
+            ],
+        },
+        frames: ["55 37", FIRST, "55 37", FIRST, FIRST, FIRST, ZEROS, FIRST],
+    },
+    Deletes {
+        case: Case {
+            name: "delete copy of a frame that is all zeros already: 64 laid",
+            calls: &["create 3 6", "copy 6 0 1", "copy 6 0 5", "delete-copy 6 0"],
+            replies: &[DONE, ONE_FRAME, ONE_FRAME, ONE_FRAME],
+        },
+        frames: [PAGE, ZEROS, FIRST, FIRST, FIRST, ZEROS, FIRST, FIRST],
+    },
+    Deletes {
+        case: Case {
+            name: "delete page with one copy: 64 zeros, 64 laid",
+            calls: &["delete-page 3 5"],
+            replies: &[ONE_FRAME],
+        },
+        frames: [ZEROS, FIRST, FIRST, FIRST, FIRST, FIRST, FIRST, FIRST],
+    },
+    Deletes {
+        case: Case {
+            name: "delete page with three copies, one stale, in both stores: 192 laid",
+            calls: &[
+                "copy 5 0 6",
+                "write 3 5 0 55",
+                "copy 5 0 1",
+                "delete-page 3 5",
+            ],
+            replies: &[
+                ONE_FRAME,
+                "00 04 01 00 00 01",
+                ONE_FRAME,
+                "00 04 01 00 00 C0",
+            ],
+        },
+        frames: [ZEROS, ZEROS, FIRST, FIRST, FIRST, FIRST, ZEROS, FIRST],
+    },
+    Deletes {
+        case: Case {
+            name: "delete page with eight copies: 512 laid, in two bytes",
+            calls: &[
+                "copy 5 0 1",
+                "copy 5 0 2",
+                "copy 5 0 3",
+                "copy 5 0 4",
+                "copy 5 0 5",
+                "copy 5 0 6",
+                "copy 5 0 7",
+                "delete-page 3 5",
+            ],
+            replies: &[
+                ONE_FRAME,
+                ONE_FRAME,
+                ONE_FRAME,
+                ONE_FRAME,
+                ONE_FRAME,
+                ONE_FRAME,
+                ONE_FRAME,
+                "00 04 01 00 02 00",
+            ],
+        },
+        frames: [ZEROS; 8],
+    },
+    Deletes {
+        case: Case {
+            name: "delete page with a null copy: nothing laid",
+            calls: &["create 2 9", "delete-page 2 9"],
+            replies: &[DONE, DONE],
+        },
+        frames: [PAGE, FIRST, FIRST, FIRST, FIRST, FIRST, FIRST, FIRST],
+    },
+    Deletes {
+        case: Case {
+            name: "a freed frame used anew and freed again",
+            calls: &[
+                "copy 5 0 6",
+                "delete-copy 5 1",
+                "create 2 9",
+                "copy 9 0 6",
+                "current 9 0",
+                "write 2 9 63 77",
+                "read 2 9 62 2",
+                "delete-page 2 9",
+            ],
+            replies: &[
+                ONE_FRAME,
+                ONE_FRAME,
+                DONE,
+                ONE_FRAME,
+                DONE,
+                "00 04 01 00 00 01",
+                "00 06 01 00 00 00 00 77",
+                ONE_FRAME,
+            ],
+        },
+        frames: [PAGE, FIRST, FIRST, FIRST, FIRST, FIRST, ZEROS, FIRST],
+    },
+    Deletes {
+        case: Case {
+            name: "delete copy refused 15: no zeros",
+            calls: &["delete-copy 5 0"],
+            replies: &["00 04 01 0F 00 00"],
+        },
+        frames: [PAGE, FIRST, FIRST, FIRST, FIRST, FIRST, FIRST, FIRST],
+    },
+    Deletes {
+        case: Case {
+            name: "delete copy of a null copy refused 15: no zeros",
+            calls: &["create 2 9", "delete-copy 9 0"],
+            replies: &[DONE, "00 04 01 0F 00 00"],
+        },
+        frames: [PAGE, FIRST, FIRST, FIRST, FIRST, FIRST, FIRST, FIRST],
+    },
+    Deletes {
+        case: Case {
+            name: "delete page refused 10: no zeros",
+            calls: &["copy 5 0 6", "delete-page 4 5"],
+            replies: &[ONE_FRAME, "00 04 01 0A 00 00"],
+        },
+        frames: [PAGE, FIRST, FIRST, FIRST, FIRST, FIRST, PAGE, FIRST],
+    },
+    Deletes {
+        case: Case {
+            name: "deletes refused 7, 9 and 12: no zeros",
+            calls: &[
+                "delete-page 16 5",
+                "delete-page 3 64",
+                "delete-copy 64 0",
+                "delete-page 3 6",
+                "delete-copy 6 0",
+                "delete-copy 5 1",
+            ],
+            replies: &[
+                "00 04 01 07 00 00",
+                "00 04 01 07 00 00",
+                "00 04 01 07 00 00",
+                "00 04 01 09 00 00",
+                "00 04 01 09 00 00",
+                "00 04 01 0C 00 00",
+            ],
+        },
+        frames: [PAGE, FIRST, FIRST, FIRST, FIRST, FIRST, FIRST, FIRST],
     },
 ];
 
@@ -236,7 +423,26 @@ impl Case {
     }
 }
 
-/// The program's unit with a reply buffer of this length; free frames hold old bytes.
+impl Deletes {
+    /// The stores that it leaves, fast and slow.
+    pub fn stores(&self) -> [Vec<u8>; 2] {
+        let first = unit(SLIP);
+        let tables = Tables::fresh(PROGRAM_FRAMES, PROGRAM_FRAMES);
+        let frames = (0..).zip(self.frames).map(|(frame, held)| match held {
+            FIRST => frame_bytes(&tables, &first.fast, &first.slow, frame).to_vec(),
+            front => {
+                let mut held = bytes(&format!("raw {front}"));
+                held.resize(FRAME, 0);
+                held
+            }
+        });
+        let frames: Vec<Vec<u8>> = frames.collect();
+        let (fast, slow) = frames.split_at(PROGRAM_FRAMES.into());
+        [fast.concat(), slow.concat()]
+    }
+}
+
+/// The program's unit with a reply buffer of this length; every frame holds old bytes.
 pub fn unit(room: usize) -> Lent {
     Lent {
         tables: Tables::fresh(PROGRAM_FRAMES, PROGRAM_FRAMES).to_raw(),

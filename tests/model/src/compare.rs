@@ -1,10 +1,12 @@
 //! The comparison of a kernel with the model, on every call and every byte.
 
+use crate::clean::Clean;
 use crate::flat::Demand3;
 use crate::gen::{self, Moves, Rng, DAMAGES, SHORT_SLIPS, SLIPS};
 use crate::kernel::{packed, Kernel, Modelled};
 use crate::model::{
-    self, Call, Lent, Reached, Reader, Refusal, Tables, ENTRIES, FRAME, RAW, RECORD, REGISTER, SLIP,
+    self, frame_bytes, Call, Lent, PageCopy, Reached, Reader, Refusal, Tables, ENTRIES, FRAME, RAW,
+    RECORD, REGISTER, SLIP,
 };
 use reel::words::{self, hex, WORDS};
 
@@ -12,7 +14,7 @@ use reel::words::{self, hex, WORDS};
 pub const LEAST: u64 = 100;
 
 /// States and events that a run should reach, counted message by message.
-pub const DEPTHS: [&str; 7] = [
+pub const DEPTHS: [&str; 15] = [
     "eight copies",
     "stale copies",
     "several current copies",
@@ -20,6 +22,14 @@ pub const DEPTHS: [&str; 7] = [
     "owner's right lowered",
     "frames used anew",
     "pages used anew",
+    "fast frames freed by delete copy",
+    "slow frames freed by delete copy",
+    "a page of several frames deleted",
+    "a page in both stores deleted",
+    "a page of eight frames deleted",
+    "a null copy's page deleted",
+    "a frame of zeros freed",
+    "a delete refused",
 ];
 
 #[derive(Default)]
@@ -28,7 +38,7 @@ pub struct Counts {
     /// How often each number was given: 0 to 18 by answers, 19 by fresh tables.
     pub numbers: [u64; WORDS.len()],
     pub depths: [u64; DEPTHS.len()],
-    /// Whole files run, and those of them on which demand 3 was checked.
+    /// Whole files run, and those of them on which demand 3 and the clean cards were checked.
     pub runs: u64,
     pub runs_from_fresh: u64,
     /// Calls that keep the replies of a part of a file.
@@ -242,6 +252,17 @@ impl Compare<'_> {
         for message in gen::shaped_sweep(&mut self.rng) {
             self.answer(&lent, &message)?;
         }
+        let zeros = Lent {
+            fast: vec![0; lent.fast.len()],
+            slow: vec![0; lent.slow.len()],
+            ..lent.clone()
+        };
+        for lent in [&lent, &zeros] {
+            for message in gen::shaped_deletes() {
+                self.answer(lent, &message)?;
+                self.run(lent, &message)?;
+            }
+        }
         for length in SHORT_SLIPS.into_iter().chain(SLIPS) {
             let out = self.rng.bytes(length);
             self.every_kind(&Lent {
@@ -322,19 +343,19 @@ impl Compare<'_> {
             0..=9 => {
                 let start = self.fresh_start();
                 let length = self.rng.pick(&[0, 3, 30, 300, 1500]);
-                self.moves(start, Some(Demand3::start()), length)
+                self.moves(Trial::from_fresh(start), length)
             }
             10 | 11 => {
                 let start = self.fresh_start();
                 let file = gen::nonsense(&mut self.rng);
-                let mut trial = Trial::new(start, Some(Demand3::start()));
+                let mut trial = Trial::from_fresh(start);
                 self.turns(&mut trial, &file)?;
                 self.whole_run(&trial)
             }
             12 | 13 => {
                 let start = gen::lawful(rng);
                 let length = rng.pick(&[10, 100]);
-                self.moves(start, None, length)
+                self.moves(Trial::new(start), length)
             }
             _ => {
                 let mut start = match rng.below(2) {
@@ -343,7 +364,7 @@ impl Compare<'_> {
                 };
                 gen::hinder(rng, &mut start);
                 let length = rng.below(12);
-                self.moves(start, None, length)
+                self.moves(Trial::new(start), length)
             }
         }
     }
@@ -357,14 +378,8 @@ impl Compare<'_> {
         start
     }
 
-    fn moves(
-        &mut self,
-        start: Lent,
-        demand3: Option<Demand3>,
-        length: usize,
-    ) -> Result<(), String> {
+    fn moves(&mut self, mut trial: Trial, length: usize) -> Result<(), String> {
         let mut moves = Moves::new(&mut self.rng);
-        let mut trial = Trial::new(start, demand3);
         for turn in 0..length {
             if self.counts.messages >= self.limit {
                 break;
@@ -390,16 +405,18 @@ impl Compare<'_> {
                 bytes.extend(self.rng.bytes(past));
             }
             self.rng.fill(&mut trial.lent.out);
-            let before = trial.tables();
-            trial.lent = self.answer(&trial.lent, &bytes)?;
+            let (before, lent) = (trial.tables(), trial.lent.clone());
+            trial.lent = self.answer(&lent, &bytes)?;
             trial.file.extend(message);
             trial.replies.extend(reply_in(&trial.lent.out));
-            if let Some(demand3) = &mut trial.demand3 {
+            let after = trial.tables();
+            if let Some((demand3, clean)) = &mut trial.promises {
                 let reply = reply_in(&trial.lent.out);
                 let checked = demand3.turn(&before, message, reply);
                 checked.map_err(|error| format!("{}\n  {error}", words::message(message)))?;
+                clean.turn(&after);
                 let accepted = reply[3] == 0;
-                trial.reach(&mut self.counts, &before, message, accepted);
+                trial.reach(&mut self.counts, &before, &lent, message, accepted);
             }
         }
         Ok(())
@@ -425,10 +442,11 @@ impl Compare<'_> {
             return Err("a run came to another end than its messages one by one".into());
         }
         self.whole_replies(trial)?;
-        if let Some(demand3) = &trial.demand3 {
+        if let Some((demand3, clean)) = &trial.promises {
             self.counts.runs_from_fresh += 1;
             let tables = Tables::from_raw(&end.tables).ok_or("a run left broken tables")?;
             demand3.end(&tables, &end.fast, &end.slow)?;
+            clean.end(&tables, &end.fast, &end.slow)?;
         }
         Ok(())
     }
@@ -477,21 +495,28 @@ struct Trial {
     /// The replies to it, one behind the other.
     replies: Vec<u8>,
     /// For a run from fresh tables.
-    demand3: Option<Demand3>,
+    promises: Option<(Demand3, Clean)>,
     frames_used: [bool; 256],
     pages_used: [bool; 256],
 }
 
 impl Trial {
-    fn new(start: Lent, demand3: Option<Demand3>) -> Trial {
+    fn new(start: Lent) -> Trial {
         Trial {
             lent: start.clone(),
             start,
             file: Vec::new(),
             replies: Vec::new(),
-            demand3,
+            promises: None,
             frames_used: [false; 256],
             pages_used: [false; 256],
+        }
+    }
+
+    fn from_fresh(start: Lent) -> Trial {
+        Trial {
+            promises: Some((Demand3::start(), Clean::start(&start))),
+            ..Trial::new(start)
         }
     }
 
@@ -501,15 +526,36 @@ impl Trial {
     }
 
     /// Counts the depths that a message found or reached.
-    fn reach(&mut self, counts: &mut Counts, before: &Tables, message: &[u8], accepted: bool) {
+    fn reach(
+        &mut self,
+        counts: &mut Counts,
+        before: &Tables,
+        lent: &Lent,
+        message: &[u8],
+        accepted: bool,
+    ) {
         let pages = || before.pages.iter().flatten();
         let anew = |used: &mut [bool; 256], number: u8| {
             accepted && std::mem::replace(&mut used[usize::from(number)], true)
         };
-        let (frame_anew, page_anew) = match Call::decode(message) {
+        let call = Call::decode(message);
+        let (frame_anew, page_anew) = match call {
             Ok(Call::MakeCopy { frame, .. }) => (anew(&mut self.frames_used, frame), false),
             Ok(Call::Create { page, .. }) => (false, anew(&mut self.pages_used, page)),
             _ => (false, false),
+        };
+        let is_delete = matches!(call, Ok(Call::DeletePage { .. } | Call::DeleteCopy { .. }));
+        let by_copy = matches!(call, Ok(Call::DeleteCopy { .. }));
+        let gone = match call {
+            Ok(call) if accepted => deleted(before, &call),
+            _ => Vec::new(),
+        };
+        let freed: Vec<u8> = gone.iter().filter_map(|copy| copy.frame).collect();
+        let fast = freed.iter().filter(|&&f| f < before.fast).count();
+        let slow = freed.len() - fast;
+        let is_zeros = |&frame: &u8| {
+            let held = frame_bytes(before, &lent.fast, &lent.slow, frame);
+            held.iter().all(|&byte| byte == 0)
         };
         let held = before.copies().filter(|(_, _, copy)| copy.frame.is_some());
         let reached = [
@@ -520,10 +566,31 @@ impl Trial {
             pages().any(|page| page.rights[usize::from(page.owner)] < 2),
             frame_anew,
             page_anew,
+            by_copy && fast > 0,
+            by_copy && slow > 0,
+            freed.len() > 1,
+            fast > 0 && slow > 0,
+            freed.len() == ENTRIES,
+            gone.len() > freed.len(),
+            freed.iter().any(is_zeros),
+            is_delete && !accepted,
         ];
         for (count, reached) in counts.depths.iter_mut().zip(reached) {
             *count += u64::from(reached);
         }
+    }
+}
+
+/// The copies that an accepted delete takes away.
+fn deleted(before: &Tables, call: &Call) -> Vec<PageCopy> {
+    let copies = |page: u8| {
+        let page = before.pages[usize::from(page)].as_ref();
+        page.map_or(&[][..], |page| &page.copies)
+    };
+    match *call {
+        Call::DeletePage { page, .. } => copies(page).to_vec(),
+        Call::DeleteCopy { page, copy } => vec![copies(page)[usize::from(copy)]],
+        _ => Vec::new(),
     }
 }
 

@@ -548,7 +548,7 @@ pub fn hinder(rng: &mut Rng, lent: &mut Lent) {
 // ---- Messages ----
 
 /// How much each kind of message is wanted, before a phase sets its own weights.
-const WEIGHTS: [usize; KINDS] = [1, 1, 6, 12, 16, 20, 6, 20, 5, 4, 4];
+const WEIGHTS: [usize; KINDS] = [1, 2, 6, 12, 16, 20, 6, 20, 5, 4, 4];
 
 /// The moves of one run, in phases that each have pages, stations and kinds of their own.
 pub struct Moves {
@@ -634,10 +634,7 @@ impl Moves {
                 station: any_station,
                 page,
             },
-            1 => Call::DeletePage {
-                station: owner,
-                page,
-            },
+            1 => self.delete_page(rng, tables, page),
             2 => Call::Grant {
                 station: owner,
                 page,
@@ -681,6 +678,26 @@ impl Moves {
             },
         }
     }
+
+    /// Deletes this page or, more often, one of those with the most copies, which frees many frames;
+    /// now and then not by the owner.
+    fn delete_page(&self, rng: &mut Rng, tables: &Tables, page: u8) -> Call {
+        let copies = |page: u8| {
+            let page = tables.pages[usize::from(page)].as_ref();
+            page.map_or(0, |page| page.copies.len())
+        };
+        let widest = self.pages.iter().copied().max_by_key(|&page| copies(page));
+        let page = match (rng.below(3), widest) {
+            (1.., Some(widest)) => widest,
+            _ => page,
+        };
+        let owner = tables.pages[usize::from(page)].as_ref().map(|p| p.owner);
+        let station = match (rng.below(8), owner) {
+            (1.., Some(owner)) => owner,
+            _ => rng.pick(&self.stations),
+        };
+        Call::DeletePage { station, page }
+    }
 }
 
 fn weighted(rng: &mut Rng, weights: &[usize]) -> usize {
@@ -717,7 +734,8 @@ fn recent(rng: &mut Rng, page: &Page) -> Option<u8> {
     (!rng.once_in(4)).then(|| rng.pick(&copies))
 }
 
-/// Mostly a free frame, and rather a low one, so that frames are used anew.
+/// Mostly a free frame, and rather the lowest or the highest, so that frames are used anew and pages
+/// stand in both stores.
 fn frame(rng: &mut Rng, tables: &Tables) -> u8 {
     let mut held = [false; 256];
     for (_, _, copy) in tables.copies() {
@@ -727,7 +745,8 @@ fn frame(rng: &mut Rng, tables: &Tables) -> u8 {
     let free: Vec<u8> = (0..all).filter(|&f| !held[usize::from(f)]).collect();
     match rng.below(12) {
         0 => rng.below(usize::from(all).max(1)) as u8,
-        1..=5 if !free.is_empty() => free[0],
+        1..=4 if !free.is_empty() => free[0],
+        5 | 6 if !free.is_empty() => free[free.len() - 1],
         _ if !free.is_empty() => rng.pick(&free),
         _ => rng.below(usize::from(all).max(1)) as u8,
     }
@@ -879,6 +898,17 @@ pub fn shaped_calls(rng: &mut Rng) -> [Call; KINDS] {
         Call::LookFrame { frame: 10 },
     ];
     calls
+}
+
+/// Every delete on `shaped` tables: of each page by each station, of each copy and of one that is
+/// not there.
+pub fn shaped_deletes() -> Vec<Vec<u8>> {
+    let mut calls = Vec::new();
+    for page in [0, 1, 2, 3, 5, 63] {
+        calls.extend((0..STATIONS as u8).map(|station| Call::DeletePage { station, page }));
+        calls.extend((0..=ENTRIES as u8).map(|copy| Call::DeleteCopy { page, copy }));
+    }
+    calls.iter().map(Call::encode).collect()
 }
 
 /// Every sweep over `shaped` tables: each L from 0 to 75 with each kind and each version, each

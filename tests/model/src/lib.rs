@@ -1,7 +1,8 @@
-//! An independent model of the reel page kernel, written from document 01 alone,
-//! and the comparison of the kernel with it.
+//! An independent model of the reel page kernel, written from document 01 and request [2] of
+//! document 02 alone, and the comparison of the kernel with it.
 
 pub mod cases;
+pub mod clean;
 pub mod compare;
 pub mod flat;
 pub mod gen;

@@ -36,14 +36,14 @@ fn main() -> ExitCode {
         }
     };
     for (number, (count, word)) in counts.numbers.iter().zip(WORDS).enumerate() {
-        println!("{number:4} {word:24} {count:9}");
+        println!("{number:4} {word:33} {count:9}");
     }
     for (count, depth) in counts.depths.iter().zip(DEPTHS) {
-        println!("     {depth:24} {count:9}");
+        println!("     {depth:33} {count:9}");
     }
     println!(
-        "{} whole files run, demand 3 checked on {} of them from fresh tables; {} parts of files \
-         with their replies kept",
+        "{} whole files run, demand 3 and the clean cards checked on {} of them from fresh tables; \
+         {} parts of files with their replies kept",
         counts.runs, counts.runs_from_fresh, counts.parts
     );
     let too_few = counts.too_few();

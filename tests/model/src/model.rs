@@ -1,5 +1,5 @@
-//! The model of document 01, in the order of the paper: tables and stores, steps,
-//! call files and replies, refusals, the run, the program.
+//! The model of document 01, with the deletes of request [2] of document 02, in the order of the
+//! paper: tables and stores, steps, call files and replies, refusals, the run, the program.
 
 pub const PAGES: usize = 64;
 pub const STATIONS: usize = 16;
@@ -372,6 +372,15 @@ impl Reel<'_> {
         store[from + offset..][..bytes.len()].copy_from_slice(bytes);
     }
 
+    /// Fills the frames of copies that are gone with zeros; a null copy has no frame.
+    fn clear(&mut self, gone: Vec<PageCopy>) -> Done {
+        let frames: Vec<u8> = gone.into_iter().filter_map(|copy| copy.frame).collect();
+        for &frame in &frames {
+            self.lay(frame, 0, &[0; FRAME]);
+        }
+        Done::laid(FRAME * frames.len())
+    }
+
     fn step(&mut self, call: &Call) -> Result<Done, Refusal> {
         match *call {
             Call::Create { station, page } => self.create(station, page),
@@ -422,8 +431,8 @@ impl Reel<'_> {
         station_in_range(station)?;
         page_in_range(page)?;
         require(self.tables.page(page)?.owner == station, Refusal::NoRight)?;
-        self.tables.pages[usize::from(page)] = None;
-        Ok(Done::plain())
+        let gone = self.tables.pages[usize::from(page)].take();
+        Ok(self.clear(gone.map_or(Vec::new(), |page| page.copies)))
     }
 
     fn grant(&mut self, station: u8, page: u8, other: u8, right: u8) -> Result<Done, Refusal> {
@@ -488,8 +497,8 @@ impl Reel<'_> {
         let recent = page.copies.iter().filter(|copy| copy.recent).count();
         let only_recent = page.copy(copy)?.recent && recent == 1;
         require(!only_recent, Refusal::LastRecent)?;
-        page.copies.remove(copy.into());
-        Ok(Done::plain())
+        let gone = page.copies.remove(copy.into());
+        Ok(self.clear(vec![gone]))
     }
 
     fn set_current(&mut self, page: u8, copy: u8) -> Result<Done, Refusal> {

@@ -1,8 +1,10 @@
 //! The cases of document 01, on the kernel and on the model: the worked example, the starred cases,
-//! the traps, the impostors and the order of the refusals.
+//! the traps, the impostors and the order of the refusals; and the deletes of request [2] of
+//! document 02.
 
 use ::model::cases::{
-    bytes, example, in_parts, one_by_one, unit, Case, Served, CALLS, EXPOSING, REPLIES, STARRED,
+    bytes, example, in_parts, one_by_one, unit, Case, Served, CALLS, DELETES, EXPOSING, REPLIES,
+    STARRED,
 };
 use ::model::gen::{self, Rng, DAMAGES};
 use ::model::kernel::{Embedded, Kernel, Modelled};
@@ -129,6 +131,72 @@ fn traps_and_impostors() {
     }
 }
 
+/// Each delete's reply and tally, and every byte that it leaves in the stores: message by message,
+/// and by `check` the same in a run and part by part.
+#[test]
+fn deletes_and_what_they_lay() {
+    for kernel in BOTH {
+        for deletes in &DELETES {
+            check(kernel, &deletes.case);
+            let left = one_by_one(kernel, &deletes.case.file()).left;
+            assert_eq!(
+                [left.fast, left.slow],
+                deletes.stores(),
+                "{}",
+                deletes.case.name
+            );
+        }
+    }
+}
+
+/// Deletes on tables with every shape of page, each from the same state: the frames that it frees,
+/// and no other byte of the stores. Random bytes and zeros are freed alike.
+#[test]
+fn deletes_on_shaped_tables() {
+    let accepted: [(&str, &[usize]); 8] = [
+        ("delete-copy 0 0", &[3]),
+        ("delete-copy 0 1", &[8]),
+        ("delete-copy 2 7", &[10]),
+        ("delete-page 5 0", &[3, 8, 0]),
+        ("delete-page 2 1", &[]),
+        ("delete-page 15 2", &[1, 2, 4, 5, 6, 7, 9, 10]),
+        ("delete-page 0 5", &[11]),
+        ("delete-page 3 63", &[15]),
+    ];
+    let refused = [
+        ("delete-copy 63 0", 15),
+        ("delete-copy 1 0", 15),
+        ("delete-page 4 63", 10),
+        ("delete-page 5 2", 10),
+    ];
+    let random = gen::shaped(&mut Rng::new(1));
+    let mut zeros = random.clone();
+    zeros.fast.fill(0);
+    zeros.slow.fill(0);
+    for lent in [random, zeros] {
+        for kernel in BOTH {
+            let desk = Desk {
+                kernel,
+                lent: lent.clone(),
+            };
+            for (line, frames) in accepted {
+                let mut due = [&lent.fast[..], &lent.slow].concat();
+                for frame in frames {
+                    due[64 * frame..][..64].fill(0);
+                }
+                let mut desk = desk.clone();
+                let (number, laid, told) = desk.give(&bytes(line));
+                assert_eq!((number, told), (0, vec![]), "{line}");
+                assert_eq!(usize::from(laid), 64 * frames.len(), "{line}");
+                assert_eq!([desk.lent.fast, desk.lent.slow].concat(), due, "{line}");
+            }
+            for (line, number) in refused {
+                assert_eq!(desk.clone().refuse(line), number, "{line}");
+            }
+        }
+    }
+}
+
 /// What the replies of the traps' files do not show: the bytes in the stores.
 #[test]
 fn written_copies_and_freed_frames() {
@@ -142,8 +210,10 @@ fn written_copies_and_freed_frames() {
             let held = frame_bytes(&tables, &desk.lent.fast, &desk.lent.slow, frame);
             assert_eq!(held[..5], [65, 9, 8, 7, 0]);
         }
-        desk.accept("delete-copy 5 0");
-        assert_eq!(desk.lent.fast[..5], [65, 9, 8, 7, 0], "freed bytes remain");
+        assert_eq!(desk.give(&bytes("delete-copy 5 0")).1, 64);
+        assert_eq!(desk.lent.fast[..64], [0; 64], "a freed frame is zeros");
+        assert_eq!(desk.lent.fast[64..], [0xEE; 192], "no other frame is");
+        assert_eq!(desk.lent.slow[2 * 64..][..5], [65, 9, 8, 7, 0]);
         desk.accept("create 2 9");
         desk.accept("copy 9 0 0");
         desk.accept("current 9 0");

@@ -1,14 +1,15 @@
 //! The harness tried on itself: `compare` must catch every one of these wrong kernels, each the
 //! model with one flaw.
 
-use ::model::cases::{in_parts, EXPOSING};
+use ::model::cases::{in_parts, DELETES, EXPOSING};
+use ::model::clean::Clean;
 use ::model::compare::compare;
 use ::model::flat::Demand3;
 use ::model::gen::{self, Moves, Rng};
 use ::model::kernel::{packed, Kernel, Modelled};
 use ::model::model::{
-    self, frame_bytes, Answer, Call, Lent, Page, Reached, Reader, Tables, ENTRIES, FRAME, NO_FRAME,
-    NO_HOLDER, RAW, RECORD, REGISTER, REGISTERED, SLIP, STATIONS,
+    self, frame_bytes, Answer, Call, Lent, Page, PageCopy, Reached, Reader, Tables, ENTRIES, FRAME,
+    NO_FRAME, NO_HOLDER, RAW, RECORD, REGISTER, REGISTERED, SLIP, STATIONS,
 };
 
 /// One message answered by the model, to be spoiled.
@@ -183,6 +184,39 @@ impl Turn<'_> {
         (self.answer.number == 0).then(|| (page, before.pages[page].clone().expect("a page")))
     }
 
+    /// The copies that an accepted delete took away.
+    fn gone(&self) -> Vec<PageCopy> {
+        match (&self.call, self.accepted_page()) {
+            (Some(Call::DeletePage { .. }), Some((_, page))) => page.copies,
+            (Some(Call::DeleteCopy { copy, .. }), Some((_, page))) => {
+                vec![page.copies[usize::from(*copy)]]
+            }
+            _ => Vec::new(),
+        }
+    }
+
+    /// The frames of those of them that pass get their bytes back.
+    fn leave_frames(&mut self, passes: impl Fn(usize, &PageCopy) -> bool) {
+        for (number, copy) in self.gone().iter().enumerate() {
+            if let (Some(frame), true) = (copy.frame, passes(number, copy)) {
+                self.put_back(frame);
+            }
+        }
+    }
+
+    /// States other bytes laid in the reply to an accepted delete, and counts them.
+    fn state_laid(&mut self, laid: usize) {
+        if !self.gone().is_empty() {
+            let [high, low] = (laid as u16).to_be_bytes();
+            self.reply(&[0, 4, 1, 0, high, low]);
+            self.answer.laid = laid;
+        }
+    }
+
+    fn tables_before(&self) -> Tables {
+        Tables::from_raw(&self.before.tables).expect("lawful tables")
+    }
+
     fn change_page(&mut self, page: usize, change: impl FnOnce(&mut Page)) {
         let mut tables = Tables::from_raw(&self.after.tables).expect("lawful tables");
         change(tables.pages[page].as_mut().expect("a page"));
@@ -260,7 +294,7 @@ fn even_marks(tables: &mut [u8]) {
 }
 
 /// The wrong kernels.
-const MUTANTS: [(&str, Flaw); 86] = [
+const MUTANTS: [(&str, Flaw); 85] = [
     // The traps of the paper.
     (
         "a new copy takes its source's CURRENT mark",
@@ -322,12 +356,15 @@ const MUTANTS: [(&str, Flaw); 86] = [
                     .as_ref()
                     .expect("a page")
                     .copies;
-                if copies.len() > 1 && !copies[usize::from(copy)].current {
+                let gone = copies[usize::from(copy)];
+                if let (true, Some(frame)) = (copies.len() > 1 && !gone.current, gone.frame) {
                     turn.change_page(page.into(), |page| {
                         page.copies.remove(copy.into());
                     });
-                    turn.reply(&[0, 4, 1, 0, 0, 0]);
+                    turn.lay(&tables, frame, &[0; FRAME]);
+                    turn.reply(&[0, 4, 1, 0, 0, 64]);
                     turn.answer.number = 0;
+                    turn.answer.laid = 64;
                 }
             }
         }),
@@ -418,18 +455,6 @@ const MUTANTS: [(&str, Flaw); 86] = [
                 let bytes = frame_bytes(&tables, &turn.before.fast, &turn.before.slow, last);
                 let bytes = bytes[offset.into()..][..count.into()].to_vec();
                 turn.reply(&[&[0, 4 + count, 1, 0, 0, 0], bytes.as_slice()].concat());
-            }
-        }),
-    ),
-    (
-        "wipes a freed frame",
-        Flaw::Answer(|turn| {
-            if let (Some(Call::DeleteCopy { copy, .. }), Some((_, page))) =
-                (turn.call.clone(), turn.accepted_page())
-            {
-                let tables = Tables::from_raw(&turn.before.tables).expect("lawful tables");
-                let frame = page.copies[usize::from(copy)].frame.expect("a frame");
-                turn.lay(&tables, frame, &[0; FRAME]);
             }
         }),
     ),
@@ -1041,6 +1066,180 @@ const MUTANTS: [(&str, Flaw); 86] = [
     ),
 ];
 
+/// Wrong deletes: what a kernel lays, fills and counts where a frame is freed, request [2] of
+/// document 02.
+const WRONG_DELETES: [(&str, Flaw); 21] = [
+    (
+        "freed bytes remain, as document 01 had it",
+        Flaw::Answer(|turn| {
+            turn.leave_frames(|_, _| true);
+            turn.state_laid(0);
+        }),
+    ),
+    (
+        "freed frames counted and not filled",
+        Flaw::Answer(|turn| turn.leave_frames(|_, _| true)),
+    ),
+    (
+        "freed frames filled and not counted",
+        Flaw::Answer(|turn| turn.state_laid(0)),
+    ),
+    (
+        "freed frames filled and counted by delete copy alone",
+        Flaw::Answer(|turn| {
+            if let Some(Call::DeletePage { .. }) = turn.call {
+                turn.leave_frames(|_, _| true);
+                turn.state_laid(0);
+            }
+        }),
+    ),
+    (
+        "freed frames filled and counted by delete page alone",
+        Flaw::Answer(|turn| {
+            if let Some(Call::DeleteCopy { .. }) = turn.call {
+                turn.leave_frames(|_, _| true);
+                turn.state_laid(0);
+            }
+        }),
+    ),
+    (
+        "only slow frames filled",
+        Flaw::Answer(|turn| {
+            if !turn.gone().is_empty() {
+                let fast = turn.tables_before().fast;
+                turn.leave_frames(|_, copy| copy.frame.is_some_and(|frame| frame < fast));
+            }
+        }),
+    ),
+    (
+        "only fast frames filled",
+        Flaw::Answer(|turn| {
+            if !turn.gone().is_empty() {
+                let fast = turn.tables_before().fast;
+                turn.leave_frames(|_, copy| copy.frame.is_some_and(|frame| frame >= fast));
+            }
+        }),
+    ),
+    (
+        "only the first frame of a deleted page filled",
+        Flaw::Answer(|turn| turn.leave_frames(|number, _| number > 0)),
+    ),
+    (
+        "the eighth frame of a deleted page not filled",
+        Flaw::Answer(|turn| turn.leave_frames(|number, _| number == 7)),
+    ),
+    (
+        "stale copies' frames not filled",
+        Flaw::Answer(|turn| turn.leave_frames(|_, copy| !copy.recent)),
+    ),
+    (
+        "only CURRENT copies' frames filled",
+        Flaw::Answer(|turn| turn.leave_frames(|_, copy| !copy.current)),
+    ),
+    (
+        "the last byte of a freed frame not filled",
+        Flaw::Answer(|turn| {
+            let frames = turn.gone().into_iter().filter_map(|copy| copy.frame);
+            for frame in frames.collect::<Vec<_>>() {
+                let tables = turn.tables_before();
+                turn.put_back(frame);
+                turn.lay(&tables, frame, &[0; FRAME - 1]);
+            }
+        }),
+    ),
+    (
+        "64 counted once for a page of several frames",
+        Flaw::Answer(|turn| turn.state_laid(turn.answer.laid.min(64))),
+    ),
+    (
+        "64 counted for each copy of a deleted page, a null copy too",
+        Flaw::Answer(|turn| turn.state_laid(64 * turn.gone().len())),
+    ),
+    (
+        "a frame that was all zeros not counted",
+        Flaw::Answer(|turn| {
+            if !turn.gone().is_empty() {
+                let (tables, before) = (turn.tables_before(), turn.before);
+                let frames = turn.gone().into_iter().filter_map(|copy| copy.frame);
+                let held = frames.map(|f| frame_bytes(&tables, &before.fast, &before.slow, f));
+                let counted = held.filter(|bytes| bytes.iter().any(|&byte| byte != 0));
+                turn.state_laid(64 * counted.count());
+            }
+        }),
+    ),
+    (
+        "the bytes laid by a delete in one byte",
+        Flaw::Answer(|turn| turn.state_laid(turn.answer.laid % 256)),
+    ),
+    (
+        "the frame of the copy that closed the gap filled",
+        Flaw::Answer(|turn| {
+            if let (Some(Call::DeleteCopy { copy, .. }), Some((_, page))) =
+                (turn.call.clone(), turn.accepted_page())
+            {
+                let closes = page.copies.get(usize::from(copy) + 1);
+                if let Some(frame) = closes.and_then(|closes| closes.frame) {
+                    let tables = turn.tables_before();
+                    turn.leave_frames(|_, _| true);
+                    turn.lay(&tables, frame, &[0; FRAME]);
+                }
+            }
+        }),
+    ),
+    (
+        "zeros laid by a delete copy refused 15",
+        Flaw::Answer(|turn| {
+            if let (Some(Call::DeleteCopy { page, copy }), 15) =
+                (turn.call.clone(), turn.answer.number)
+            {
+                let tables = turn.tables_before();
+                let page = tables.pages[usize::from(page)].as_ref().expect("a page");
+                if let Some(frame) = page.copies[usize::from(copy)].frame {
+                    turn.lay(&tables, frame, &[0; FRAME]);
+                }
+            }
+        }),
+    ),
+    (
+        "zeros laid by a delete page refused 10",
+        Flaw::Answer(|turn| {
+            if let (Some(Call::DeletePage { page, .. }), 10) =
+                (turn.call.clone(), turn.answer.number)
+            {
+                let tables = turn.tables_before();
+                let page = tables.pages[usize::from(page)].as_ref().expect("a page");
+                for frame in page.copies.iter().filter_map(|copy| copy.frame) {
+                    turn.lay(&tables, frame, &[0; FRAME]);
+                }
+            }
+        }),
+    ),
+    (
+        "64 stated by a delete copy refused 15",
+        Flaw::Answer(|turn| {
+            if let (Some(Call::DeleteCopy { .. }), 15) = (&turn.call, turn.answer.number) {
+                turn.reply(&[0, 4, 1, 15, 0, 64]);
+                turn.answer.laid = 64;
+            }
+        }),
+    ),
+    (
+        "zeros laid into frame 0 for a null copy",
+        Flaw::Answer(|turn| {
+            if turn.gone().iter().any(|copy| copy.frame.is_none()) {
+                let tables = turn.tables_before();
+                if tables.frames() > 0 {
+                    turn.lay(&tables, 0, &[0; FRAME]);
+                }
+            }
+        }),
+    ),
+];
+
+fn mutants() -> impl Iterator<Item = (&'static str, Flaw)> {
+    MUTANTS.into_iter().chain(WRONG_DELETES)
+}
+
 const SEED: u64 = 1;
 const MESSAGES: u64 = 200_000;
 
@@ -1057,7 +1256,7 @@ fn missed(
 ) -> Vec<&'static str> {
     let check = &check;
     std::thread::scope(|scope| {
-        let tried = MUTANTS.into_iter().filter(|(name, _)| named(name));
+        let tried = mutants().filter(|(name, _)| named(name));
         let checks: Vec<_> = tried
             .map(|(name, flaw)| (name, scope.spawn(move || check(&Mutant(flaw)).is_ok())))
             .collect();
@@ -1086,26 +1285,72 @@ fn traps_and_impostors_are_exposed() {
     }
 }
 
-/// Runs from fresh tables on which demand 3 alone looks.
-fn demand3(kernel: &dyn Kernel) -> Result<(), String> {
+/// Each wrong delete gets a reply wrong, or a byte in the stores, in one of the worked cases.
+#[test]
+fn wrong_deletes_are_exposed() {
+    for (name, flaw) in WRONG_DELETES {
+        let mutant = Mutant(flaw);
+        let exposed = DELETES.iter().any(|deletes| {
+            let served = in_parts(&mutant, &deletes.case.file(), 1000);
+            let stores = [served.left.fast, served.left.slow];
+            served.replies != deletes.case.replies() || stores != deletes.stores()
+        });
+        assert!(exposed, "{name}");
+    }
+}
+
+/// Runs from fresh tables with what is looked at in them: before each message the tables, the
+/// message and the reply, and at the end what was left.
+fn runs<Looked>(
+    kernel: &dyn Kernel,
+    start: impl Fn(&Lent) -> Looked,
+    turn: impl Fn(&mut Looked, &Tables, &[u8], &[u8]) -> Result<(), String>,
+    end: impl Fn(Looked, &Tables, &Lent) -> Result<(), String>,
+) -> Result<(), String> {
     let mut rng = Rng::new(SEED);
     for _ in 0..100 {
         let mut lent = gen::fresh(&mut rng);
-        let mut demand3 = Demand3::start();
+        let mut looked = start(&lent);
         let mut moves = Moves::new(&mut rng);
         for _ in 0..300 {
             let tables = Tables::from_raw(&lent.tables).ok_or("broken tables")?;
             let message = moves.next(&mut rng, &tables, &lent, false);
             let length = kernel.answer(&mut lent, &message) as usize / 256 % 256;
-            demand3.turn(&tables, &message, &lent.out[..length])?;
+            turn(&mut looked, &tables, &message, &lent.out[..length])?;
         }
         let tables = Tables::from_raw(&lent.tables).ok_or("broken tables")?;
-        demand3.end(&tables, &lent.fast, &lent.slow)?;
+        end(looked, &tables, &lent)?;
     }
     Ok(())
 }
 
-const DEMAND_3: [&str; 11] = [
+/// Runs from fresh tables on which demand 3 alone looks.
+fn demand3(kernel: &dyn Kernel) -> Result<(), String> {
+    runs(
+        kernel,
+        |_| Demand3::start(),
+        Demand3::turn,
+        |demand3, tables, lent| demand3.end(tables, &lent.fast, &lent.slow),
+    )
+}
+
+/// Runs from fresh tables on whose free frames alone is looked.
+fn clean(kernel: &dyn Kernel) -> Result<(), String> {
+    runs(
+        kernel,
+        Clean::start,
+        |clean, tables, _, _| {
+            clean.turn(tables);
+            Ok(())
+        },
+        |mut clean, tables, lent| {
+            clean.turn(tables);
+            clean.end(tables, &lent.fast, &lent.slow)
+        },
+    )
+}
+
+const DEMAND_3: [&str; 15] = [
     "one current copy of two written",
     "a free frame's old bytes taken for zeros",
     "nothing current before looking",
@@ -1117,13 +1362,74 @@ const DEMAND_3: [&str; 11] = [
     "right 1 cannot read",
     "a read of 64 bytes refused",
     "nothing current before no right",
+    "the frame of the copy that closed the gap filled",
+    "zeros laid by a delete copy refused 15",
+    "zeros laid by a delete page refused 10",
+    "zeros laid into frame 0 for a null copy",
 ];
+
+/// What deletes leave in frames that no copy has, and what they state as laid, is no part of the
+/// flat memory: demand 3 passes all of these.
+const NOT_DEMAND_3: [&str; 17] = [
+    "freed bytes remain, as document 01 had it",
+    "freed frames counted and not filled",
+    "freed frames filled and not counted",
+    "freed frames filled and counted by delete copy alone",
+    "freed frames filled and counted by delete page alone",
+    "only slow frames filled",
+    "only fast frames filled",
+    "only the first frame of a deleted page filled",
+    "the eighth frame of a deleted page not filled",
+    "stale copies' frames not filled",
+    "only CURRENT copies' frames filled",
+    "the last byte of a freed frame not filled",
+    "64 counted once for a page of several frames",
+    "64 counted for each copy of a deleted page, a null copy too",
+    "a frame that was all zeros not counted",
+    "the bytes laid by a delete in one byte",
+    "64 stated by a delete copy refused 15",
+];
+
+/// Those that leave other bytes than zeros in a freed frame, or zeros in one that was never held.
+const NOT_CLEAN: [&str; 12] = [
+    "freed bytes remain, as document 01 had it",
+    "freed frames counted and not filled",
+    "freed frames filled and counted by delete copy alone",
+    "freed frames filled and counted by delete page alone",
+    "only slow frames filled",
+    "only fast frames filled",
+    "only the first frame of a deleted page filled",
+    "the eighth frame of a deleted page not filled",
+    "stale copies' frames not filled",
+    "only CURRENT copies' frames filled",
+    "the last byte of a freed frame not filled",
+    "the frame of the copy that closed the gap filled",
+];
+
+/// Which of the mutants on a list a check does not catch; each on it is a mutant.
+fn missed_of(
+    list: &[&str],
+    check: impl Fn(&Mutant) -> Result<(), String> + Sync,
+) -> Vec<&'static str> {
+    let named = |name: &str| list.contains(&name);
+    let tried = mutants().filter(|(name, _)| named(name));
+    assert_eq!(tried.count(), list.len());
+    missed(named, check)
+}
 
 #[test]
 fn demand_3_catches_what_breaks_it() {
     demand3(&Modelled).expect("demand 3");
-    let named = |name: &str| DEMAND_3.contains(&name);
-    let tried = MUTANTS.into_iter().filter(|(name, _)| named(name));
-    assert_eq!(tried.count(), DEMAND_3.len());
-    assert_eq!(missed(named, |mutant| demand3(mutant)), Vec::<&str>::new());
+    let missed = missed_of(&DEMAND_3, |mutant| demand3(mutant));
+    assert_eq!(missed, Vec::<&str>::new());
+    let missed = missed_of(&NOT_DEMAND_3, |mutant| demand3(mutant));
+    assert_eq!(missed, NOT_DEMAND_3);
+}
+
+/// The check of the free frames at a run's end sees what a delete leaves, and no count.
+#[test]
+fn the_check_of_clean_cards_catches_what_breaks_it() {
+    clean(&Modelled).expect("clean cards");
+    let missed = missed_of(&NOT_CLEAN, |mutant| clean(mutant));
+    assert_eq!(missed, Vec::<&str>::new());
 }

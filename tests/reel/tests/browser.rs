@@ -152,7 +152,7 @@ fn short_files() {
 fn pages_are_shown_as_the_model_has_them() {
     let scratch = Scratch::new("places");
     let (fast, slow) = (20, 30);
-    let bytes = random_file(7, fast, slow, 1_500);
+    let bytes = random_file(5, fast, slow, 1_500);
     let turns = modelled(&bytes, fast, slow);
     let page = viewed(
         &scratch,

@@ -87,7 +87,7 @@ pub const KINDS: [Kind; 11] = [
         word: "delete-page",
         sentence: "delete page station # page #",
         arguments: &[Argument::Station, Argument::Page],
-        tells: Tells::Nothing,
+        tells: Tells::BytesLaid,
         changes: true,
     },
     Kind {
@@ -132,7 +132,7 @@ pub const KINDS: [Kind; 11] = [
         word: "delete-copy",
         sentence: "delete copy page # copy #",
         arguments: &[Argument::Page, Argument::Copy],
-        tells: Tells::Nothing,
+        tells: Tells::BytesLaid,
         changes: true,
     },
     Kind {

@@ -116,7 +116,7 @@ class Panel {
       return item;
     });
     const notes = [
-      'A number in a bar is the page, and so is its colour. No bar: the frame is free.',
+      'A number in a bar is the page, and so is its colour. No bar: the frame is free; a freed one holds zeros.',
       'A column shows the state after its message; zoomed out, after the last of its messages.',
       'Close up, an arrow is a copy being made, and \u271516 a message refused with number 16.',
       'Of the frames held, fast ones are full, slow ones hatched.',

@@ -1,5 +1,6 @@
 -- `steps::copies::delete_copy` meets its contract: 9 and 12, then 15.
-use Rattle.steps.specs.Steps.{perform}
+use mathlib.Core.Path.{_≡_}
+use Rattle.steps.specs.Steps.{recents, perform}
 use Rattle.steps.proofs.VerdictLaws.{numbered-refused, numbered-on}
 use borrow.Author.Needs.{needs}
 use Rattle.steps.proofs.copies.delete_copy.Statement.{statement}
@@ -28,8 +29,9 @@ returns-2 : tie.Need-returns-2
 unfolding perform
 returns-2 c = λ size.
     let n = c .before .before .before in
+    let k : n .count-of .result ≡ recents (n .before .before .before .before .before .args .view .page) = n .count-of .ensures .0 in
     numbered-on (n .before .before .before .unnumbered .ensures) _ (n .before .before .if1 .left)
-    (rw (← n .before .copy-at .ensures, ← n .count-of .ensures .0, c .before .if2 .taken) (c .refused2 .ensures))
+    (rw (← n .before .copy-at .ensures, ← k, c .before .if2 .taken) (c .refused2 .ensures))
 
 accepted-requires : tie.Need-accepted-requires
 accepted-requires c κs = search needs
@@ -38,8 +40,9 @@ returns-3 : tie.Need-returns-3
 unfolding perform
 returns-3 c = λ size.
     let n = c .before .before .before in
+    let k : n .count-of .result ≡ recents (n .before .before .before .before .before .args .view .page) = n .count-of .ensures .0 in
     numbered-on (n .before .before .before .unnumbered .ensures) _ (n .before .before .if1 .left)
-    (rw (← n .before .copy-at .ensures, ← n .count-of .ensures .0, c .before .if2 .left) (c .accepted .ensures))
+    (rw (← n .before .copy-at .ensures, ← k, c .before .if2 .left) (c .accepted .ensures))
 
 pub delete-copy-spec : {M : Type 1} → statement M
 delete-copy-spec =

@@ -35,7 +35,7 @@ returns-2 c =
     let a = c .before .before .before .args in
     let d = c .before .before .judge-any in
     place-none (a .tables) (a .fast) (a .slow) (readCall (a .station) (a .page) (a .offset) (a .count)) (d .result) (d .ensures)
-    (λ f o e. miss (0 ∷ 1 ∷ 2 ∷ 3 ∷ 5 ∷ 6 ∷ []) 4 tt (rw e at (c .match .keys2)))
+    (λ f o e. miss (0 ∷ 1 ∷ 2 ∷ 3 ∷ 4 ∷ 6 ∷ 7 ∷ []) 5 tt (rw e at (c .match .keys2)))
 
 pub read-place-spec : {M : Type 1} → statement M
 read-place-spec =

@@ -96,9 +96,9 @@ returns-4 c = λ size.
 returns-5 : tie.Need-returns-5
 returns-5 c = λ size.
     let a = c .before .before .before .before .before .args in
-    let not-so = miss (0 ∷ 1 ∷ 2 ∷ 3 ∷ []) in
+    let not-so = miss (0 ∷ 1 ∷ 2 ∷ 3 ∷ 4 ∷ []) in
     nothing-shown (a .d) size (a .fast .now) (a .slow .now) (a .out .now)
-    (λ f o e. not-so 4 tt (rw e at (c .match .keys4))) (λ e. not-so 5 tt (rw e at (c .match .keys4))) (λ h e. not-so 6 tt (rw e at (c .match .keys4)))
+    (λ f o e. not-so 5 tt (rw e at (c .match .keys4))) (λ e. not-so 6 tt (rw e at (c .match .keys4))) (λ h e. not-so 7 tt (rw e at (c .match .keys4)))
 
 pub show-spec : {M : Type 1} → statement M
 show-spec =

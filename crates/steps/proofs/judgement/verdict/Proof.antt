@@ -29,14 +29,14 @@ create-requires c κs = search needs
 enum-told-2 : tie.Need-enum-told-2
 enum-told-2 c = search needs
 
-owner-step-requires : tie.Need-owner-step-requires
-owner-step-requires c κs = search needs
+delete-page-requires : tie.Need-delete-page-requires
+delete-page-requires c κs = search needs
 
 enum-told-3 : tie.Need-enum-told-3
 enum-told-3 c = search needs
 
-owner-step-requires-2 : tie.Need-owner-step-requires-2
-owner-step-requires-2 c κs = search needs
+grant-requires : tie.Need-grant-requires
+grant-requires c κs = search needs
 
 enum-told-4 : tie.Need-enum-told-4
 enum-told-4 c = search needs
@@ -101,12 +101,10 @@ returns-2 : tie.Need-returns-2
 returns-2 c = arm (c .before .before .before) (c .before .enum-told .given .1) (c .create .ensures _)
 
 returns-3 : tie.Need-returns-3
-unfolding perform
-returns-3 c = arm (c .before .before .before) (c .before .enum-told2 .given .1) (c .owner-step .ensures)
+returns-3 c = arm (c .before .before .before) (c .before .enum-told2 .given .1) (c .delete-page .ensures _)
 
 returns-4 : tie.Need-returns-4
-unfolding perform
-returns-4 c = arm (c .before .before .before) (c .before .enum-told3 .given .1) (c .owner-step2 .ensures)
+returns-4 c = arm (c .before .before .before) (c .before .enum-told3 .given .1) (c .grant .ensures _)
 
 returns-5 : tie.Need-returns-5
 returns-5 c = arm (c .before .before .before) (c .before .enum-told4 .given .1) (c .read-page .ensures _)
@@ -143,9 +141,9 @@ verdict-spec =
     enum-told
     create-requires
     enum-told-2
-    owner-step-requires
+    delete-page-requires
     enum-told-3
-    owner-step-requires-2
+    grant-requires
     enum-told-4
     read-page-requires
     enum-told-5
