@@ -133,13 +133,13 @@ unfolding runOn flatten
 deleting-stores = refl
 
 -- a page with eight copies: 512 bytes laid
-abbrev pub deleting-eight : Case
-deleting-eight =
+abbrev pub deletingEight : Case
+deletingEight =
     ((0 ∷ 5 ∷ 1 ∷ 6 ∷ 5 ∷ 0 ∷ 1 ∷ []) ∷ (0 ∷ 5 ∷ 1 ∷ 6 ∷ 5 ∷ 0 ∷ 2 ∷ []) ∷ (0 ∷ 5 ∷ 1 ∷ 6 ∷ 5 ∷ 0 ∷ 3 ∷ []) ∷ (0 ∷ 5 ∷ 1 ∷ 6 ∷ 5 ∷ 0 ∷ 4 ∷ [])
     ∷ (0 ∷ 5 ∷ 1 ∷ 6 ∷ 5 ∷ 0 ∷ 5 ∷ []) ∷ (0 ∷ 5 ∷ 1 ∷ 6 ∷ 5 ∷ 0 ∷ 6 ∷ []) ∷ (0 ∷ 5 ∷ 1 ∷ 6 ∷ 5 ∷ 0 ∷ 7 ∷ []) ∷ (0 ∷ 4 ∷ 1 ∷ 2 ∷ 3 ∷ 5 ∷ []) ∷ [])
     ↝ (laying 64 ∷ laying 64 ∷ laying 64 ∷ laying 64 ∷ laying 64 ∷ laying 64 ∷ laying 64 ∷ (0 ∷ 4 ∷ 1 ∷ 0 ∷ 2 ∷ 0 ∷ []) ∷ [])
 
-pub eight-replies : repliesOf state₀ (fileOf deleting-eight) ≡ replies₁ ++ deleting-eight .answers
+pub eight-replies : repliesOf state₀ (fileOf deletingEight) ≡ replies₁ ++ deletingEight .answers
 unfolding runOn flatten
 eight-replies = refl
 

@@ -236,9 +236,9 @@ unfoldable pub endBy : Kernel → State → List Sent → State
 endBy k s [] = s
 endBy k s (x ∷ xs) = endBy k (left s (k s x)) xs
 
--- the right kernel, but for the stores st that a delete of page 5 leaves
-abbrev pub deleting-to : (State → Outcome Result → List ℕ) → Kernel
-deleting-to stores s x = cond (deletes x) (withStores (rightTurn s x) (stores s (rightTurn s x)) (length (s .fast))) (rightTurn s x)
+-- the right kernel, but for the stores that an accepted delete page leaves
+abbrev pub deletingTo : (State → Outcome Result → List ℕ) → Kernel
+deletingTo stores s x = cond (deletes x) (withStores (rightTurn s x) (stores s (rightTurn s x)) (length (s .fast))) (rightTurn s x)
   where
     deletes : Sent → Bool
     deletes cut = false
@@ -264,41 +264,38 @@ right-clears = refl
 
 -- "The freed frame's bytes remain as they are", which document 01 said
 abbrev pub remaining : Kernel
-remaining = deleting-to (λ s o. joined s)
+remaining = deletingTo (λ s o. joined s)
 
 pub remaining-leaves : firsts remaining ≡ (9 ∷ 0xEE ∷ 9 ∷ [])
 unfolding endBy messagesOf split rightTurn parse names kinds code among argument callOf part
 remaining-leaves = refl
 
 -- only slow frames are filled
-abbrev pub slow-only : Kernel
-slow-only = deleting-to (λ s o. s .fast ++ left s o .slow)
+abbrev pub slowOnly : Kernel
+slowOnly = deletingTo (λ s o. s .fast ++ left s o .slow)
 
-pub slow-only-leaves : firsts slow-only ≡ (9 ∷ 0xEE ∷ 0 ∷ [])
+pub slow-only-leaves : firsts slowOnly ≡ (9 ∷ 0xEE ∷ 0 ∷ [])
 unfolding endBy messagesOf split rightTurn parse names kinds code among argument callOf part
 slow-only-leaves = refl
 
 -- only the first frame of a deleted page is filled
-abbrev pub first-only : Kernel
-first-only = deleting-to (λ s o. lay (joined s) (copyAt (pageAt (s .tables) 5) 0 .frame) 0 zeros)
+abbrev pub firstOnly : Kernel
+firstOnly = deletingTo (λ s o. lay (joined s) (copyAt (pageAt (s .tables) 5) 0 .frame) 0 zeros)
 
-pub first-only-leaves : firsts first-only ≡ (0 ∷ 0xEE ∷ 9 ∷ [])
+pub first-only-leaves : firsts firstOnly ≡ (0 ∷ 0xEE ∷ 9 ∷ [])
 unfolding endBy messagesOf split rightTurn parse names kinds code among argument callOf part splice
 first-only-leaves = refl
 
 -- a frame that no copy ever had is filled too
-abbrev pub over-filling : Kernel
-over-filling = deleting-to (λ s o. lay (joined (left s o)) 1 0 zeros)
+abbrev pub overFilling : Kernel
+overFilling = deletingTo (λ s o. lay (joined (left s o)) 1 0 zeros)
 
-pub over-filling-leaves : firsts over-filling ≡ (0 ∷ 0 ∷ 0 ∷ [])
+pub over-filling-leaves : firsts overFilling ≡ (0 ∷ 0 ∷ 0 ∷ [])
 unfolding endBy messagesOf split rightTurn parse names kinds code among argument callOf part splice
 over-filling-leaves = refl
 
--- the first of them answers as the flat memory does, like the others, whose replies are the same
-abbrev pub answers-alike : Kernel → Type 0
-answers-alike k =
-    flatAnswers none (messagesOf file₄) (elevens 70 (turnsBy k state₄ (messagesOf file₄))) ≡ runAnswers 70 (turnsBy k state₄ (messagesOf file₄))
-
-pub remaining-unseen : answers-alike remaining
+-- bytes that remain change no answer: those of the run are the flat memory's
+pub remaining-unseen : flatAnswers none (messagesOf file₄) (elevens 70 (turnsBy remaining state₄ (messagesOf file₄)))
+    ≡ runAnswers 70 (turnsBy remaining state₄ (messagesOf file₄))
 unfolding turnsBy messagesOf split rightTurn parse names kinds code among argument callOf flatAnswers flatAfter reactAs reactTo runAnswers
 remaining-unseen = refl
