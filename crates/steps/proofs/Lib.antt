@@ -1,5 +1,6 @@
 pub mod KindLaws
 pub mod RangeLaws
+pub mod RightLaws
 pub mod CountLaws
 pub mod VerdictLaws
 pub mod JudgeLaws

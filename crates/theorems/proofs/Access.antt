@@ -1,12 +1,12 @@
 -- Read and write agree with the flat memory's reaction to them.
-use Prim.Native.Nat.{ℕ, zero, suc, _+_, _*_, _≤_, _<_}
+use Prim.Native.Nat.{ℕ, _+_, _*_, _≤_, _<_}
 use mathlib.Core.Path.{_≡_, refl, sym, ap}
-use mathlib.Core.Bool.{true, false, not}
+use mathlib.Core.Bool.{true, false}
 use mathlib.Core.List.{List}
 use native.Mathlib.Omega.{arith}
 use lib.ListN.{length, getD, set}
-use lib.Dec.{leb, ltb, eqb}
-use borrow.Author.Tests.{eqb-false, le-leb, le-ltb, ne-eqb}
+use lib.Dec.{ltb, eqb}
+use borrow.Author.Tests.{eqb-false}
 use Rattle.tables.specs.declared.Page.{Page}
 use Rattle.tables.specs.declared.Edit.the-variants.{Staled}
 use Rattle.tables.specs.Lists.{all}
@@ -26,21 +26,12 @@ use Rattle.steps.specs.Steps.{currents, perform, decideOn}
 use Rattle.steps.specs.Effects.{laidIn, shownOf, State, joined}
 use Rattle.steps.proofs.Blocks.{each-other, each-own}
 use Rattle.steps.specs.Promises.{frameWithin}
+use Rattle.steps.proofs.RightLaws.{lacks-read, lacks-write}
 use Rattle.steps.proofs.DecideLaws.{page-near, span-within, currents-within}
 use Rattle.steps.proofs.StepLaws.{joined-long, page-stands}
 use Rattle.theorems.specs.Flat.{Flat, FlatPage, here, slotAt, reactAs}
 use Rattle.theorems.proofs.Holding.{holds-written, first-current}
 use Rattle.theorems.proofs.Agreement.{Alike, Same, Inv, both-accept, both, lacking, on-page, applied, page-changed, page-kept, ofKind, CallAgrees}
-
--- the right that the steps ask for, and its lack, which the flat memory asks after
-not-least-one : (r : ℕ) → not (leb 1 r) ≡ eqb r 0
-not-least-one zero = refl
-not-least-one (suc r) = rw (le-leb 1 (suc r) (omega arith), ne-eqb (suc r) 0 (λ z. omega arith))
-
-not-least-two : (r : ℕ) → not (leb 2 r) ≡ ltb r 2
-not-least-two zero = refl
-not-least-two (suc zero) = refl
-not-least-two (suc (suc r)) = rw (le-leb 2 (suc (suc r)) (omega arith), le-ltb (suc (suc r)) 2 (omega arith))
 
 module _ (s : State) (f : Flat) (i : Inv s f) where
   -- page p, which stands as b, written
@@ -91,7 +82,7 @@ module _ (s : State) (f : Flat) (i : Inv s f) where
         both (nameOutside c) outOfRange refl (λ e. both (badSpan (c .offset) (c .count)) outOfRange refl (λ _.
         let near = page-near c e in
         on-page (joined s) page (slotAt f (c .page)) (i .same .alike (c .page) near) (λ b some own.
-        rw (own .rights, not-least-one (getD (b .rights) (c .station) 0)) (both (eqb (getD (b .rights) (c .station) 0) 0) noRight refl (λ _.
+        rw (lacks-read page (c .station), own .rights) (both (eqb (getD (b .rights) (c .station) 0) 0) noRight refl (λ _.
         lacking (eqb (currents page) 0) (λ current.
         let ne = eqb-false (currents page) 0 current in
         let rules = page-stands (i .good) (c .page) near some .copies-ok in
@@ -105,6 +96,6 @@ module _ (s : State) (f : Flat) (i : Inv s f) where
         both (nameOutside c) outOfRange refl (λ e. both (badSpan (c .offset) (length bs)) outOfRange refl (λ e′.
         let near = page-near c e in
         on-page (joined s) page (slotAt f (c .page)) (i .same .alike (c .page) near) (λ b some own.
-        rw (own .rights, not-least-two (getD (b .rights) (c .station) 0)) (both (ltb (getD (b .rights) (c .station) 0) 2) noRight refl (λ _.
+        rw (lacks-write page (c .station), own .rights) (both (ltb (getD (b .rights) (c .station) 0) 2) noRight refl (λ _.
         lacking (eqb (currents page) 0) (λ _.
         both-accept refl (written (c .page) near some b own (c .offset) bs (span-within (c .offset) (length bs) e′))))))))
