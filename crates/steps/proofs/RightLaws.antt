@@ -1,12 +1,37 @@
--- The lack of the right that a read or a write asks for, by the number: as the flat memory asks after it.
-use Prim.Native.Nat.{ℕ, zero, suc}
-use mathlib.Core.Path.{_≡_, refl}
-use mathlib.Core.Bool.{not}
+-- What the cases of a right say of every number, and the lack of the right that a read or a write asks for, as the flat memory asks
+-- after it.
+use Prim.Native.Nat.{ℕ, zero, suc, _≤_}
+use mathlib.Core.Path.{_≡_, refl, sym, ap, _∙_}
+use mathlib.Core.Bool.{true, not}
 use native.Mathlib.Omega.{arith}
 use lib.Dec.{leb, ltb, eqb}
 use borrow.Author.Tests.{le-leb, le-ltb, ne-eqb}
 use Rattle.tables.specs.declared.Page.{Page}
+use Rattle.steps.specs.declared.Act.{Act}
+use Rattle.steps.specs.declared.Act.the-variants.{Read, Write}
+use Rattle.steps.specs.Rights.{allows}
 use Rattle.steps.specs.Steps.{rightOf, mayRead, mayWrite}
+
+-- the least right that allows an act
+abbrev least : Act → ℕ
+least Read = 1
+least Write = 2
+
+-- the case of 2 takes every number from 2 on
+pub allows-above : (right : ℕ) (act : Act) → 2 ≤ right → allows right act ≡ true
+allows-above zero act h = absurd (omega arith)
+allows-above (suc zero) act h = absurd (omega arith)
+allows-above (suc (suc r)) Read h = refl
+allows-above (suc (suc r)) Write h = refl
+
+-- The six cases are the comparison that stood in their place, of every number, those above 2 too: document 01's "right too low".
+pub allows-least : (right : ℕ) (act : Act) → allows right act ≡ leb (least act) right
+allows-least zero Read = refl
+allows-least zero Write = refl
+allows-least (suc zero) Read = refl
+allows-least (suc zero) Write = refl
+allows-least (suc (suc r)) Read = sym (le-leb 1 (suc (suc r)) (omega arith))
+allows-least (suc (suc r)) Write = sym (le-leb 2 (suc (suc r)) (omega arith))
 
 not-least-one : (r : ℕ) → not (leb 1 r) ≡ eqb r 0
 not-least-one zero = refl
@@ -19,8 +44,8 @@ not-least-two (suc (suc r)) = rw (le-leb 2 (suc (suc r)) (omega arith), le-ltb (
 
 -- "read with right 0"
 pub lacks-read : (g : Page) (station : ℕ) → not (mayRead g station) ≡ eqb (rightOf g station) 0
-lacks-read g station = not-least-one (rightOf g station)
+lacks-read g station = ap not (allows-least (rightOf g station) Read) ∙ not-least-one (rightOf g station)
 
 -- "write with right below 2"
 pub lacks-write : (g : Page) (station : ℕ) → not (mayWrite g station) ≡ ltb (rightOf g station) 2
-lacks-write g station = not-least-two (rightOf g station)
+lacks-write g station = ap not (allows-least (rightOf g station) Write) ∙ not-least-two (rightOf g station)

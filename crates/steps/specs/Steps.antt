@@ -19,12 +19,14 @@ use Rattle.tables.specs.Search.{isFree}
 use Rattle.tables.specs.Register.{registered}
 use Rattle.steps.specs.declared.Kind.{Kind}
 use Rattle.steps.specs.declared.Kind.the-variants.{Create, DeletePage, Grant, Read, Write, MakeCopy, DeleteCopy, SetCurrent, RemoveCurrent, LookPage, LookFrame}
+use Rattle.steps.specs.declared.Act.the-variants as Act
 use Rattle.steps.specs.declared.Call.{Call}
 use Rattle.steps.specs.declared.View.{View}
 use Rattle.steps.specs.declared.Work.{Work}
 use Rattle.steps.specs.declared.Work.the-variants.{Nothing, Clear, ClearPage, Duplicate, Spread, Show, ShowPage, ShowHolder}
 use Rattle.steps.specs.Calls.{nameOutside, frameOutside, spanOutside}
 use Rattle.steps.specs.Stores.{fits}
+use Rattle.steps.specs.Rights.{allows}
 
 -- what a call or a message comes to: turned back with a number, or accepted with what is to be had of it
 pub data Outcome (A : Type 0) : Type 0 where
@@ -68,11 +70,11 @@ rightOf g station = getD (g .rights) station 0
 
 -- "read ..: right 1 or 2"
 abbrev pub mayRead : Page → ℕ → Bool
-mayRead g station = leb 1 (rightOf g station)
+mayRead g station = allows (rightOf g station) Act.Read
 
 -- "write ..: right 2"
 abbrev pub mayWrite : Page → ℕ → Bool
-mayWrite g station = leb 2 (rightOf g station)
+mayWrite g station = allows (rightOf g station) Act.Write
 
 -- "owner only"
 abbrev pub owns : Page → ℕ → Bool

@@ -1,4 +1,5 @@
 // Steps 4 and 5: a station reads and writes.
+use crate::Act;
 use crate::Call;
 use crate::NO_PAGE;
 use crate::NO_RIGHT;
@@ -15,6 +16,7 @@ use tables::Page;
 ghost use mathlib.Core.Path.{_≡_};
 ghost use Prim.Native.Nat.{ℕ, _≤_};
 ghost use Rattle.steps.specs.declared.Kind.the-variants.{Read, Write};
+ghost use Rattle.steps.specs.Rights.{allows};
 ghost use Rattle.steps.specs.Steps.{rightOf, perform};
 ghost use Rattle.steps.specs.Private.{FirstCurrent, verdictOf};
 
@@ -24,6 +26,29 @@ fn right_of(page: Page, station: u8) -> u8
 {
     let s = station as usize;
     if s < 16 { page.rights[s] } else { 0 }
+}
+
+// Whether a right allows an act: document 01's rights and the two acts, pair by pair.
+fn allows(right: u8, act: Act) -> bool
+    ensures { λ r. ⌜ r ≡ allows right act ⌝ }
+{
+    match right {
+        // 0 none
+        0 => match act {
+            Act::Read => false,
+            Act::Write => false,
+        },
+        // 1 read
+        1 => match act {
+            Act::Read => true,
+            Act::Write => false,
+        },
+        // 2 read and write; this case also takes what is above 2, which no sound table has
+        2..=255 => match act {
+            Act::Read => true,
+            Act::Write => true,
+        },
+    }
 }
 
 // The number of the lowest-numbered CURRENT copy; 8 where there is none.
@@ -48,7 +73,8 @@ pub(crate) fn read_page(view: View, call: Call) -> Verdict
     if page.n == 0 {
         return refused(NO_PAGE);
     }
-    if right_of(page, call.station) < 1 {
+    let right = right_of(page, call.station);
+    if !allows(right, Act::Read) {
         return refused(NO_RIGHT);
     }
     let k = first_current(page);
@@ -75,7 +101,8 @@ pub(crate) fn write_page(view: View, call: Call, size: usize) -> Verdict
     if page.n == 0 {
         return refused(NO_PAGE);
     }
-    if right_of(page, call.station) < 2 {
+    let right = right_of(page, call.station);
+    if !allows(right, Act::Write) {
         return refused(NO_RIGHT);
     }
     let k = count_of(page, Which::Current);

@@ -100,6 +100,12 @@ pub struct View {
     pub holder: Holder,
 }
 
+// What a right allows a station or does not: to read a page, and to write it.
+pub enum Act {
+    Read,
+    Write,
+}
+
 // Which copies of a page a step is about.
 pub enum Which {
     Current,

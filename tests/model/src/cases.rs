@@ -1,7 +1,7 @@
 //! The cases of document 01 as call files, each with the whole list of its replies: the worked
 //! example, the starred cases on its end state, and for each trap and impostor a file whose replies
-//! it gets wrong. Then the deletes of request [2] of document 02, each also with the bytes that it
-//! leaves in the stores.
+//! it gets wrong. Then the pairs of right and act of request [3] of document 02, and the deletes of
+//! its request [2], each also with the bytes that it leaves in the stores.
 
 use crate::kernel::Kernel;
 use crate::model::{frame_bytes, Lent, Reader, Tables, Tally, FRAME, PROGRAM_FRAMES, SLIP};
@@ -201,6 +201,43 @@ pub const EXPOSING: [Case; 13] = [
         name: "a reader that reports the end too early",
         calls: &["read 3 5 0 1", "raw 00 00"],
         replies: &["00 05 01 00 00 00 41", "00 04 01 02 00 00"],
+    },
+];
+
+const NO_RIGHT: &str = "00 04 01 0A 00 00";
+
+/// "Rights: 0 none, 1 read, 2 read and write": for each pair of right and act a file, and the name
+/// of the wrong kernel that it exposes.
+pub const PAIRS: [Case; 6] = [
+    Case {
+        name: "a read with right 0 accepted",
+        calls: &["grant 3 5 4 0", "read 4 5 0 2"],
+        replies: &[DONE, NO_RIGHT],
+    },
+    Case {
+        name: "a write with right 0 accepted",
+        calls: &["grant 3 5 4 0", "write 4 5 0 01"],
+        replies: &[DONE, NO_RIGHT],
+    },
+    Case {
+        name: "a read with right 1 refused",
+        calls: &["grant 3 5 4 1", "read 4 5 0 2"],
+        replies: &[DONE, "00 06 01 00 00 00 41 37"],
+    },
+    Case {
+        name: "a write with right 1 accepted",
+        calls: &["grant 3 5 4 1", "write 4 5 0 01"],
+        replies: &[DONE, NO_RIGHT],
+    },
+    Case {
+        name: "a read with right 2 refused",
+        calls: &["grant 3 5 4 2", "read 4 5 0 2"],
+        replies: &[DONE, "00 06 01 00 00 00 41 37"],
+    },
+    Case {
+        name: "a write with right 2 refused",
+        calls: &["grant 3 5 4 2", "write 4 5 0 01"],
+        replies: &[DONE, "00 04 01 00 00 01"],
     },
 ];
 

@@ -1,10 +1,10 @@
 //! The cases of document 01, on the kernel and on the model: the worked example, the starred cases,
-//! the traps, the impostors and the order of the refusals; and the deletes of request [2] of
-//! document 02.
+//! the traps, the impostors and the order of the refusals; and of document 02 the deletes of request
+//! [2] and the pairs of right and act of request [3].
 
 use ::model::cases::{
-    bytes, example, in_parts, one_by_one, unit, Case, Served, CALLS, DELETES, EXPOSING, REPLIES,
-    STARRED,
+    bytes, example, in_parts, one_by_one, unit, Case, Served, CALLS, DELETES, EXPOSING, PAIRS,
+    REPLIES, STARRED,
 };
 use ::model::gen::{self, Rng, DAMAGES};
 use ::model::kernel::{Embedded, Kernel, Modelled};
@@ -128,6 +128,13 @@ fn starred_cases() {
 fn traps_and_impostors() {
     for kernel in BOTH {
         EXPOSING.iter().for_each(|case| check(kernel, case));
+    }
+}
+
+#[test]
+fn pairs_of_right_and_act() {
+    for kernel in BOTH {
+        PAIRS.iter().for_each(|case| check(kernel, case));
     }
 }
 

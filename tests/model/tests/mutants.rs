@@ -1,7 +1,7 @@
 //! The harness tried on itself: `compare` must catch every one of these wrong kernels, each the
 //! model with one flaw.
 
-use ::model::cases::{in_parts, DELETES, EXPOSING};
+use ::model::cases::{in_parts, DELETES, EXPOSING, PAIRS};
 use ::model::clean::Clean;
 use ::model::compare::compare;
 use ::model::flat::Demand3;
@@ -23,6 +23,8 @@ struct Turn<'a> {
 enum Flaw {
     /// Spoils an answer.
     Answer(fn(&mut Turn)),
+    /// Takes a station's right for another one, at calls of this kind.
+    Right { kind: u8, has: u8, taken: u8 },
     /// Mends broken tables that it should refuse.
     Mend(fn(&mut [u8])),
     /// Takes this much of a file.
@@ -150,6 +152,15 @@ impl Mutant {
                 }
                 answer
             }
+            Flaw::Right { kind, has, taken } => match right_asked(lent, message, kind) {
+                Some(at) if lent.tables[at] == has => {
+                    lent.tables[at] = taken;
+                    let answer = model::answer(lent, message);
+                    lent.tables[at] = has;
+                    answer
+                }
+                _ => model::answer(lent, message),
+            },
             Flaw::Answer(spoil) => {
                 let mut answer = model::answer(lent, message);
                 spoil(&mut Turn {
@@ -262,6 +273,20 @@ impl Turn<'_> {
     }
 }
 
+/// Where the tables' bytes have the right that a read (kind 4) or a write (kind 5) of a page that
+/// stands asks for.
+fn right_asked(lent: &Lent, message: &[u8], kind: u8) -> Option<usize> {
+    let (station, page) = match (Call::decode(message).ok()?, kind) {
+        (Call::Read { station, page, .. }, 4) | (Call::Write { station, page, .. }, 5) => {
+            (usize::from(station), usize::from(page))
+        }
+        _ => return None,
+    };
+    let at = 2 + RECORD * page;
+    let stands = lent.tables.len() == RAW && page < 64 && lent.tables[at + RECORD - 1] > 0;
+    (stands && station < STATIONS).then_some(at + station)
+}
+
 /// The raw record's entries in use.
 fn used(record: &mut [u8]) -> std::slice::ChunksMut<'_, u8> {
     let n = usize::from(record[RECORD - 1]).min(ENTRIES);
@@ -294,7 +319,7 @@ fn even_marks(tables: &mut [u8]) {
 }
 
 /// The wrong kernels.
-const MUTANTS: [(&str, Flaw); 85] = [
+const MUTANTS: [(&str, Flaw); 84] = [
     // The traps of the paper.
     (
         "a new copy takes its source's CURRENT mark",
@@ -584,18 +609,6 @@ const MUTANTS: [(&str, Flaw); 85] = [
             {
                 turn.answer.laid = bytes.len();
                 turn.reply(&[0, 4, 1, 0, 0, bytes.len() as u8]);
-            }
-        }),
-    ),
-    (
-        "right 1 cannot read",
-        Flaw::Answer(|turn| {
-            if let (Some(Call::Read { station, .. }), Some((_, page))) =
-                (turn.call.clone(), turn.accepted_page())
-            {
-                if page.rights[usize::from(station)] == 1 {
-                    turn.refuse(10);
-                }
             }
         }),
     ),
@@ -1066,6 +1079,58 @@ const MUTANTS: [(&str, Flaw); 85] = [
     ),
 ];
 
+/// Each pair of right and act the other way, request [3] of document 02.
+const WRONG_PAIRS: [(&str, Flaw); 6] = [
+    (
+        "a read with right 0 accepted",
+        Flaw::Right {
+            kind: 4,
+            has: 0,
+            taken: 2,
+        },
+    ),
+    (
+        "a write with right 0 accepted",
+        Flaw::Right {
+            kind: 5,
+            has: 0,
+            taken: 2,
+        },
+    ),
+    (
+        "a read with right 1 refused",
+        Flaw::Right {
+            kind: 4,
+            has: 1,
+            taken: 0,
+        },
+    ),
+    (
+        "a write with right 1 accepted",
+        Flaw::Right {
+            kind: 5,
+            has: 1,
+            taken: 2,
+        },
+    ),
+    (
+        "a read with right 2 refused",
+        Flaw::Right {
+            kind: 4,
+            has: 2,
+            taken: 0,
+        },
+    ),
+    (
+        "a write with right 2 refused",
+        Flaw::Right {
+            kind: 5,
+            has: 2,
+            taken: 0,
+        },
+    ),
+];
+
 /// Wrong deletes: what a kernel lays, fills and counts where a frame is freed, request [2] of
 /// document 02.
 const WRONG_DELETES: [(&str, Flaw); 21] = [
@@ -1237,7 +1302,8 @@ const WRONG_DELETES: [(&str, Flaw); 21] = [
 ];
 
 fn mutants() -> impl Iterator<Item = (&'static str, Flaw)> {
-    MUTANTS.into_iter().chain(WRONG_DELETES)
+    let pairs_and_deletes = WRONG_PAIRS.into_iter().chain(WRONG_DELETES);
+    MUTANTS.into_iter().chain(pairs_and_deletes)
 }
 
 const SEED: u64 = 1;
@@ -1274,11 +1340,12 @@ fn every_mutant_is_caught() {
     assert_eq!(missed, Vec::<&str>::new());
 }
 
-/// Each trap and each impostor of document 01 gets a reply of its file wrong.
+/// Each trap and each impostor of document 01, and each wrong pair of right and act, gets a reply of
+/// its file wrong.
 #[test]
-fn traps_and_impostors_are_exposed() {
-    for case in &EXPOSING {
-        let flaw = MUTANTS.into_iter().find(|(name, _)| *name == case.name);
+fn traps_impostors_and_wrong_pairs_are_exposed() {
+    for case in EXPOSING.iter().chain(&PAIRS) {
+        let flaw = mutants().find(|(name, _)| *name == case.name);
         let (_, flaw) = flaw.unwrap_or_else(|| panic!("no mutant: {}", case.name));
         let served = in_parts(&Mutant(flaw), &case.file(), 1000);
         assert_ne!(served.replies, case.replies(), "{}", case.name);
@@ -1350,7 +1417,7 @@ fn clean(kernel: &dyn Kernel) -> Result<(), String> {
     )
 }
 
-const DEMAND_3: [&str; 15] = [
+const DEMAND_3: [&str; 20] = [
     "one current copy of two written",
     "a free frame's old bytes taken for zeros",
     "nothing current before looking",
@@ -1359,7 +1426,12 @@ const DEMAND_3: [&str; 15] = [
     "reads zeros where nothing is current",
     "a grant of right 2 gives the page away",
     "the owner's own right stays",
-    "right 1 cannot read",
+    "a read with right 0 accepted",
+    "a write with right 0 accepted",
+    "a read with right 1 refused",
+    "a write with right 1 accepted",
+    "a read with right 2 refused",
+    "a write with right 2 refused",
     "a read of 64 bytes refused",
     "nothing current before no right",
     "the frame of the copy that closed the gap filled",

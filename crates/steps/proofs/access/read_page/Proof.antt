@@ -1,6 +1,6 @@
 -- `steps::access::read_page` meets its contract: 9, 10 and 11, or the frame of the first CURRENT copy.
 use native.Mathlib.Omega.{arith}
-use borrow.Author.Tests.{eq-eqb, ne-eqb, le-leb, lt-leb}
+use borrow.Author.Tests.{eq-eqb, ne-eqb}
 use Rattle.steps.specs.Steps.{currents, perform}
 use borrow.Author.Needs.{needs}
 use Rattle.steps.proofs.access.read_page.Statement.{statement}
@@ -16,14 +16,18 @@ returns c = λ size. rw (eq-eqb _ 0 (c .before .if1 .taken)) (c .refused .ensure
 right-of-requires : tie.Need-right-of-requires
 right-of-requires c κs = search needs
 
+allows-requires : tie.Need-allows-requires
+allows-requires c κs = search needs
+
 refused-requires-2 : tie.Need-refused-requires-2
 refused-requires-2 c κs = search needs
 
 returns-2 : tie.Need-returns-2
 unfolding perform
 returns-2 c = λ size.
-    let r = c .before .before in
-    rw (ne-eqb _ 0 (r .before .if1 .left), ← r .right-of .ensures, lt-leb 1 _ (c .before .if2 .taken)) (c .refused2 .ensures)
+    let a = c .before .before in
+    let r = a .before in
+    rw (ne-eqb _ 0 (r .before .if1 .left), ← r .right-of .ensures, ← a .allows .ensures, c .before .if2 .taken) (c .refused2 .ensures)
 
 first-current-requires : tie.Need-first-current-requires
 first-current-requires c κs = search needs
@@ -35,9 +39,10 @@ returns-3 : tie.Need-returns-3
 unfolding perform
 returns-3 c = λ size.
     let f = c .before .before in
-    let r = f .before .before in
+    let a = f .before .before in
+    let r = a .before in
     let none = f .first-current .ensures .none (c .before .if3 .taken) in
-    rw (ne-eqb _ 0 (r .before .if1 .left), ← r .right-of .ensures, le-leb 1 _ (f .before .if2 .left), none) (c .refused3 .ensures)
+    rw (ne-eqb _ 0 (r .before .if1 .left), ← r .right-of .ensures, ← a .allows .ensures, f .before .if2 .left, none) (c .refused3 .ensures)
 
 mul-c : tie.Need-mul-c
 mul-c c = search needs
@@ -56,10 +61,11 @@ unfolding perform
 returns-4 c = λ size.
     let i = c .before .before .before in
     let f = i .before in
-    let r = f .before .before in
+    let a = f .before .before in
+    let r = a .before in
     let some = f .first-current .ensures .some (i .if3 .left) in
     let n = ne-eqb (currents (r .before .before .before .args .view .page)) 0 (λ e. omega arith) in
-    rw (ne-eqb _ 0 (r .before .if1 .left), ← r .right-of .ensures, le-leb 1 _ (f .before .if2 .left), n, ← some .1) (c .accepted .ensures)
+    rw (ne-eqb _ 0 (r .before .if1 .left), ← r .right-of .ensures, ← a .allows .ensures, f .before .if2 .left, n, ← some .1) (c .accepted .ensures)
 
 pub read-page-spec : {M : Type 1} → statement M
 read-page-spec =
@@ -68,6 +74,7 @@ read-page-spec =
     refused-requires
     returns
     right-of-requires
+    allows-requires
     refused-requires-2
     returns-2
     first-current-requires
