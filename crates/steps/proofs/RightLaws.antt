@@ -1,5 +1,4 @@
--- What the cases of a right say of every number, and the lack of the right that a read or a write asks for, as the flat memory asks
--- after it.
+-- What the cases of a right say of every number, and what a read or a write lacks, in the flat memory's words.
 use Prim.Native.Nat.{ℕ, zero, suc, _≤_}
 use mathlib.Core.Path.{_≡_, refl, sym, ap, _∙_}
 use mathlib.Core.Bool.{true, not}
@@ -17,14 +16,7 @@ abbrev least : Act → ℕ
 least Read = 1
 least Write = 2
 
--- the case of 2 takes every number from 2 on
-pub allows-above : (right : ℕ) (act : Act) → 2 ≤ right → allows right act ≡ true
-allows-above zero act h = absurd (omega arith)
-allows-above (suc zero) act h = absurd (omega arith)
-allows-above (suc (suc r)) Read h = refl
-allows-above (suc (suc r)) Write h = refl
-
--- The six cases are the comparison that stood in their place, of every number, those above 2 too: document 01's "right too low".
+-- The six cases are a comparison, of every number, those above 2 too: a right below the least is document 01's "right too low".
 pub allows-least : (right : ℕ) (act : Act) → allows right act ≡ leb (least act) right
 allows-least zero Read = refl
 allows-least zero Write = refl
@@ -32,6 +24,11 @@ allows-least (suc zero) Read = refl
 allows-least (suc zero) Write = refl
 allows-least (suc (suc r)) Read = sym (le-leb 1 (suc (suc r)) (omega arith))
 allows-least (suc (suc r)) Write = sym (le-leb 2 (suc (suc r)) (omega arith))
+
+-- the case of 2 takes every number from 2 on
+pub allows-above : (right : ℕ) (act : Act) → 2 ≤ right → allows right act ≡ true
+allows-above right Read h = allows-least right Read ∙ le-leb 1 right (omega arith)
+allows-above right Write h = allows-least right Write ∙ le-leb 2 right h
 
 not-least-one : (r : ℕ) → not (leb 1 r) ≡ eqb r 0
 not-least-one zero = refl

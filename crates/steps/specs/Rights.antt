@@ -1,10 +1,10 @@
--- Document 01's rights beside the two acts that a right is asked for, as request [3] of document 02 wants them: the six pairs as cases.
+-- Document 01's rights beside the two acts that a right is asked for; document 02, request [3]: "the six pairs of right and act .. as cases".
 use Prim.Native.Nat.{ℕ, zero, suc}
 use mathlib.Core.Bool.{Bool, true, false}
 use Rattle.steps.specs.declared.Act.{Act}
 use Rattle.steps.specs.declared.Act.the-variants.{Read, Write}
 
--- "Rights: 0 none, 1 read, 2 read and write." "read ..: right 1 or 2." "write ..: right 2."
+-- "Rights: 0 none, 1 read, 2 read and write."
 abbrev pub allows : ℕ → Act → Bool
 -- 0 none
 allows zero Read = false

@@ -100,7 +100,7 @@ pub struct View {
     pub holder: Holder,
 }
 
-// What a right allows a station or does not: to read a page, and to write it.
+// What a right is asked for: to read a page, or to write it.
 pub enum Act {
     Read,
     Write,

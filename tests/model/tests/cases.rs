@@ -1,6 +1,6 @@
 //! The cases of document 01, on the kernel and on the model: the worked example, the starred cases,
-//! the traps, the impostors and the order of the refusals; and of document 02 the deletes of request
-//! [2] and the pairs of right and act of request [3].
+//! the traps, the impostors and the order of the refusals; and of document 02 the pairs of right and
+//! act of request [3] and the deletes of request [2].
 
 use ::model::cases::{
     bytes, example, in_parts, one_by_one, unit, Case, Served, CALLS, DELETES, EXPOSING, PAIRS,

@@ -23,7 +23,7 @@ struct Turn<'a> {
 enum Flaw {
     /// Spoils an answer.
     Answer(fn(&mut Turn)),
-    /// Takes a station's right for another one, at calls of this kind.
+    /// Takes a station's right for another one, at reads (kind 4) or at writes (kind 5).
     Right { kind: u8, has: u8, taken: u8 },
     /// Mends broken tables that it should refuse.
     Mend(fn(&mut [u8])),
@@ -273,8 +273,7 @@ impl Turn<'_> {
     }
 }
 
-/// Where the tables' bytes have the right that a read (kind 4) or a write (kind 5) of a page that
-/// stands asks for.
+/// Where the tables' bytes have the right that a call of this kind asks for, on a page that stands.
 fn right_asked(lent: &Lent, message: &[u8], kind: u8) -> Option<usize> {
     let (station, page) = match (Call::decode(message).ok()?, kind) {
         (Call::Read { station, page, .. }, 4) | (Call::Write { station, page, .. }, 5) => {
@@ -282,9 +281,9 @@ fn right_asked(lent: &Lent, message: &[u8], kind: u8) -> Option<usize> {
         }
         _ => return None,
     };
-    let at = 2 + RECORD * page;
-    let stands = lent.tables.len() == RAW && page < 64 && lent.tables[at + RECORD - 1] > 0;
-    (stands && station < STATIONS).then_some(at + station)
+    let tables = Tables::from_raw(&lent.tables)?;
+    tables.pages.get(page)?.as_ref()?;
+    (station < STATIONS).then_some(2 + RECORD * page + station)
 }
 
 /// The raw record's entries in use.
@@ -1302,8 +1301,7 @@ const WRONG_DELETES: [(&str, Flaw); 21] = [
 ];
 
 fn mutants() -> impl Iterator<Item = (&'static str, Flaw)> {
-    let pairs_and_deletes = WRONG_PAIRS.into_iter().chain(WRONG_DELETES);
-    MUTANTS.into_iter().chain(pairs_and_deletes)
+    MUTANTS.into_iter().chain(WRONG_PAIRS).chain(WRONG_DELETES)
 }
 
 const SEED: u64 = 1;
