@@ -1,14 +1,12 @@
 -- Values read one after the other: how many, and each one's bytes.
-use Prim.Native.Nat.{ℕ, zero, suc, _+_, _*_, _-_, _<_}
-use mathlib.Core.Bool.{Bool, _&&_}
+use Prim.Native.Nat.{ℕ, zero, suc, _+_, _*_, _<_}
 use mathlib.Core.Path.{_≡_, refl, ap, _∙_}
 use mathlib.Core.List.{List}
 use native.Mathlib.Nat.{not-suc-le-zero, le-of-suc-le-suc, mul-zero, mul-suc}
-use native.Mathlib.Numerals.{add-one}
 use native.Mathlib.Omega.{arith}
 use lib.ListN.{length, getD, drop}
 use lib.Seq.{drop-drop}
-use Rattle.embed.specs.Bytes.{fromEach, eachIs}
+use Rattle.embed.specs.Bytes.{fromEach}
 
 module _ {A : Type 0} (size : ℕ) (from : List ℕ → A) where
   -- how many
@@ -25,12 +23,3 @@ module _ {A : Type 0} (size : ℕ) (from : List ℕ → A) where
   each-at (suc k) (suc i) b d h =
       let e : size + size * i ≡ size * suc i = omega (arith, mul-suc size i) in
       each-at k i (drop size b) d (le-of-suc-le-suc h) ∙ rw (drop-drop (size * i) size b, e)
-
--- a test at each place: those from i on are the one at i and those from i + 1 on
-pub each-next : (size : ℕ) (test : List ℕ → Bool) (k i : ℕ) (b : List ℕ) → i < k
-    → eachIs (k - i) size test (drop (size * i) b) ≡ (test (drop (size * i) b) && eachIs (k - (i + 1)) size test (drop (size * (i + 1)) b))
-unfolding eachIs
-each-next size test k i b h =
-    let e : k - i ≡ suc (k - (i + 1)) = omega arith in
-    let f : size * i + size ≡ size * (i + 1) = rw (add-one i) (omega (arith, mul-suc size i)) in
-    rw (e, drop-drop size (size * i) b, f)

@@ -18,7 +18,8 @@ use Rattle.tables.proofs.ListLaws.{and-left, and-right, and-intro, all-at, all-
 use Rattle.tables.proofs.RuleLaws.{sound-of}
 use Rattle.tables.proofs.RegisterLaws.{register-fits}
 use Rattle.messages.specs.Replies.{be16}
-use Rattle.embed.specs.Bytes.{pageSize, tablesSize, markByte, markFrom, isMark, copyBytes, pageBytes, tablesBytes, fromEach, copyFrom, pageFrom, entryFrom, tablesFrom, eachIs, copyMarked, pageMarked, marked}
+use Rattle.steps.specs.Data.{isMark, copyMarked, eachIs}
+use Rattle.embed.specs.Bytes.{pageSize, tablesSize, markByte, markFrom, copyBytes, pageBytes, tablesBytes, fromEach, copyFrom, pageFrom, entryFrom, tablesFrom, pageMarked, marked}
 use Rattle.embed.proofs.LayLaws.{flat-length}
 
 -- ---- values of one size in a row

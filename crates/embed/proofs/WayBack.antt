@@ -10,7 +10,8 @@ use lib.Seq.{take-add, drop-drop, getD-drop}
 use borrow.Author.Tests.{eqb-true, ltb-true}
 use Rattle.tables.proofs.ListLaws.{and-left, and-right}
 use Rattle.messages.specs.Replies.{be16}
-use Rattle.embed.specs.Bytes.{pageSize, tablesSize, markByte, markFrom, isMark, copyBytes, pageBytes, tablesBytes, fromEach, copyFrom, pageFrom, entryFrom, tablesFrom, eachIs, copyMarked, pageMarked, marked}
+use Rattle.steps.specs.Data.{isMark, copyMarked, eachIs}
+use Rattle.embed.specs.Bytes.{pageSize, tablesSize, markByte, markFrom, copyBytes, pageBytes, tablesBytes, fromEach, copyFrom, pageFrom, entryFrom, tablesFrom, pageMarked, marked}
 use Rattle.embed.specs.Exports.{tablesSized, tablesIn}
 
 -- values of one size in a row, where each is laid out as the bytes that it was read from

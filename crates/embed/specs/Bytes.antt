@@ -1,15 +1,16 @@
 -- The tables as bytes: P, S, then each page, which is the sixteen rights, the eight entries of three bytes, the owner and n,
 -- then the register, two bytes, big-endian, for each frame number.
 use Prim.Native.Nat.{ℕ, zero, suc, _+_, _*_}
-use mathlib.Core.Bool.{Bool, true, not, _&&_, cond}
+use mathlib.Core.Bool.{Bool, not, cond}
 use mathlib.Core.List.{List, [], _∷_, _++_, flatMap}
 use lib.ListN.{getD, take, drop}
-use lib.Dec.{eqb, ltb}
+use lib.Dec.{eqb}
 use Rattle.tables.specs.declared.Copy.{Copy}
 use Rattle.tables.specs.declared.Page.{Page}
 use Rattle.tables.specs.declared.Tables.{Tables}
 use Rattle.tables.specs.Model.{sized}
-use Rattle.messages.specs.Replies.{be16}
+use Rattle.steps.specs.Data.{copyMarked, eachIs}
+use Rattle.messages.specs.Replies.{be16, be16At}
 
 -- ---- sizes
 
@@ -56,24 +57,12 @@ pageFrom b = record { rights = take 16 b; copies = fromEach 8 3 copyFrom (drop 1
 
 -- an entry of the register
 abbrev pub entryFrom : List ℕ → ℕ
-entryFrom b = getD b 0 0 * 256 + getD b 1 0
+entryFrom b = be16At b 0
 
 unfoldable pub tablesFrom : List ℕ → Tables
 tablesFrom b = record { shared = sized (getD b 0 0) (getD b 1 0); pages = fromEach 64 pageSize pageFrom (drop 2 b); register = fromEach 254 2 entryFrom (drop registerAt b) }
 
 -- ---- the marks
-
--- "CURRENT and MOST RECENT as 0 or 1"
-abbrev pub isMark : ℕ → Bool
-isMark b = ltb b 2
-
--- whether a test holds at each of k places, `size` bytes apart
-unfoldable pub eachIs : ℕ → ℕ → (List ℕ → Bool) → List ℕ → Bool
-eachIs zero size test bytes = true
-eachIs (suc k) size test bytes = test bytes && eachIs k size test (drop size bytes)
-
-abbrev pub copyMarked : List ℕ → Bool
-copyMarked b = isMark (getD b 1 0) && isMark (getD b 2 0)
 
 unfoldable pub pageMarked : List ℕ → Bool
 pageMarked b = eachIs 8 3 copyMarked (drop 16 b)

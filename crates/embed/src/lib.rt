@@ -21,12 +21,13 @@ ghost use mathlib.Core.List.{flatMap};
 ghost use Prim.Native.Nat.{_+_, _≤_, _<_};
 ghost use lib.ListN.{length, take, drop};
 ghost use lib.Seq.{sets};
+ghost use Rattle.steps.specs.Data.{copyMarked};
 ghost use Rattle.steps.specs.Effects.{readCall, readPlace};
 ghost use Rattle.steps.specs.Promises.{lent, rulesNumber};
 ghost use Rattle.messages.specs.Replies.{be16};
 ghost use Rattle.messages.specs.Run.{answer, run, partFrom};
 ghost use Rattle.messages.specs.Promises.{sentAlone};
-ghost use Rattle.embed.specs.Bytes.{pageSize, registerAt, tablesSize, markByte, copyBytes, pageBytes, tablesBytes, fromEach, copyFrom, pageFrom, entryFrom, tablesFrom, copyMarked, pageMarked, marked};
+ghost use Rattle.embed.specs.Bytes.{pageSize, registerAt, tablesSize, markByte, copyBytes, pageBytes, tablesBytes, fromEach, copyFrom, pageFrom, entryFrom, tablesFrom, pageMarked, marked};
 ghost use Rattle.embed.specs.Private.{Small};
 ghost use Rattle.embed.specs.Exports.{version, tablesIn, noTables, tablesOf, withTables, freshInto, tallyOf, withTally, storeNumber, placeNumber, packed, lentState, AnswerLent, RunLent, RepliesLent};
 

@@ -1,15 +1,16 @@
 -- Document 01, "Call files and replies": messages and the reader.
-use Prim.Native.Nat.{ℕ, _+_, _*_}
-use mathlib.Core.Bool.{not, _||_, cond}
+use Prim.Native.Nat.{ℕ, _+_}
+use mathlib.Core.Bool.{Bool, not, _||_, cond}
 use mathlib.Core.List.{List}
 use lib.ListN.{length, drop, getD}
 use lib.Dec.{leb, ltb, eqb}
 use Rattle.tables.specs.Numbers.{foreignVersion, unknownKind, wrongLength}
-use Rattle.steps.specs.Kinds.{kinds, kindOf, leastLength, mostLength, callOf}
+use Rattle.steps.specs.Kinds.{isUnknown, kindOf, leastLength, mostLength, callOf}
 use Rattle.messages.specs.declared.Parsed.{Parsed}
 use Rattle.messages.specs.declared.Parsed.the-variants.{Refused, Asked}
 use Rattle.messages.specs.declared.Next.{Next}
 use Rattle.messages.specs.declared.Next.the-variants.{Message, Cut, End}
+use Rattle.messages.specs.Replies.{be16At}
 
 -- ---- a message m: the L bytes after its length
 
@@ -19,11 +20,15 @@ parseKind kind m =
     cond (ltb (length m) (leastLength (kindOf kind)) || ltb (mostLength (kindOf kind)) (length m)) (Refused wrongLength)
     (Asked (callOf (kindOf kind) (drop 2 m)))
 
--- "a version byte 1, a kind byte 1 to 11": 2: "L is 0, or version not 1"; 3: "L is 1, or kind not 1 to 11"
+-- 2: "L is 0, or version not 1"
+abbrev pub isForeign : List ℕ → Bool
+isForeign m = eqb (length m) 0 || not (eqb (getD m 0 0) 1)
+
+-- "a version byte 1, a kind byte 1 to 11"; 3: "L is 1, or kind not 1 to 11"
 unfoldable pub parse : List ℕ → Parsed
 parse m =
-    cond (eqb (length m) 0 || not (eqb (getD m 0 0) 1)) (Refused foreignVersion)
-    (cond (eqb (length m) 1 || (eqb (getD m 1 0) 0 || ltb (length kinds) (getD m 1 0))) (Refused unknownKind)
+    cond (isForeign m) (Refused foreignVersion)
+    (cond (eqb (length m) 1 || isUnknown (getD m 1 0)) (Refused unknownKind)
     (parseKind (getD m 1 0) m))
 
 -- "write ends with 1 to 64 bytes", after the version, the kind and three arguments
@@ -34,7 +39,7 @@ writeBytes m = drop 5 m
 
 -- "a 2-byte big-endian length L of what follows"
 abbrev pub lengthAt : List ℕ → ℕ → ℕ
-lengthAt file at = getD file at 0 * 256 + getD file (at + 1) 0
+lengthAt file at = be16At file at
 
 -- 1: "one byte left, or fewer than L after the length"
 unfoldable pub nextAt : List ℕ → ℕ → Next

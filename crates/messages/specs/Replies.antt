@@ -1,17 +1,20 @@
 -- Document 01, "Call files and replies": replies, and the tally.
-use Prim.Native.Nat.{ℕ, _+_, _/_, _%_, min}
+use Prim.Native.Nat.{ℕ, _+_, _*_, _/_, _%_, min}
 use mathlib.Core.Bool.{Bool, true, false, cond}
 use mathlib.Core.List.{List, [], _∷_, _++_}
-use lib.ListN.{length}
+use lib.ListN.{length, getD}
 use lib.Dec.{ltb}
 use Rattle.tables.specs.Numbers.{accepted}
 use Rattle.steps.specs.Steps.{Outcome, refuse, accept}
 use Rattle.steps.specs.Effects.{Result}
 use Rattle.messages.specs.declared.Tally.{Tally}
 
--- two bytes, big-endian
+-- two bytes, big-endian; and the number that two bytes of l from index at on are
 abbrev pub be16 : ℕ → List ℕ
 be16 n = n / 256 % 256 ∷ n % 256 ∷ []
+
+abbrev pub be16At : List ℕ → ℕ → ℕ
+be16At l at = getD l at 0 * 256 + getD l (at + 1) 0
 
 -- "A reply is L, version 1, the number (0 accepted), bytes laid in two bytes big-endian, then the bytes of a read or look."
 -- "A refusal is 00 04 01 nn 00 00."

@@ -3,8 +3,8 @@ use crate::FOREIGN_VERSION;
 use crate::Parsed;
 use crate::UNKNOWN_KIND;
 use crate::WRONG_LENGTH;
-use steps::KINDS;
 use steps::form_of;
+use steps::is_unknown;
 ghost use mathlib.Core.Path.{_≡_};
 ghost use lib.ListN.{getD};
 ghost use Rattle.messages.specs.declared.Parsed.the-variants.{Refused};
@@ -57,7 +57,7 @@ pub(crate) fn parse(m: &[u8]) -> Parsed
         return turned_back(UNKNOWN_KIND);
     }
     let kind = m[1];
-    if (kind == 0) | (kind > KINDS) {
+    if is_unknown(kind) {
         return turned_back(UNKNOWN_KIND);
     }
     parse_kind(kind, m)

@@ -2,16 +2,18 @@
 -- of some copies; the entries that show the copies.
 use Prim.Native.Nat.{ℕ, _+_, _*_, _≤_, _<_}
 use mathlib.Core.Path.{_≡_, refl, sym, ap, _∙_}
-use mathlib.Core.Bool.{Bool}
+use mathlib.Core.Bool.{Bool, true, false}
 use mathlib.Core.List.{List, [], _∷_}
 use native.Mathlib.Omega.{arith}
 use lib.ListN.{length, drop, getD}
 use Rattle.tables.specs.declared.Copy.{Copy}
 use Rattle.tables.specs.declared.Page.{Page}
 use Rattle.tables.specs.Model.{inUse, noCopyEntry}
+use Rattle.tables.proofs.ListLaws.{and-intro}
 use Rattle.tables.proofs.Loops.{drop-end, use-more}
+use Rattle.steps.specs.Data.{isMark, copyMarked, eachIs}
 use Rattle.steps.specs.Stores.{splice, layEach}
-use Rattle.steps.specs.Effects.{entries}
+use Rattle.steps.specs.Effects.{bit, entries}
 use Rattle.steps.proofs.StoreLaws.{splice-next, splice-none}
 
 module _ (g : Page) (j : ℕ) where
@@ -47,3 +49,13 @@ pub length-entries : (cs : List Copy) → length (entries cs) ≡ 3 * length cs
 unfolding entries
 length-entries [] = refl
 length-entries (c ∷ cs) = let k = length-entries cs in omega arith
+
+-- both marks of each are 0 or 1
+pub entries-marked : (cs : List Copy) → eachIs (length cs) 3 copyMarked (entries cs) ≡ true
+unfolding entries eachIs
+entries-marked [] = refl
+entries-marked (c ∷ cs) = and-intro (and-intro (is-mark (c .current)) (is-mark (c .recent))) (entries-marked cs)
+  where
+    is-mark : (b : Bool) → isMark (bit b) ≡ true
+    is-mark true = refl
+    is-mark false = refl

@@ -1,7 +1,7 @@
 -- What is to be known of a call's plan, from one walk over the kinds. In order: what holds of an outcome if it is accepted; the
 -- copies of a page; one plan of each form; the walk; the call on tables that keep the rules.
 use Prim.Native.Nat.{ℕ, _+_, _*_, _≤_, _<_, zero-le}
-use mathlib.Core.Path.{_≡_, refl, ap, _∙_}
+use mathlib.Core.Path.{_≡_, refl, ap, subst, _∙_}
 use mathlib.Core.Logic.{_≢_}
 use mathlib.Core.Bool.{Bool, true, false, not, _&&_, _||_, cond, false≢true}
 use mathlib.Core.List.{List, [], _∷_}
@@ -9,7 +9,7 @@ use native.Mathlib.Nat.{mul-le-mul}
 use native.Mathlib.Omega.{arith}
 use lib.ListN.{length}
 use lib.Dec.{leb, ltb, eqb}
-use borrow.Author.Tests.{ltb-false, leb-false, eqb-false, lt-ltb, le-leb, lt-leb, not-true, not-false}
+use borrow.Author.Tests.{ltb-false, leb-false, eqb-false, eq-eqb, lt-ltb, le-leb, lt-leb, not-true, not-false}
 use Rattle.tables.specs.declared.Copy.{Copy}
 use Rattle.tables.specs.declared.Page.{Page}
 use Rattle.tables.specs.declared.Tables.{Tables}
@@ -32,18 +32,21 @@ use Rattle.tables.proofs.UsesLaws.{uses-at}
 use Rattle.tables.proofs.PageChanges.{removed-ok, staled-on, marked-on, removed-on, added-on}
 use Rattle.steps.specs.declared.Kind.{Kind}
 use Rattle.steps.specs.declared.Kind.the-variants.{Create, DeletePage, Grant, Read, Write, MakeCopy, DeleteCopy, SetCurrent, RemoveCurrent, LookPage, LookFrame}
+use Rattle.steps.specs.declared.Data.{Data}
+use Rattle.steps.specs.declared.Data.the-variants.{Empty}
 use Rattle.steps.specs.declared.Call.{Call}
 use Rattle.steps.specs.declared.View.{View}
 use Rattle.steps.specs.declared.Work.{Work}
 use Rattle.steps.specs.declared.Work.the-variants.{Clear, ClearPage, Duplicate, Spread, Show, ShowPage, ShowHolder}
-use Rattle.steps.specs.Kinds.{offset, bytes, frame, names, code, among, has, leastLength}
+use Rattle.steps.specs.Kinds.{offset, bytes, frame, names, tells, code, among, has, leastLength}
 use Rattle.steps.specs.Calls.{nameOutside, frameOutside, badSpan, spanOutside}
 use Rattle.steps.specs.Steps.{Outcome, refuse, accept, test, Plan, editing, showing, laying, mayRead, mayWrite, owns, isPlaced, copyAt, currents, recents, placed, firstCurrent, standing, numbered, copying, perform, decideOn, decide}
+use Rattle.steps.specs.Data.{copyMarked, eachIs, formed}
 use Rattle.steps.specs.Stores.{block, zeros}
-use Rattle.steps.specs.Effects.{laidIn, shownOf}
+use Rattle.steps.specs.Effects.{entries, laidIn, shownOf}
 use Rattle.steps.specs.Promises.{frameWithin, workWithin}
 use Rattle.steps.proofs.StoreLaws.{length-part, length-frame-part}
-use Rattle.steps.proofs.CopyLaws.{length-entries}
+use Rattle.steps.proofs.CopyLaws.{length-entries, entries-marked}
 use Rattle.steps.proofs.ClearLaws.{on, Clears, kept-clears, written-clears, made-clears, removed-clears, deleted-clears, created-over, granted-on, null-placed}
 
 -- ---- what holds of an outcome if it is accepted
@@ -130,7 +133,8 @@ module _ {limit : ℕ} where
 -- ---- one plan
 
 -- what is known of the plan of a call of kind k on page g of tables t: its edit is allowed, what it lays and shows fits, and lies within the
--- frames; it clears the frames that it frees; and its reply has at most 35 bytes for each 4 of its message
+-- frames; its data have the form of the kind's; it clears the frames that it frees; and its reply has at most 35 bytes for each 4 of its
+-- message
 pub record PlanOk (t : Tables) (c : Call) (size : ℕ) (k : Kind) (plan : Plan) : Type 0 where
   pub near : c .page < 64
   pub allowed : Allowed t (c .page) (plan .edit)
@@ -139,6 +143,8 @@ pub record PlanOk (t : Tables) (c : Call) (size : ℕ) (k : Kind) (plan : Plan) 
   pub laid-fits : plan .laid ≤ 512
   pub inside : workWithin (pageAt t (c .page)) (plan .len) (frames t) size (plan .work) ≡ true
   pub shows : (st : List ℕ) → length st ≡ 64 * frames t → length (shownOf (pageAt t (c .page)) (plan .work) (plan .len) st) ≡ plan .len
+  pub as-told : (st : List ℕ) → length st ≡ 64 * frames t
+      → formed (tells k) (shownOf (pageAt t (c .page)) (plan .work) (plan .len) st) ≡ true
   pub clears : (bs st : List ℕ) → length bs ≡ size → length st ≡ 64 * frames t
       → Clears (frames t) (pageAt t (c .page)) (changed (pageAt t (c .page)) (plan .edit)) st (laidIn (pageAt t (c .page)) (plan .work) bs st)
 
@@ -159,10 +165,10 @@ module _ (t : Tables) (c : Call) (size : ℕ) (near : c .page < 64) (rules : Sou
 
   module _ (kind : Kind) where
     -- one that only edits, shows or lays
-    edit-ok : (e : Edit) → Allowed t (c .page) e → ((f : ℕ) → f < frames t → on f (changed g e) ≡ on f g)
+    edit-ok : tells kind ≡ Empty → (e : Edit) → Allowed t (c .page) e → ((f : ℕ) → f < frames t → on f (changed g e) ≡ on f g)
         → IfAccepted (PlanOk t c size kind) (editing e)
-    unfolding shownOf laidIn
-    edit-ok e a same =
+    unfolding shownOf laidIn formed
+    edit-ok is e a same =
         if-accepted
         (record {
           near = near;
@@ -172,14 +178,17 @@ module _ (t : Tables) (c : Call) (size : ℕ) (near : c .page < 64) (rules : Sou
           laid-fits = zero-le;
           inside = refl;
           shows = λ st l. refl;
+          as-told = λ st l. ap (λ (x : Data). formed x []) is;
           clears = λ bs st _ l. kept-clears (frames t) g (changed g e) st same;
         })
 
     show-ok : (len : ℕ) (w : Work) → len ≤ 64 → 4 * (6 + len) ≤ 35 * (2 + leastLength kind) → workWithin g len (frames t) size w ≡ true
-        → ((st : List ℕ) → length st ≡ 64 * frames t → length (shownOf g w len st) ≡ len) → ((bs st : List ℕ) → laidIn g w bs st ≡ st)
+        → ((st : List ℕ) → length st ≡ 64 * frames t → length (shownOf g w len st) ≡ len)
+        → ((st : List ℕ) → length (shownOf g w len st) ≡ len → formed (tells kind) (shownOf g w len st) ≡ true)
+        → ((bs st : List ℕ) → laidIn g w bs st ≡ st)
         → IfAccepted (PlanOk t c size kind) (showing len w)
     unfolding changed
-    show-ok len w short paid inside shows still =
+    show-ok len w short paid inside shows form still =
         if-accepted
         (record {
           near = near;
@@ -189,13 +198,15 @@ module _ (t : Tables) (c : Call) (size : ℕ) (near : c .page < 64) (rules : Sou
           laid-fits = zero-le;
           inside = inside;
           shows = shows;
+          as-told = λ st l. form st (shows st l);
           clears = λ bs st _ l f low none. ap (λ (x : List ℕ). block x f) (still bs st) ∙ kept-clears (frames t) g g st (λ y _. refl) f low none;
         })
 
-    lay-ok : (e : Edit) (laid : ℕ) (w : Work) → Allowed t (c .page) e → laid ≤ 512
-        → workWithin g 0 (frames t) size w ≡ true → ((st : List ℕ) → length (shownOf g w 0 st) ≡ 0) → Leaves e w
+    lay-ok : tells kind ≡ Empty → (e : Edit) (laid : ℕ) (w : Work) → Allowed t (c .page) e → laid ≤ 512
+        → workWithin g 0 (frames t) size w ≡ true → ((st : List ℕ) → shownOf g w 0 st ≡ []) → Leaves e w
         → IfAccepted (PlanOk t c size kind) (laying e laid w)
-    lay-ok e laid w a few inside none clears =
+    unfolding formed
+    lay-ok is e laid w a few inside none clears =
         if-accepted
         (record {
           near = near;
@@ -204,16 +215,17 @@ module _ (t : Tables) (c : Call) (size : ℕ) (near : c .page < 64) (rules : Sou
           paid = omega arith;
           laid-fits = few;
           inside = inside;
-          shows = λ st l. none st;
+          shows = λ st l. ap length (none st);
+          as-told = λ st l. rw (is, none st) refl;
           clears = clears;
         })
 
   -- ---- the walk
 
-  copy-ok : (kind : Kind) (k f : ℕ) → k < g .n → f < frames t → free t f ≡ true → absent g ≡ false
+  copy-ok : (kind : Kind) → tells kind ≡ Empty → (k f : ℕ) → k < g .n → f < frames t → free t f ≡ true → absent g ≡ false
       → g .n ≢ 8 → IfAccepted (PlanOk t c size kind) (copying (copyAt g k) f)
   unfolding shownOf laidIn
-  copy-ok kind k f less low spare some room =
+  copy-ok kind is k f less low spare some room =
       go (isNull (copyAt g k)) refl (copy-at (stands some) k less .placed)
     where
       onto : FrameOk t f
@@ -223,11 +235,11 @@ module _ (t : Tables) (c : Call) (size : ℕ) (near : c .page < 64) (rules : Sou
           → IfAccepted (PlanOk t c size kind) (cond z (laying (Placed f) 64 (Clear f))
           (laying (Added f (copyAt g k .recent)) 64 (Duplicate (copyAt g k .frame) f)))
       go true e at =
-          lay-ok kind (Placed f) 64 (Clear f) (record { onto = onto; stands = some }) (omega arith) (lt-ltb f (frames t) low) (λ st. refl)
+          lay-ok kind is (Placed f) 64 (Clear f) (record { onto = onto; stands = some }) (omega arith) (lt-ltb f (frames t) low) (λ st. refl)
           (λ bs st _ l. made-clears (frames t) g (changed g (Placed f)) st l f low
           (λ y near. null-placed (stands some) k less e f y (omega (arith, few-frames))) zeros refl)
       go false e at =
-          lay-ok kind (Added f _) 64 (Duplicate _ f)
+          lay-ok kind is (Added f _) 64 (Duplicate _ f)
           (record { onto = onto; room = omega (arith, stands some .most); from = k; from-in = less; from-placed = e }) (omega arith)
           (and-intro (lt-ltb _ (frames t) (at refl)) (lt-ltb f (frames t) low)) (λ st. refl)
           (λ bs st _ l.
@@ -240,31 +252,33 @@ module _ (t : Tables) (c : Call) (size : ℕ) (near : c .page < 64) (rules : Sou
       → (has offset k && badSpan (c .offset) (cond (has bytes k) size (c .count))) ≡ false
       → IfAccepted (PlanOk t c size k)
       (perform (record { frames = frames t; page = g; holder = registered t (c .frame) }) c size k)
-  unfolding perform shownOf laidIn names code among
+  unfolding perform shownOf laidIn names tells code among formed
   perform-ok Create name far span =
       let low = ltb-false 15 (c .station) (or-left (ltb 15 (c .station)) _ (or-left (ltb 15 (c .station) || ltb 63 (c .page)) _ name)) in
-      past (not (absent g)) _ refl (λ none. edit-ok Create (Created (c .station)) (omega arith) (λ f l.
+      past (not (absent g)) _ refl (λ none. edit-ok Create refl (Created (c .station)) (omega arith) (λ f l.
       created-over g (not-false _ none) (c .station) f (omega (arith, few-frames))))
   perform-ok DeletePage name far span =
       past-standing g (owns g (c .station)) (λ some.
       let few = count-le isPlaced (inUse g) in
       let most = stands some .most in
       let long = length-in-use (stands some) in
-      lay-ok DeletePage Deleted (64 * placed g) ClearPage tt (omega arith) (placed-within (stands some)) (λ st. refl)
+      lay-ok DeletePage refl Deleted (64 * placed g) ClearPage tt (omega arith) (placed-within (stands some)) (λ st. refl)
       (λ bs st _ l. deleted-clears (frames t) (omega (arith, few-frames)) g (changed g Deleted) st l (placed-within (stands some))
       (λ f near. omega (arith, uses-at f (t .pages) (c .page), rules .once f near))))
   perform-ok Grant name far span =
       let low = ltb-false 2 (c .right) (or-right (ltb 15 (c .other)) _ (or-right (ltb 15 (c .station) || ltb 63 (c .page)) _ name)) in
       past-standing g (owns g (c .station)) (λ some.
-      edit-ok Grant (Granted (c .other) (c .right)) (record { stands = some; low = low }) (λ f _. granted-on g (c .other) (c .right) f))
+      edit-ok Grant refl (Granted (c .other) (c .right)) (record { stands = some; low = low }) (λ f _. granted-on g (c .other) (c .right) f))
   perform-ok Read name far span =
       past-standing g (mayRead g (c .station)) (λ some.
       past (eqb (currents g) 0) _ refl (λ e.
       let ne = eqb-false (currents g) 0 e in
       let low = first-low (inUse g) (currents-within (stands some)) (omega arith) in
+      let some-bytes = eqb-false (c .count) 0 (or-left (eqb (c .count) 0) _ (or-right (ltb 63 (c .offset)) _ span)) in
       let span = span-within (c .offset) (c .count) span in
       show-ok Read (c .count) (Show _ (c .offset)) (omega arith) (omega arith) (and-intro (lt-ltb _ (frames t) low) (le-leb (c .offset + c .count) 64 span))
-      (λ st l. length-frame-part st _ (c .offset) (c .count) (omega arith) span) (λ bs st. refl)))
+      (λ st l. length-frame-part st _ (c .offset) (c .count) (omega arith) span)
+      (λ st l. rw l (and-intro (le-leb 1 (c .count) (omega arith)) (le-leb (c .count) 64 (omega arith)))) (λ bs st. refl)))
   perform-ok Write name far span =
       past-standing g (mayWrite g (c .station)) (λ some.
       past (eqb (currents g) 0) _ refl (λ e.
@@ -273,7 +287,7 @@ module _ (t : Tables) (c : Call) (size : ℕ) (near : c .page < 64) (rules : Sou
       let few = count-le isCurrent (inUse g) in
       let most = stands some .most in
       let long = length-in-use (stands some) in
-      lay-ok Write Staled (size * currents g) (Spread (c .offset)) (record { stands = some; written = omega arith })
+      lay-ok Write refl Staled (size * currents g) (Spread (c .offset)) (record { stands = some; written = omega arith })
       (mul-le-mul {n₂ = 64} {m₂ = 8} (omega arith) (omega arith))
       (and-intro (le-leb (c .offset + size) 64 span) (currents-within (stands some))) (λ st. refl)
       (λ bs st b l. written-clears (frames t) g (changed g Staled) st l (λ f. staled-on (stands some) f) isCurrent (c .offset) bs
@@ -282,32 +296,36 @@ module _ (t : Tables) (c : Call) (size : ℕ) (near : c .page < 64) (rules : Sou
       past-numbered g (c .copy) (λ some less. past (not (isFree (registered t (c .frame)))) _ refl (λ is.
       past (eqb (g .n) 8) _ refl (λ room.
       let low = leb-false (frames t) (c .frame) far in
-      copy-ok MakeCopy (c .copy) (c .frame) less low (told (c .frame) low ∙ not-false _ is) some (eqb-false (g .n) 8 room))))
+      copy-ok MakeCopy refl (c .copy) (c .frame) less low (told (c .frame) low ∙ not-false _ is) some (eqb-false (g .n) 8 room))))
   perform-ok DeleteCopy name far span =
       past-numbered g (c .copy) (λ some less.
       past (copyAt g (c .copy) .recent && eqb (recents g) 1) _ refl (λ last.
       let ok : RemoveOk g (c .copy) = record { in-use = less; not-last = last } in
-      lay-ok DeleteCopy (Removed (c .copy)) 64 (Clear (copyAt g (c .copy) .frame)) ok (omega arith)
+      lay-ok DeleteCopy refl (Removed (c .copy)) 64 (Clear (copyAt g (c .copy) .frame)) ok (omega arith)
       (lt-ltb _ (frames t) (copy-at (stands some) (c .copy) less .placed (removed-placed (stands some) (c .copy) ok))) (λ st. refl)
       (λ bs st _ l. removed-clears (frames t) g (changed g (Removed (c .copy))) st l (copyAt g (c .copy) .frame)
       (copy-at (stands some) (c .copy) less .placed (removed-placed (stands some) (c .copy) ok)) (λ f. removed-on (stands some) (c .copy) f less))))
   perform-ok SetCurrent name far span =
       past-numbered g (c .copy) (λ some less. past (isNull (copyAt g (c .copy))) _ refl (λ full.
       past (not (copyAt g (c .copy) .recent)) _ refl (λ new.
-      edit-ok SetCurrent (Marked (c .copy) true) (record { in-use = less; fresh = λ _. not-false _ new; placed = λ _. full })
+      edit-ok SetCurrent refl (Marked (c .copy) true) (record { in-use = less; fresh = λ _. not-false _ new; placed = λ _. full })
       (λ f _. marked-on (stands some) (c .copy) true f less))))
   perform-ok RemoveCurrent name far span =
       past-numbered g (c .copy) (λ some less.
-      edit-ok RemoveCurrent (Marked (c .copy) false) (record { in-use = less; fresh = λ e. absurd (false≢true e); placed = λ e. absurd (false≢true e) })
+      edit-ok RemoveCurrent refl (Marked (c .copy) false) (record { in-use = less; fresh = λ e. absurd (false≢true e); placed = λ e. absurd (false≢true e) })
       (λ f _. marked-on (stands some) (c .copy) false f less))
   perform-ok LookPage name far span =
       past (absent g) _ refl (λ some.
+      let least = stands some .some in
       let most = stands some .most in
       let long = length-in-use (stands some) in
       let data-long = length-entries (inUse g) in
-      show-ok LookPage (1 + 3 * length (inUse g)) ShowPage (omega arith) (omega arith) refl (λ st l. omega arith) (λ bs st. refl))
+      show-ok LookPage (1 + 3 * length (inUse g)) ShowPage (omega arith) (omega arith) refl (λ st l. omega arith)
+      (λ st l. and-intro (and-intro (le-leb 1 (g .n) (omega arith)) (le-leb (g .n) 8 most))
+      (and-intro (eq-eqb _ (1 + 3 * g .n) (omega arith)) (subst (λ (n : ℕ). eachIs n 3 copyMarked (entries (inUse g)) ≡ true) long (entries-marked (inUse g)))))
+      (λ bs st. refl))
   perform-ok LookFrame name far span = show-ok LookFrame 3 (ShowHolder _) (omega arith) (omega arith) refl
-      (λ st l. three (registered t (c .frame))) (λ bs st. refl)
+      (λ st l. three (registered t (c .frame))) (λ st l. eq-eqb _ 3 l) (λ bs st. refl)
     where
       three : (h : Holder) → length (shown h) ≡ 3
       three (At p k) = refl

@@ -1,21 +1,23 @@
--- The last arm of a `match`, on a kind by its tag or on the number of a kind.
--- In order: the kinds by their tags; what the kinds of an arm with several do not name; a number that is none of 2 to 11.
-use Prim.Native.Nat.{ℕ, _+_, _-_, _≤_}
+-- The kinds and their numbers, and the last arm of a `match` on either.
+-- In order: the kinds by their tags; what the kinds of an arm with several do not name; a number that is none of 2 to 11; the numbers of
+-- the kinds.
+use Prim.Native.Nat.{ℕ, _+_, _-_, _≤_, _<_}
 use mathlib.Core.Path.{_≡_, refl, sym, ap, _∙_}
 use mathlib.Core.Logic.{inl, inr}
 use mathlib.Core.Bool.{Bool, true, false, not}
 use mathlib.Core.List.{List, [], _∷_}
 use native.Mathlib.Decide.{decLe}
 use native.Mathlib.Omega.{arith}
-use lib.ListN.{getD, List·getD-eq-default}
-use borrow.Author.Tests.{not-true}
+use lib.ListN.{length, getD, List·getD-eq-default}
+use lib.Dec.{eqb}
+use borrow.Author.Tests.{not-true, eqb-true, eqb-false, ltb-false}
 use types.Run.{OneOf}
 use denote.Enum.Declared.{tagOf}
-use Rattle.tables.specs.Lists.{all}
-use Rattle.tables.proofs.ListLaws.{and-left, and-right}
+use Rattle.tables.specs.Lists.{all, allBelow}
+use Rattle.tables.proofs.ListLaws.{and-left, and-right, or-left, or-right, all-at, below-at}
 use Rattle.steps.specs.declared.Kind.{Kind}
 use Rattle.steps.specs.declared.Kind.the-variants.{Create, DeletePage, Grant, Read, Write, MakeCopy, DeleteCopy, SetCurrent, RemoveCurrent, LookPage, LookFrame}
-use Rattle.steps.specs.Kinds.{Name, kinds, kindOf, has}
+use Rattle.steps.specs.Kinds.{Name, kinds, kindNumber, isUnknown, kindOf, has}
 use Rattle.steps.proofs.Kind as kind
 
 -- the tags count the kinds in their order
@@ -72,3 +74,50 @@ kind-rest n r = go (decLe n 1)
         let eight = above 8 (above 7 six (r .0 .0 .0 .0 .1)) (r .0 .0 .0 .1) in
         let ten = above 10 (above 9 eight (r .0 .0 .1)) (r .0 .1) in
         List·getD-eq-default kinds Create (pred-le (above 11 ten (r .1)))
+
+-- ---- the numbers of the kinds
+
+-- each kind has the number at which it stands, which is known
+numbered : (k : Kind) → (kindOf (kindNumber k) ≡ k) × (isUnknown (kindNumber k) ≡ false)
+unfolding kinds
+numbered Create = (refl, refl)
+numbered DeletePage = (refl, refl)
+numbered Grant = (refl, refl)
+numbered Read = (refl, refl)
+numbered Write = (refl, refl)
+numbered MakeCopy = (refl, refl)
+numbered DeleteCopy = (refl, refl)
+numbered SetCurrent = (refl, refl)
+numbered RemoveCurrent = (refl, refl)
+numbered LookPage = (refl, refl)
+numbered LookFrame = (refl, refl)
+
+pub kind-numbered : (k : Kind) → kindOf (kindNumber k) ≡ k
+kind-numbered k = numbered k .0
+
+pub number-known : (k : Kind) → isUnknown (kindNumber k) ≡ false
+number-known k = numbered k .1
+
+known-low : (n : ℕ) → isUnknown n ≡ false → (1 ≤ n) × (n - 1 < length kinds)
+known-low n e =
+    let some = eqb-false n 0 (or-left (eqb n 0) _ e) in
+    let most = ltb-false (length kinds) n (or-right (eqb n 0) _ e) in
+    (omega arith, omega arith)
+
+-- what holds of all of them in their list holds of each
+pub each-kind : (f : Kind → Bool) → all f kinds ≡ true → (k : Kind) → f k ≡ true
+each-kind f e k = rw (← kind-numbered k) (all-at f kinds (kindNumber k - 1) Create e (known-low (kindNumber k) (number-known k) .1))
+
+abbrev counts : ℕ → Bool
+counts i = eqb (kindNumber (getD kinds i Create)) (i + 1)
+
+all-count : allBelow (length kinds) counts ≡ true
+unfolding kinds allBelow
+all-count = refl
+
+-- a known number is that of its kind
+pub number-kind : (n : ℕ) → isUnknown n ≡ false → kindNumber (kindOf n) ≡ n
+number-kind n e =
+    let low = known-low n e in
+    let k = eqb-true (kindNumber (kindOf n)) (n - 1 + 1) (below-at (length kinds) counts (n - 1) all-count (low .1)) in
+    omega (arith, low .0)

@@ -7,6 +7,7 @@ pub mod JudgeLaws
 pub mod Rows
 pub mod StoreLaws
 pub mod CopyLaws
+pub mod DataLaws
 pub mod Blocks
 pub mod ClearLaws
 pub mod CarryLaws

@@ -1,5 +1,5 @@
 -- Number 7: what the test of a call's range says of its bytes and of the step.
--- In order: a span without the sum; a span within the page; the three tests as one, before the step; a write's bytes.
+-- In order: a span without the sum; a span within the page; the three tests as one, and before the step; a write's bytes.
 use Prim.Native.Nat.{ℕ, _+_, _-_, _≤_}
 use mathlib.Core.Path.{_≡_, refl, sym, ap, _∙_}
 use mathlib.Core.Bool.{Bool, true, false, _||_}
@@ -14,9 +14,9 @@ use Rattle.steps.specs.declared.Call.{Call}
 use Rattle.steps.specs.declared.View.{View}
 use Rattle.steps.specs.declared.Verdict.{Verdict}
 use Rattle.steps.specs.Kinds.{names, among, code}
-use Rattle.steps.specs.Calls.{nameOutside, frameOutside, badSpan, spanOutside}
-use Rattle.steps.specs.Steps.{Outcome, refuse, Plan, test, perform, decideOn}
-use Rattle.steps.specs.Private.{outside, verdictOf}
+use Rattle.steps.specs.Calls.{nameOutside, frameOutside, badSpan, spanOutside, outside}
+use Rattle.steps.specs.Steps.{Outcome, refuse, test, perform, ranged, decideOn}
+use Rattle.steps.specs.Private.{verdictOf}
 
 -- the sum is not needed where the offset is in range
 pub span-short : (o n : ℕ) → o ≤ 63 → (eqb n 0 || ltb (64 - o) n) ≡ badSpan o n
@@ -33,15 +33,19 @@ span-within o n e = ltb-false 64 (o + n) (or-right (eqb n 0) _ (or-right (ltb 63
 
 -- ---- the test and the step
 
-module _ (v : View) (c : Call) (size : ℕ) where
-  thrice : (x y z : Bool) (o : Outcome Plan) → test x outOfRange (test y outOfRange (test z outOfRange o)) ≡ test (x || (y || z)) outOfRange o
-  thrice true y z o = refl
-  thrice false true z o = refl
-  thrice false false z o = refl
+pub ranged-once : {A : Type 0} (frames size : ℕ) (c : Call) (o : Outcome A)
+    → ranged frames size c o ≡ test (outside frames size c) outOfRange o
+ranged-once {A} frames size c o = thrice (nameOutside c) (frameOutside frames c) (spanOutside size c)
+  where
+    thrice : (x y z : Bool) → test x outOfRange (test y outOfRange (test z outOfRange o)) ≡ test (x || (y || z)) outOfRange o
+    thrice true y z = refl
+    thrice false true z = refl
+    thrice false false z = refl
 
+module _ (v : View) (c : Call) (size : ℕ) where
   pub one-test : decideOn v c size ≡ test (outside (v .frames) size c) outOfRange (perform v c size (c .kind))
   unfolding decideOn
-  one-test = thrice (nameOutside c) (frameOutside (v .frames) c) (spanOutside size c) (perform v c size (c .kind))
+  one-test = ranged-once (v .frames) size c (perform v c size (c .kind))
 
   module _ {r : Verdict} where
     pub outside-refused : outside (v .frames) size c ≡ true → r ≡ verdictOf (refuse outOfRange) → r ≡ verdictOf (decideOn v c size)

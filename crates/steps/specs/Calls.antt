@@ -20,3 +20,7 @@ badSpan start n = ltb 63 start || (eqb n 0 || ltb 64 (start + n))
 -- the count of a write is `size`, the number of its bytes
 abbrev pub spanOutside : ℕ → Call → Bool
 spanOutside size c = has offset (c .kind) && badSpan (c .offset) (cond (has bytes (c .kind)) size (c .count))
+
+-- any of the three, with so many frames
+abbrev pub outside : ℕ → ℕ → Call → Bool
+outside frames size c = nameOutside c || (frameOutside frames c || spanOutside size c)

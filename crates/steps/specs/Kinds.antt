@@ -1,12 +1,14 @@
--- Document 01, "The steps": what each kind of call names. One row a kind: the lengths of its messages, its arguments and what it is
--- tested for follow from it.
+-- Document 01, "The steps": what each kind of call names and what its reply tells. One row a kind: the lengths of its messages, its
+-- arguments, what it is tested for and the form of its replies follow from it.
 use Prim.Native.Nat.{ℕ, _+_, _-_}
 use mathlib.Core.Bool.{Bool, false, _||_, cond}
-use mathlib.Core.List.{List, [], _∷_}
+use mathlib.Core.List.{List, [], _∷_, _++_}
 use lib.ListN.{length, getD}
-use lib.Dec.{eqb}
+use lib.Dec.{ltb, eqb}
 use Rattle.steps.specs.declared.Kind.{Kind}
 use Rattle.steps.specs.declared.Kind.the-variants.{Create, DeletePage, Grant, Read, Write, MakeCopy, DeleteCopy, SetCurrent, RemoveCurrent, LookPage, LookFrame}
+use Rattle.steps.specs.declared.Data.{Data}
+use Rattle.steps.specs.declared.Data.the-variants as Data
 use Rattle.steps.specs.declared.Call.{Call}
 
 -- what a call may name; `other` is the other station of a grant, and `bytes` are a write's
@@ -35,10 +37,42 @@ names RemoveCurrent = page ∷ copy ∷ []
 names LookPage = page ∷ []
 names LookFrame = frame ∷ []
 
+-- what the data of its accepted reply are: "then the bytes of a read or look"
+unfoldable pub tells : Kind → Data
+tells Create = Data.Empty
+tells DeletePage = Data.Empty
+tells Grant = Data.Empty
+tells Read = Data.Bytes
+tells Write = Data.Empty
+tells MakeCopy = Data.Empty
+tells DeleteCopy = Data.Empty
+tells SetCurrent = Data.Empty
+tells RemoveCurrent = Data.Empty
+tells LookPage = Data.Copies
+tells LookFrame = Data.Holder
+
 -- "a kind byte 1 to 11 as numbered above"
+abbrev pub kindNumber : Kind → ℕ
+kindNumber Create = 1
+kindNumber DeletePage = 2
+kindNumber Grant = 3
+kindNumber Read = 4
+kindNumber Write = 5
+kindNumber MakeCopy = 6
+kindNumber DeleteCopy = 7
+kindNumber SetCurrent = 8
+kindNumber RemoveCurrent = 9
+kindNumber LookPage = 10
+kindNumber LookFrame = 11
+
+-- the kinds in the order of their numbers
 unfoldable pub kinds : List Kind
 kinds =
     Create ∷ DeletePage ∷ Grant ∷ Read ∷ Write ∷ MakeCopy ∷ DeleteCopy ∷ SetCurrent ∷ RemoveCurrent ∷ LookPage ∷ LookFrame ∷ []
+
+-- 3: "kind not 1 to 11"
+abbrev pub isUnknown : ℕ → Bool
+isUnknown number = eqb number 0 || ltb (length kinds) number
 
 -- a number that is no kind counts as 1 here, and is turned back before (`parse`)
 abbrev pub kindOf : ℕ → Kind
@@ -94,3 +128,20 @@ callOf k bs =
       copy = argument copy 0 (names k) bs;
       frame = argument frame 0 (names k) bs;
     }
+
+-- what a call has of an x, as it stands in a message; a write has the bytes bs
+unfoldable pub value : Name → Call → List ℕ → List ℕ
+value station c bs = c .station ∷ []
+value page c bs = c .page ∷ []
+value other c bs = c .other ∷ []
+value right c bs = c .right ∷ []
+value offset c bs = c .offset ∷ []
+value count c bs = c .count ∷ []
+value bytes c bs = bs
+value copy c bs = c .copy ∷ []
+value frame c bs = c .frame ∷ []
+
+-- "the arguments in the order above, one byte each; write ends with 1 to 64 bytes"
+unfoldable pub values : List Name → Call → List ℕ → List ℕ
+values [] c bs = []
+values (x ∷ xs) c bs = value x c bs ++ values xs c bs

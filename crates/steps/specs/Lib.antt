@@ -1,5 +1,6 @@
 pub mod Kinds
 pub mod Calls
+pub mod Data
 pub mod Stores
 pub mod Rights
 pub mod Steps

@@ -1,6 +1,6 @@
 -- What the private functions of this layer ask of each other and promise. For the proofs alone: no exported contract names it.
 use Prim.Native.Nat.{ℕ, _+_, _*_, _/_, _%_, _≤_, _<_}
-use mathlib.Core.Bool.{Bool, true, false, not, _||_, cond}
+use mathlib.Core.Bool.{Bool, true, false, not, cond}
 use mathlib.Core.List.{List, _++_}
 use mathlib.Core.Path.{_≡_}
 use lib.ListN.{length, getD}
@@ -24,7 +24,6 @@ use Rattle.steps.specs.declared.Work.the-variants.{Nothing}
 use Rattle.steps.specs.declared.Verdict.{Verdict}
 use Rattle.steps.specs.declared.Decision.{Decision}
 use Rattle.steps.specs.declared.Place.{Place}
-use Rattle.steps.specs.Calls.{nameOutside, frameOutside, spanOutside}
 use Rattle.steps.specs.Steps.{Outcome, refuse, accept, Plan, test, isPlaced, copyAt, currents, firstCurrent, numbered, decideOn, pageFor, numberOf}
 use Rattle.steps.specs.Stores.{over}
 use Rattle.steps.specs.Effects.{laidIn, shownOf}
@@ -74,12 +73,6 @@ laidInto d bs fast slow = cond (lies d (length bs) fast slow) (laidIn (d .before
 abbrev pub shownInto : Decision → ℕ → List ℕ → List ℕ → List ℕ → List ℕ
 shownInto d size fast slow out =
     cond (lies d size fast slow) (over (shownOf (d .before) (d .work) (d .len) (fast ++ slow)) out) out
-
--- ---- number 7
-
--- by any of its three tests
-abbrev pub outside : ℕ → ℕ → Call → Bool
-outside frames size c = nameOutside c || (frameOutside frames c || spanOutside size c)
 
 -- ---- what a call comes to
 

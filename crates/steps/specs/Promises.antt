@@ -23,7 +23,7 @@ use Rattle.steps.specs.declared.Work.the-variants.{Nothing, Clear, Clear
 use Rattle.steps.specs.declared.Decision.{Decision}
 use Rattle.steps.specs.declared.Done.{Done}
 use Rattle.steps.specs.declared.Place.{Place}
-use Rattle.steps.specs.Kinds.{kindOf, leastLength, mostLength, callOf}
+use Rattle.steps.specs.Kinds.{kindOf, tells, leastLength, mostLength, callOf}
 use Rattle.steps.specs.Stores.{fits, part, over}
 use Rattle.steps.specs.Steps.{Outcome, refuse, accept, Plan, isPlaced, numberOf}
 use Rattle.steps.specs.Effects.{laidIn, shownOf, State, Result, left, laidBy, dataOf}
@@ -34,12 +34,13 @@ stateOf t fast slow = record { tables = t; fast = fast; slow = slow }
 
 -- ---- kinds
 
--- the form of the messages of a kind, and the call of one with the arguments a, b, c, d
+-- the form of the messages and replies of a kind, and the call of a message with the arguments a, b, c, d
 abbrev pub formOf : ℕ → ℕ → ℕ → ℕ → ℕ → Form
 formOf number a b c d =
     record {
       least = leastLength (kindOf number);
       most = mostLength (kindOf number);
+      tells = tells (kindOf number);
       call = callOf (kindOf number) (a ∷ b ∷ c ∷ d ∷ []);
     }
 

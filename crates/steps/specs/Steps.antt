@@ -145,11 +145,14 @@ perform v c size RemoveCurrent = numbered (v .page) (c .copy) (editing (Marked (
 perform v c size LookPage = test (absent (v .page)) noPage (showing (1 + 3 * length (inUse (v .page))) ShowPage)
 perform v c size LookFrame = showing 3 (ShowHolder (v .holder))
 
+-- 7 before what a call else comes to, with so many frames
+abbrev pub ranged : {A : Type 0} → ℕ → ℕ → Call → Outcome A → Outcome A
+ranged frames size c o =
+    test (nameOutside c) outOfRange (test (frameOutside frames c) outOfRange (test (spanOutside size c) outOfRange o))
+
 -- 7, and then the step
 unfoldable pub decideOn : View → Call → ℕ → Outcome Plan
-decideOn v c size =
-    test (nameOutside c) outOfRange (test (frameOutside (v .frames) c) outOfRange (test (spanOutside size c) outOfRange
-    (perform v c size (c .kind))))
+decideOn v c size = ranged (v .frames) size c (perform v c size (c .kind))
 
 -- ---- a call on the tables
 

@@ -20,6 +20,9 @@ pub use judgement::judge_any;
 pub use judgement::rules;
 pub use judgement::settle;
 pub use kinds::form_of;
+pub use kinds::is_unknown;
+pub use kinds::number_of;
+pub use range::outside;
 use tables::Change;
 use tables::Edit;
 use tables::Holder;
@@ -86,10 +89,23 @@ pub struct Call {
     pub frame: u8,
 }
 
-// The form of a kind's messages: the least and the most bytes after the length, and the call that one asks for.
+// What the data of an accepted reply are.
+pub enum Data {
+    Empty,
+    // Of a read: 1 to 64 bytes of a page.
+    Bytes,
+    // Of a look at a page: n, and three bytes for each of the n copies.
+    Copies,
+    // Of a look at a frame: three bytes.
+    Holder,
+}
+
+// The form of a kind's messages: the least and the most bytes after the length, what the data of its replies are, and the
+// call that a message asks for.
 pub struct Form {
     pub least: u8,
     pub most: u8,
+    pub tells: Data,
     pub call: Call,
 }
 

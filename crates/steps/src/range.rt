@@ -3,8 +3,7 @@ use crate::Call;
 use crate::Kind;
 ghost use mathlib.Core.Path.{_≡_};
 ghost use Rattle.steps.specs.Kinds.{frame, has};
-ghost use Rattle.steps.specs.Calls.{badSpan, spanOutside};
-ghost use Rattle.steps.specs.Private.{outside};
+ghost use Rattle.steps.specs.Calls.{badSpan, spanOutside, outside};
 
 // Whether the offset is too large, the count is 0, or both together go past the page.
 fn bad_span(offset: u8, count: usize) -> bool
@@ -41,7 +40,7 @@ fn span_outside(call: Call, size: usize) -> bool
 }
 
 // Number 7, where there are so many frames.
-pub(crate) fn outside(call: Call, frames: u16, size: usize) -> bool
+pub fn outside(call: Call, frames: u16, size: usize) -> bool
     ensures { λ r. ⌜ r ≡ outside frames size call ⌝ }
 {
     if ((call.station > 15) | (call.page > 63)) | ((call.other > 15) | (call.right > 2)) {

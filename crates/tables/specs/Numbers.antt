@@ -1,6 +1,6 @@
 -- Document 01, "Why a message is turned back": its table, a row a name.
 use Prim.Native.Nat.{ℕ}
-use mathlib.Core.List.{List, [], _∷_}
+use mathlib.Core.List.{List, [], _∷_, _++_}
 
 -- the message was carried out
 abbrev pub accepted : ℕ
@@ -87,3 +87,7 @@ abbrev pub table : List ℕ
 table =
     cutShort ∷ foreignVersion ∷ unknownKind ∷ wrongLength ∷ brokenTables ∷ misfitStore ∷ outOfRange ∷ pageStands ∷ noPage ∷
     noRight ∷ nothingCurrent ∷ noCopy ∷ frameHeld ∷ eightCopies ∷ lastRecent ∷ stale ∷ noFrame ∷ shortSlip ∷ []
+
+-- all rows
+abbrev pub rows : List ℕ
+rows = table ++ (tooManyFrames ∷ [])

@@ -7,8 +7,9 @@ use lib.ListN.{drop}
 use lib.Seq.{drop-drop}
 use borrow.Author.Tests.{not-true, not-false}
 use borrow.Author.Needs.{needs}
-use Rattle.embed.specs.Bytes.{pageSize, eachIs, pageMarked, marked}
-use Rattle.embed.proofs.FromLaws.{each-next}
+use Rattle.steps.proofs.DataLaws.{each-next}
+use Rattle.steps.specs.Data.{eachIs}
+use Rattle.embed.specs.Bytes.{pageSize, pageMarked, marked}
 use Rattle.embed.proofs.marked.Statement.{statement}
 use Rattle.embed.proofs.marked.Tie as tie
 

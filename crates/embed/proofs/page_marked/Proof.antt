@@ -7,8 +7,9 @@ use lib.ListN.{drop}
 use lib.Seq.{drop-drop}
 use borrow.Author.Needs.{needs}
 use Rattle.tables.proofs.ListLaws.{and-true}
-use Rattle.embed.specs.Bytes.{eachIs, copyMarked, pageMarked}
-use Rattle.embed.proofs.FromLaws.{each-next}
+use Rattle.steps.proofs.DataLaws.{each-next}
+use Rattle.steps.specs.Data.{copyMarked, eachIs}
+use Rattle.embed.specs.Bytes.{pageMarked}
 use Rattle.embed.proofs.page_marked.Statement.{statement}
 use Rattle.embed.proofs.page_marked.Tie as tie
 

@@ -1,6 +1,5 @@
 -- `parse` meets its contract: each way out decides the tests of `parse`.
 use borrow.Author.Tests.{eq-eqb, ne-eqb}
-use Rattle.steps.specs.Kinds.{kinds}
 use Rattle.messages.specs.Messages.{parse}
 use borrow.Author.Needs.{needs}
 use Rattle.messages.proofs.parse.parse.Statement.{statement}
@@ -36,24 +35,29 @@ returns-3 c =
 shared-slice-read-kind : tie.Need-shared-slice-read-kind
 shared-slice-read-kind c = search needs
 
+is-unknown-requires : tie.Need-is-unknown-requires
+is-unknown-requires c κs = search needs
+
 turned-back-requires-4 : tie.Need-turned-back-requires-4
 turned-back-requires-4 c κs = search needs
 
 returns-4 : tie.Need-returns-4
-unfolding parse kinds
+unfolding parse
 returns-4 c =
-    let b = c .before .before .before .before in
-    rw (ne-eqb _ 0 (b .before .before .if1 .left), eq-eqb _ 1 (b .if2 .left), ne-eqb _ 1 (c .before .before .before .if3 .left), c .before .if4 .taken)
+    let u = c .before .before in
+    let b = u .before .before .before in
+    rw (ne-eqb _ 0 (b .before .before .if1 .left), eq-eqb _ 1 (b .if2 .left), ne-eqb _ 1 (u .before .before .if3 .left), (rw (u .is-unknown .ensures) at (c .before .if4 .taken)))
     (c .turned-back4 .ensures)
 
 parse-kind-requires : tie.Need-parse-kind-requires
 parse-kind-requires c κs = search needs
 
 returns-5 : tie.Need-returns-5
-unfolding parse kinds
+unfolding parse
 returns-5 c =
-    let b = c .before .before .before .before in
-    rw (ne-eqb _ 0 (b .before .before .if1 .left), eq-eqb _ 1 (b .if2 .left), ne-eqb _ 1 (c .before .before .before .if3 .left), c .before .if4 .left)
+    let u = c .before .before in
+    let b = u .before .before .before in
+    rw (ne-eqb _ 0 (b .before .before .if1 .left), eq-eqb _ 1 (b .if2 .left), ne-eqb _ 1 (u .before .before .if3 .left), (rw (u .is-unknown .ensures) at (c .before .if4 .left)))
     (c .parse-kind .ensures)
 
 pub parse-spec : {M : Type 1} → statement M
@@ -68,6 +72,7 @@ parse-spec =
     turned-back-requires-3
     returns-3
     shared-slice-read-kind
+    is-unknown-requires
     turned-back-requires-4
     returns-4
     parse-kind-requires

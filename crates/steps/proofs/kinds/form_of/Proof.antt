@@ -1,5 +1,5 @@
 -- `steps::kinds::form_of` meets its contract: each arm is a row of the table of kinds.
-use Rattle.steps.specs.Kinds.{kinds, names, among, code, argument, callOf}
+use Rattle.steps.specs.Kinds.{kinds, names, tells, among, code, argument, callOf}
 use Rattle.steps.proofs.KindLaws.{kind-rest}
 use borrow.Author.Needs.{needs}
 use Rattle.steps.proofs.kinds.form_of.Statement.{statement}
@@ -39,47 +39,47 @@ row-requires-11 : tie.Need-row-requires-11
 row-requires-11 c κs = search needs
 
 returns : tie.Need-returns
-unfolding kinds names among code argument callOf
+unfolding kinds names tells among code argument callOf
 returns c = rw (c .before .match .keys1) (c .row .ensures)
 
 returns-2 : tie.Need-returns-2
-unfolding kinds names among code argument callOf
+unfolding kinds names tells among code argument callOf
 returns-2 c = rw (c .before .match .keys2) (c .row2 .ensures)
 
 returns-3 : tie.Need-returns-3
-unfolding kinds names among code argument callOf
+unfolding kinds names tells among code argument callOf
 returns-3 c = rw (c .before .match .keys3) (c .row3 .ensures)
 
 returns-4 : tie.Need-returns-4
-unfolding kinds names among code argument callOf
+unfolding kinds names tells among code argument callOf
 returns-4 c = rw (c .before .match .keys4) (c .row4 .ensures)
 
 returns-5 : tie.Need-returns-5
-unfolding kinds names among code argument callOf
+unfolding kinds names tells among code argument callOf
 returns-5 c = rw (c .before .match .keys5) (c .row5 .ensures)
 
 returns-6 : tie.Need-returns-6
-unfolding kinds names among code argument callOf
+unfolding kinds names tells among code argument callOf
 returns-6 c = rw (c .before .match .keys6) (c .row6 .ensures)
 
 returns-7 : tie.Need-returns-7
-unfolding kinds names among code argument callOf
+unfolding kinds names tells among code argument callOf
 returns-7 c = rw (c .before .match .keys7) (c .row7 .ensures)
 
 returns-8 : tie.Need-returns-8
-unfolding kinds names among code argument callOf
+unfolding kinds names tells among code argument callOf
 returns-8 c = rw (c .before .match .keys8) (c .row8 .ensures)
 
 returns-9 : tie.Need-returns-9
-unfolding kinds names among code argument callOf
+unfolding kinds names tells among code argument callOf
 returns-9 c = rw (c .before .match .keys9) (c .row9 .ensures)
 
 returns-10 : tie.Need-returns-10
-unfolding kinds names among code argument callOf
+unfolding kinds names tells among code argument callOf
 returns-10 c = rw (c .before .match .keys10) (c .row10 .ensures)
 
 returns-11 : tie.Need-returns-11
-unfolding kinds names among code argument callOf
+unfolding kinds names tells among code argument callOf
 returns-11 c = rw (kind-rest (c .before .before .args .number) (c .before .match .rest)) (c .row11 .ensures)
 
 pub form-of-spec : {M : Type 1} → statement M
