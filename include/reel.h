@@ -1,22 +1,23 @@
 /*
  * The reel page kernel: the functions of libreel.a, for C99 and C++ on x86-64 (System V). docs/EMBEDDING.md has the whole
- * of it, and examples/worked.c a program.
+ * of it; examples/worked.c is a program for a unit, examples/station.c one for a station.
  *
  * The caller lends every byte. A buffer is passed as a pointer and its length, in bytes or, for the tally, in numbers:
  *
  *   tables  REEL_TABLES_SIZE bytes, made by reel_fresh and then kept by the caller
  *   fast    REEL_FRAME_SIZE * P bytes, frames 0 to P - 1; P and S as given to reel_fresh
  *   slow    REEL_FRAME_SIZE * S bytes, frames P to P + S - 1
- *   out     REEL_REPLY_SIZE bytes or more; what no reply takes remains as it was
+ *   out     REEL_REPLY_SIZE bytes or more, for reel_write REEL_MESSAGE_SIZE or more; what no reply or message takes remains
+ *           as it was
  *   tally   REEL_TALLY_SIZE numbers: messages, refusals, bytes laid; each stops at 4294967295
  *   used    one size_t, without a length beside it; it is only written
  *
  * Any bytes and any lengths may be passed: tables of another length, or whose bytes break a table rule, are answered
- * REEL_BROKEN_TABLES, stores of another length REEL_MISFIT_STORE, a shorter reply buffer REEL_SHORT_SLIP. A tally of
- * another length is left alone. Only these are the caller's duty, and are not tested:
+ * REEL_BROKEN_TABLES, stores of another length REEL_MISFIT_STORE, a shorter out REEL_SHORT_SLIP. A tally of another length is
+ * left alone. Only these are the caller's duty, and are not tested:
  *
- *   - Each pointer leads to as many elements as its length says (used to one), is aligned for its type, and is not null, also where the
- *     length is 0.
+ *   - Each pointer leads to as many elements as its length says (used to one), is aligned for its type, and is not null, also
+ *     where the length is 0: there it is the address of anything, such as of a byte that is not used.
  *   - A buffer that is not const overlaps none of the others. Const ones may overlap each other.
  *   - During a call nobody else writes a buffer of it, or reads one that is not const.
  *
@@ -37,7 +38,7 @@ extern "C" {
 /* ---- the version: major, minor and patch */
 
 #define REEL_VERSION_MAJOR 2
-#define REEL_VERSION_MINOR 1
+#define REEL_VERSION_MINOR 2
 #define REEL_VERSION_PATCH 0
 #define REEL_VERSION (65536 * REEL_VERSION_MAJOR + 256 * REEL_VERSION_MINOR + REEL_VERSION_PATCH)
 
@@ -85,7 +86,7 @@ uint32_t reel_version(void);
 /* ---- messages and replies */
 
 #define REEL_MESSAGE_VERSION 1 /* the third byte of messages and replies */
-#define REEL_MESSAGE_SIZE 71   /* the longest message that is accepted, with its two bytes of length */
+#define REEL_MESSAGE_SIZE 71   /* the longest message that is accepted, with its two bytes of length; the writer's least buffer */
 #define REEL_REPLY_SIZE 70     /* the longest reply, and the least reply buffer */
 #define REEL_REPLY_HEAD 6      /* length, version, number and bytes laid; the data of a read or look come after */
 
@@ -210,6 +211,37 @@ size_t reel_replies(uint8_t *tables, size_t tables_len, uint8_t *fast, size_t fa
 uint32_t reel_read(const uint8_t *tables, size_t tables_len, size_t fast_len, size_t slow_len, uint8_t station, uint8_t page,
                    uint8_t offset, uint8_t count);
 
+/*
+ * Writes the message of a call at the head of out: its kind, and its arguments in the order of enum reel_kind. Arguments past
+ * the kind's last one play no part, and bytes only in a write. Gives number + 256 * length of the message; functions below
+ * take it apart, and others have the arguments by name. The number is REEL_ACCEPTED, or the first that applies of
+ *
+ *   REEL_SHORT_SLIP    out_len is below REEL_MESSAGE_SIZE, however short the message
+ *   REEL_UNKNOWN_KIND  kind not 1 to 11
+ *   REEL_OUT_OF_RANGE  as for a message, but with frames up to 253 in range, as the writer does not know the unit; also a
+ *                      write of no byte or of more than 64
+ *
+ * and then the length is 0 and nothing is written.
+ */
+uint32_t reel_write(uint8_t kind, uint8_t first, uint8_t second, uint8_t third, uint8_t fourth, const uint8_t *bytes,
+                    size_t bytes_len, uint8_t *out, size_t out_len);
+
+/*
+ * Reads the reply to a message of this kind, its two bytes of length first. Bytes after the reply are not looked at, so a
+ * whole reply buffer may be passed. Gives refusal + 2^8 * number + 2^16 * bytes laid + 2^32 * start of the data in reply +
+ * 2^40 * length of the data; functions below take it apart. The refusal is the reader's own and not the number that the reply
+ * carries. It is REEL_ACCEPTED, or the first that applies of
+ *
+ *   REEL_CUT_SHORT        as for a message, also no byte at all
+ *   REEL_FOREIGN_VERSION  as for a message
+ *   REEL_UNKNOWN_KIND     kind not 1 to 11
+ *   REEL_WRONG_LENGTH     a length that the kind, the number or the n of a look at a page does not have; a number that is not
+ *                         in enum reel_number; a refusal with bytes laid; a CURRENT or MOST RECENT above 1
+ *
+ * and then all else is 0.
+ */
+uint64_t reel_read_reply(uint8_t kind, const uint8_t *reply, size_t reply_len);
+
 /* ---- an answer of reel_answer, taken apart */
 
 /* The number: REEL_ACCEPTED, or why the message was turned back. */
@@ -239,6 +271,85 @@ static inline size_t reel_read_offset(uint32_t place) { return place >> 16; }
 static inline const uint8_t *reel_read_bytes(uint32_t place, const uint8_t *fast, const uint8_t *slow) {
   return (reel_read_slow(place) ? slow : fast) + reel_read_offset(place);
 }
+
+/* ---- the writer for each kind, its arguments by name; for the rest as reel_write */
+
+/* A call of any kind but a write. */
+static inline uint32_t reel_write_plain(uint8_t kind, uint8_t first, uint8_t second, uint8_t third, uint8_t fourth,
+                                        uint8_t *out, size_t out_len) {
+  const uint8_t none = 0; /* no null pointer may be passed */
+  return reel_write(kind, first, second, third, fourth, &none, 0, out, out_len);
+}
+
+static inline uint32_t reel_write_create(uint8_t station, uint8_t page, uint8_t *out, size_t out_len) {
+  return reel_write_plain(REEL_KIND_CREATE, station, page, 0, 0, out, out_len);
+}
+static inline uint32_t reel_write_delete_page(uint8_t station, uint8_t page, uint8_t *out, size_t out_len) {
+  return reel_write_plain(REEL_KIND_DELETE_PAGE, station, page, 0, 0, out, out_len);
+}
+static inline uint32_t reel_write_grant(uint8_t station, uint8_t page, uint8_t other, uint8_t right, uint8_t *out,
+                                        size_t out_len) {
+  return reel_write_plain(REEL_KIND_GRANT, station, page, other, right, out, out_len);
+}
+static inline uint32_t reel_write_read(uint8_t station, uint8_t page, uint8_t offset, uint8_t count, uint8_t *out,
+                                       size_t out_len) {
+  return reel_write_plain(REEL_KIND_READ, station, page, offset, count, out, out_len);
+}
+static inline uint32_t reel_write_write(uint8_t station, uint8_t page, uint8_t offset, const uint8_t *bytes,
+                                        size_t bytes_len, uint8_t *out, size_t out_len) {
+  return reel_write(REEL_KIND_WRITE, station, page, offset, 0, bytes, bytes_len, out, out_len);
+}
+static inline uint32_t reel_write_make_copy(uint8_t page, uint8_t copy, uint8_t frame, uint8_t *out, size_t out_len) {
+  return reel_write_plain(REEL_KIND_MAKE_COPY, page, copy, frame, 0, out, out_len);
+}
+static inline uint32_t reel_write_delete_copy(uint8_t page, uint8_t copy, uint8_t *out, size_t out_len) {
+  return reel_write_plain(REEL_KIND_DELETE_COPY, page, copy, 0, 0, out, out_len);
+}
+static inline uint32_t reel_write_set_current(uint8_t page, uint8_t copy, uint8_t *out, size_t out_len) {
+  return reel_write_plain(REEL_KIND_SET_CURRENT, page, copy, 0, 0, out, out_len);
+}
+static inline uint32_t reel_write_remove_current(uint8_t page, uint8_t copy, uint8_t *out, size_t out_len) {
+  return reel_write_plain(REEL_KIND_REMOVE_CURRENT, page, copy, 0, 0, out, out_len);
+}
+static inline uint32_t reel_write_look_page(uint8_t page, uint8_t *out, size_t out_len) {
+  return reel_write_plain(REEL_KIND_LOOK_PAGE, page, 0, 0, 0, out, out_len);
+}
+static inline uint32_t reel_write_look_frame(uint8_t frame, uint8_t *out, size_t out_len) {
+  return reel_write_plain(REEL_KIND_LOOK_FRAME, frame, 0, 0, 0, out, out_len);
+}
+
+/* ---- what reel_write gives, taken apart */
+
+/* The number: REEL_ACCEPTED, or why nothing was written. */
+static inline unsigned reel_written_number(uint32_t written) { return written & 255; }
+
+/* The length of the message in out; 0 where nothing was written. */
+static inline size_t reel_written_length(uint32_t written) { return written >> 8; }
+
+/* ---- what reel_read_reply gives, taken apart */
+
+/* The reader's own refusal: REEL_ACCEPTED, or why the bytes are no reply to a message of the kind. */
+static inline unsigned reel_reply_refused(uint64_t told) { return told & 255; }
+
+/* The number that the reply carries, where it was read: REEL_ACCEPTED, or why the unit turned the message back. */
+static inline unsigned reel_reply_number(uint64_t told) { return told >> 8 & 255; }
+
+/* Whether the reply was read and says that the message was carried out. */
+static inline int reel_reply_accepted(uint64_t told) {
+  return reel_reply_refused(told) == REEL_ACCEPTED && reel_reply_number(told) == REEL_ACCEPTED;
+}
+
+/* The bytes laid. */
+static inline unsigned reel_reply_laid(uint64_t told) { return told >> 16 & 65535; }
+
+/* Where the data of a read or look begin in the reply. */
+static inline size_t reel_reply_start(uint64_t told) { return told >> 32 & 255; }
+
+/* How many bytes of data there are. */
+static inline size_t reel_reply_length(uint64_t told) { return told >> 40; }
+
+/* The first of them, in the bytes that were read. */
+static inline const uint8_t *reel_reply_data(uint64_t told, const uint8_t *reply) { return reply + reel_reply_start(told); }
 
 #ifdef __cplusplus
 }

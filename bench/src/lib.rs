@@ -2,6 +2,7 @@
 
 pub mod calls;
 pub mod peer;
+pub mod stations;
 
 use calls::{Calls, Mix};
 

@@ -6,13 +6,15 @@
 //! frames64, looks at frames on so many pages, or copies, pages, copydeletes or pagedeletes, the
 //! deletes; on the kernel's side alone kept or parts, a run with its replies, and refused, look,
 //! grant or empty, the C call by itself. no-copydeletes and no-pagedeletes are the same files without
-//! the deletes, to be taken off.
+//! the deletes, to be taken off. WORK is also write or read-reply, with SIDE kernel or rust.
 
+mod exchange;
 mod timing;
 
 use bench::calls::{Calls, Counts};
 use bench::peer::Peer;
 use bench::{FAST, MIX, SLOW};
+use exchange::Exchange;
 use kernel::Unit;
 use std::hint::black_box;
 use std::time::Instant;
@@ -442,6 +444,7 @@ fn report() {
     by_size();
     by_pages();
     deletes();
+    stations();
 }
 
 /// The times of the test of the rules, by the kernel and by Rust.
@@ -537,8 +540,51 @@ fn deletes() {
     }
 }
 
+/// (f) Calls written and replies read.
+fn stations() {
+    let exchange = Exchange::of_shift();
+    exchange.check();
+    println!("\n| (f) | kernel | Rust | ratio | median |");
+    println!("|---|---|---|---|---|");
+    let works: [(&str, Exchanging); 2] = [
+        ("a call written", Exchange::write),
+        ("a reply read", Exchange::read),
+    ];
+    for (what, work) in works {
+        let rounds = (0..200).map(|_| {
+            let times = [exchange::Side::Kernel, exchange::Side::Rust];
+            times.map(|side| {
+                time(exchange.count(), || {
+                    black_box(work(&exchange, side));
+                })
+            })
+        });
+        let (kernel, rust): (Vec<f64>, Vec<f64>) = rounds.map(|[k, r]| (k, r)).unzip();
+        row(what, &kernel, &rust);
+    }
+}
+
+/// One side's work on every call or every reply.
+type Exchanging = fn(&Exchange, exchange::Side) -> usize;
+
+/// The same once.
+fn exchange_once(work: Exchanging, side: &str) {
+    let exchange = Exchange::of_shift();
+    let side = match side {
+        "count" => return println!("{}", exchange.count()),
+        "kernel" => exchange::Side::Kernel,
+        _ => exchange::Side::Rust,
+    };
+    black_box(work(&exchange, side));
+}
+
 /// One piece of work, once.
 fn once(work: &str, side: &str) {
+    match work {
+        "write" => return exchange_once(Exchange::write, side),
+        "read-reply" => return exchange_once(Exchange::read, side),
+        _ => (),
+    }
     let (work, is_whole) = match work.strip_prefix("no-") {
         Some(work) => (work, false),
         None => (work, true),

@@ -3,7 +3,8 @@
  * memory that may only be read. So the processor stops any access of the library outside what it is lent, which no
  * instrumentation of this file could see. The same file is served message by message, in one run and in parts, and all that
  * is left is compared. Of each delete it is tested what it leaves in the lent stores: zeros in the frames that it frees, by the
- * register, and every other byte as it was. Messages and sizes follow from a seed.
+ * register, and every other byte as it was. Each message that is a call is written again, and each reply read where nothing
+ * follows it. Messages and sizes follow from a seed.
  */
 #define _DEFAULT_SOURCE
 #include <reel.h>
@@ -32,6 +33,7 @@ static uint32_t seed = 7;
 static int behind;    /* whether the fence stands behind the buffers, or before them */
 static uint32_t frames; /* so many frames may be named */
 static unsigned freed;  /* so many frames were seen freed */
+static unsigned again;  /* so many messages were written again */
 
 static uint32_t any(uint32_t below) {
   seed = seed * 1664525u + 1013904223u;
@@ -126,6 +128,49 @@ static void read_alike(struct unit u, struct block lent, const uint8_t *m, uint3
   }
 }
 
+/* Writes a call of this kind into so many bytes: past the message, or anywhere if it is refused, they remain as they were. */
+static uint32_t write_into(uint8_t *out, size_t room, uint8_t kind, const uint8_t arguments[4], const uint8_t *bytes,
+                           size_t count) {
+  uint32_t written;
+  size_t i;
+  memset(out, FILLER, room);
+  written = reel_write(kind, arguments[0], arguments[1], arguments[2], arguments[3], bytes, count, out, room);
+  expect(reel_written_number(written) == REEL_ACCEPTED || reel_written_length(written) == 0, "a call that is not written");
+  for (i = reel_written_length(written); i < room; i++) expect(out[i] == FILLER, "bytes past a message");
+  return written;
+}
+
+/* A message that is not refused 1 to 4, written again, has the same bytes; what the writer refuses the kernel refuses too. */
+static void written_alike(struct unit u, struct block lent, const uint8_t *m, size_t size, uint32_t answered) {
+  unsigned number = reel_answer_number(answered);
+  size_t end = m[3] == REEL_KIND_WRITE ? 7 : size; /* of the arguments; a write's bytes follow */
+  uint8_t arguments[4] = {0}, *out = part(u.out, REEL_MESSAGE_SIZE);
+  uint32_t written;
+  memcpy(arguments, m + 4, end - 4);
+  written = write_into(out, REEL_MESSAGE_SIZE, m[3], arguments, sealed(lent, m + end, size - end), size - end);
+  if (reel_written_number(written) == REEL_ACCEPTED) {
+    expect(reel_written_length(written) == size && memcmp(out, m, size) == 0, "a message written again");
+    expect(number != REEL_OUT_OF_RANGE || m[3] == REEL_KIND_MAKE_COPY || m[3] == REEL_KIND_LOOK_FRAME, "a call out of range");
+    again++;
+  } else {
+    expect(reel_written_number(written) == REEL_OUT_OF_RANGE && number == REEL_OUT_OF_RANGE, "a call in range");
+  }
+}
+
+/* A reply, read for its kind where nothing follows it, tells what the answer does; bytes that follow play no part. */
+static void told_alike(struct unit u, struct block lent, uint8_t kind, uint32_t answered) {
+  const uint8_t *out = part(u.out, REEL_REPLY_SIZE);
+  size_t length = reel_answer_length(answered), data = length - REEL_REPLY_HEAD;
+  const uint8_t *reply = sealed(lent, out, length);
+  uint64_t told = reel_read_reply(kind, reply, length);
+  expect(reel_reply_refused(told) == REEL_ACCEPTED, "a reply is read");
+  expect(reel_reply_number(told) == reel_answer_number(answered), "the number that a reply carries");
+  expect(reel_reply_laid(told) == reel_answer_laid(answered), "the bytes laid in a reply");
+  expect(reel_reply_length(told) == data && reel_reply_data(told, reply) == reply + REEL_REPLY_HEAD, "the data of a reply");
+  expect(reel_read_reply(kind, out, REEL_REPLY_SIZE) == told, "a reply with bytes after it");
+  expect(reel_read_reply(kind, sealed(lent, out, length - 1), length - 1) == REEL_CUT_SHORT, "a reply cut short");
+}
+
 /* Tables and stores as they were before a message. */
 struct state {
   uint8_t tables[REEL_TABLES_SIZE], stores[2 * STORE_MOST];
@@ -193,6 +238,9 @@ static void serve(struct unit one, struct unit whole, struct unit parts, struct 
     memcpy(replies + said, part(one.out, REEL_REPLY_SIZE), reel_answer_length(answered));
     if (size == 8 && file[length + 2] == REEL_MESSAGE_VERSION && file[length + 3] == REEL_KIND_READ)
       read_alike(one, lent, file + length, answered);
+    if (size > 3 && kind >= REEL_KIND_CREATE && kind <= REEL_KIND_LOOK_FRAME) told_alike(one, lent, kind, answered);
+    if (reel_answer_number(answered) == REEL_ACCEPTED || reel_answer_number(answered) > REEL_WRONG_LENGTH)
+      written_alike(one, lent, file + length, size, answered);
     tally[REEL_TALLY_MESSAGES]++;
     tally[REEL_TALLY_REFUSALS] += reel_answer_number(answered) != REEL_ACCEPTED;
     tally[REEL_TALLY_LAID] += reel_answer_laid(answered);
@@ -212,6 +260,30 @@ static void serve(struct unit one, struct unit whole, struct unit parts, struct 
   }
   expect(at == length && i == said, "the whole file in parts");
   same(one, parts);
+}
+
+/* Calls and replies of any sort, between fences. */
+static void senseless_call(struct unit u, struct block lent) {
+  uint8_t bytes[REEL_MESSAGE_SIZE + 9], arguments[4], kind = (uint8_t)any(13);
+  size_t count = any(sizeof bytes), room = any(200), size, i;
+  uint32_t written;
+  uint64_t told;
+  for (i = 0; i < sizeof bytes; i++) bytes[i] = (uint8_t)(any(4) == 0 ? any(256) : any(2));
+  for (i = 0; i < 4; i++) arguments[i] = (uint8_t)(any(4) == 0 ? any(256) : any(16));
+  written = write_into(part(u.out, room), room, kind, arguments, sealed(lent, bytes, count), count);
+  expect((reel_written_number(written) == REEL_SHORT_SLIP) == (room < REEL_MESSAGE_SIZE), "a short buffer for a message");
+
+  bytes[0] = (uint8_t)(any(50) == 0);
+  bytes[1] = (uint8_t)(any(2) == 0 ? 4 + any(8) : any(sizeof bytes));
+  if (any(50) != 0) bytes[2] = REEL_MESSAGE_VERSION;
+  size = 2 + (size_t)bytes[1];
+  if (size > sizeof bytes || any(20) == 0) size = any(sizeof bytes);
+  told = reel_read_reply(kind, sealed(lent, bytes, size), size);
+  expect(reel_reply_refused(told) <= REEL_WRONG_LENGTH, "the reader's own refusal");
+  if (reel_reply_refused(told) != REEL_ACCEPTED)
+    expect(told == reel_reply_refused(told), "a refusal of the reader and nothing else");
+  else
+    expect(reel_reply_start(told) + reel_reply_length(told) == 2 + (size_t)bytes[1], "the data end with the reply");
 }
 
 /* Buffers of any lengths with any bytes. */
@@ -245,9 +317,14 @@ int main(void) {
   size_t i;
   for (behind = 0; behind < 2; behind++) {
     for (i = 0; i < sizeof sizes / sizeof *sizes; i++) serve(one, whole, parts, lent, sizes[i][0], sizes[i][1]);
-    for (i = 0; i < 20000; i++) senseless(one, lent);
+    for (i = 0; i < 20000; i++) {
+      senseless(one, lent);
+      senseless_call(one, lent);
+    }
   }
   expect(freed > 1000, "deletes that free frames");
-  printf("%u messages three times, %u frames freed, %u senseless calls\n", 12u * MESSAGES, freed, 2u * 20000);
+  expect(again > 10000, "messages that are calls");
+  printf("%u messages three times, %u written again, %u frames freed, %u senseless calls\n", 12u * MESSAGES, again, freed,
+         2u * 20000);
   return 0;
 }

@@ -2,7 +2,7 @@
 //! a unit that owns all it lends.
 
 /// The version of the library that this binding is for: 65536 * major + 256 * minor + patch.
-pub const VERSION: u32 = 2 * 65536 + 256;
+pub const VERSION: u32 = 2 * 65536 + 2 * 256;
 /// How many bytes the tables take. Nothing in Rust looks into them.
 pub const TABLES: usize = 3198;
 /// The bytes of a frame, and so of a page.
@@ -11,6 +11,8 @@ pub const FRAME: usize = 64;
 pub const MOST_FRAMES: u8 = 127;
 /// The shortest reply buffer that serves.
 pub const SLIP: usize = 70;
+/// The shortest buffer that `write` lays a message into: the length of the longest one.
+pub const MESSAGE: usize = 71;
 
 // A slice passes as pointer and length.
 #[link(name = "embed", kind = "static")]
@@ -76,6 +78,20 @@ extern "C" {
         tally_len: usize,
         used: *mut usize,
     ) -> usize;
+
+    fn reel_write(
+        kind: u8,
+        first: u8,
+        second: u8,
+        third: u8,
+        fourth: u8,
+        bytes: *const u8,
+        bytes_len: usize,
+        out: *mut u8,
+        out_len: usize,
+    ) -> u32;
+
+    fn reel_read_reply(kind: u8, reply: *const u8, reply_len: usize) -> u64;
 }
 
 /// A C function with the parameters of `reel_answer`: tables, both stores, the message's or file's
@@ -230,6 +246,56 @@ pub fn replies(
     Reached { at, used }
 }
 
+/// Writes the message of a call to the front of `out`, and gives its length: the kind, its arguments
+/// in their order, of which those past the last play no part, and a write's bytes, which play none
+/// for other kinds. Refused 18 in a buffer below `MESSAGE` bytes, then 3 for an unknown kind, then
+/// 7; then nothing is written. Bytes past the message remain as lent.
+pub fn write(kind: u8, arguments: [u8; 4], bytes: &[u8], out: &mut [u8]) -> Result<usize, u8> {
+    let [first, second, third, fourth] = arguments;
+    let (from, length) = (bytes.as_ptr(), bytes.len());
+    let (to, room) = (out.as_mut_ptr(), out.len());
+    let packed = unsafe { reel_write(kind, first, second, third, fourth, from, length, to, room) };
+    match packed.to_le_bytes() {
+        [0, length, ..] => Ok(length.into()),
+        [number, ..] => Err(number),
+    }
+}
+
+/// What a reply tells.
+#[derive(Clone, Copy, Debug, PartialEq, Eq)]
+pub struct Told {
+    /// 0 accepted, else the number of the refusal that the reply carries.
+    pub number: u8,
+    /// The bytes laid.
+    pub laid: u16,
+    /// Where the data of a read or look stand in the bytes that were lent, and how many they are.
+    pub start: usize,
+    pub length: usize,
+}
+
+impl Told {
+    /// The data, in the bytes that were read.
+    pub fn data<'a>(&self, reply: &'a [u8]) -> &'a [u8] {
+        &reply[self.start..][..self.length]
+    }
+}
+
+/// Reads the reply to a message of this kind; bytes past the reply are not looked at. An error is
+/// the reader's own refusal, 1 to 4, and not a number that a reply carries.
+pub fn read_reply(kind: u8, reply: &[u8]) -> Result<Told, u8> {
+    let packed = unsafe { reel_read_reply(kind, reply.as_ptr(), reply.len()) };
+    let [refused, number, low, high, start, length, ..] = packed.to_le_bytes();
+    match refused {
+        0 => Ok(Told {
+            number,
+            laid: u16::from_le_bytes([low, high]),
+            start: start.into(),
+            length: length.into(),
+        }),
+        number => Err(number),
+    }
+}
+
 /// A tracking unit: all that a caller lends to the kernel.
 #[derive(Clone)]
 pub struct Unit {
@@ -345,7 +411,7 @@ impl Unit {
 
 #[cfg(test)]
 mod tests {
-    use super::{Answer, Unit};
+    use super::{read_reply, write, Answer, Unit};
 
     /// The worked example of document 01, and its replies.
     const FILE: [&[u8]; 6] = [
@@ -442,6 +508,49 @@ mod tests {
         assert_eq!(unit.slow[64..66], [0x41, 0x37]);
         assert_eq!(unit.answer(&[0, 4, 1, 2, 3, 5]).laid, 64);
         assert_eq!(unit.slow, [[0xDD; 64], [0; 64]].concat());
+    }
+
+    #[test]
+    fn a_call_is_written_answered_and_its_reply_read() {
+        let mut unit = Unit::fresh(4, 4).unwrap();
+        let calls = [
+            (1, [3, 5, 0, 0], &[][..]),
+            (6, [5, 0, 0, 0], &[]),
+            (8, [5, 0, 0, 0], &[]),
+            (5, [3, 5, 0, 0], &[0x41, 0x37]),
+            (4, [3, 5, 0, 3], &[]),
+            (10, [5, 0, 0, 0], &[]),
+        ];
+        for ((kind, arguments, bytes), (message, reply)) in
+            calls.into_iter().zip(FILE.into_iter().zip(REPLIES))
+        {
+            let mut out = [0xAA; 80];
+            let length = write(kind, arguments, bytes, &mut out).unwrap();
+            assert_eq!(out[..length], *message);
+            assert_eq!(out[length..], [0xAA; 80][length..]);
+            let answer = unit.answer(&out[..length]);
+            let told = read_reply(kind, answer.reply).unwrap();
+            let due = (answer.number, answer.laid, answer.data());
+            assert_eq!((told.number, told.laid, told.data(reply)), due);
+        }
+    }
+
+    #[test]
+    fn calls_and_replies_that_are_refused() {
+        let mut out = [0xAA; 71];
+        assert_eq!(write(12, [0; 4], &[], &mut out[..70]), Err(18));
+        assert_eq!(write(12, [0; 4], &[], &mut out), Err(3));
+        assert_eq!(write(0, [0; 4], &[], &mut out), Err(3));
+        assert_eq!(write(11, [254, 0, 0, 0], &[], &mut out), Err(7));
+        assert_eq!(write(5, [3, 5, 0, 0], &[], &mut out), Err(7));
+        assert_eq!(out, [0xAA; 71]);
+        assert_eq!(read_reply(1, &[]), Err(1));
+        assert_eq!(read_reply(12, &[0, 4, 1, 0, 0]), Err(1));
+        assert_eq!(read_reply(12, &[0, 4, 2, 0, 0, 0]), Err(2));
+        assert_eq!(read_reply(12, &[0, 4, 1, 0, 0, 0]), Err(3));
+        assert_eq!(read_reply(1, &[0, 4, 1, 20, 0, 0]), Err(4));
+        let told = read_reply(1, &[0, 4, 1, 1, 0, 0, 9]).unwrap();
+        assert_eq!((told.number, told.laid, told.length), (1, 0, 0));
     }
 
     #[test]

@@ -17,6 +17,9 @@ use Rattle.steps.specs.Promises.{stateOf, Lent, lent}
 use Rattle.messages.specs.declared.Tally.{Tally}
 use Rattle.messages.specs.Replies.{replyIn, isRefusal}
 use Rattle.messages.specs.Run.{Turn, Run, buffer, tally, joinedReplies, Part}
+use Rattle.stations.specs.declared.Reading.{Reading}
+use Rattle.stations.specs.declared.Reading.the-variants.{Refused, Reply}
+use Rattle.stations.specs.Writer.{messageIn}
 use Rattle.embed.specs.Bytes.{tablesSize, tablesBytes, tablesFrom, marked}
 
 -- ---- version
@@ -25,9 +28,9 @@ use Rattle.embed.specs.Bytes.{tablesSize, tablesBytes, tablesFrom, marke
 abbrev pub versionNumber : ℕ → ℕ → ℕ → ℕ
 versionNumber major minor patch = 65536 * major + 256 * minor + patch
 
--- 2.1.0
+-- 2.2.0
 abbrev pub version : ℕ
-version = versionNumber 2 1 0
+version = versionNumber 2 2 0
 
 -- ---- tables
 
@@ -129,3 +132,16 @@ pub record RepliesLent (w : Part) (b : List ℕ) (l : Lent) (n : List ℕ) (b′
   pub tables-out : b′ ≡ withTables b (w .final .tables)
   pub lent-out : l′ ≡ lent (w .final .fast) (w .final .slow) (over (joinedReplies (length (l .out)) (w .turns)) (l .out))
   pub tally-out : n′ ≡ withTally n (tally (w .turns) (tallyOf n))
+
+-- ---- for stations
+
+-- what `reel_write` leaves of a call that comes to o: the number and the length of the message, in one, and the message at the front of the buffer
+pub record WriteLent (o : Outcome (List ℕ)) (out out′ : List ℕ) (r : ℕ) : Type 0 where
+  pub told : r ≡ packed (numberOf o) (length (messageIn o)) 0
+  pub buffer-out : out′ ≡ over (messageIn o) out
+
+-- What is read of a reply, in one number: the reader's own refusal, 1 to 4, in the lowest byte; where that is 0, the number that the reply
+-- carries in the second, the bytes laid in the next two, and in the fifth and sixth where the data start and how many they are.
+abbrev pub readingNumber : Reading → ℕ
+readingNumber (Refused n) = n
+readingNumber (Reply number laid start len) = 256 * number + 65536 * laid + 4294967296 * start + 1099511627776 * len

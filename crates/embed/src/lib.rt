@@ -7,6 +7,9 @@ use messages::Tally;
 use messages::answer;
 use messages::fill;
 use messages::run;
+use stations::Reading;
+use stations::read_reply;
+use stations::write_kind;
 use steps::BROKEN_TABLES;
 use steps::Place;
 use steps::read_place;
@@ -17,7 +20,7 @@ use tables::Shared;
 use tables::Tables;
 ghost use mathlib.Core.Path.{_≡_};
 ghost use mathlib.Core.Bool.{true, cond};
-ghost use mathlib.Core.List.{flatMap};
+ghost use mathlib.Core.List.{[], _∷_, flatMap};
 ghost use Prim.Native.Nat.{_+_, _≤_, _<_};
 ghost use lib.ListN.{length, take, drop};
 ghost use lib.Seq.{sets};
@@ -28,8 +31,10 @@ ghost use Rattle.messages.specs.Replies.{be16};
 ghost use Rattle.messages.specs.Run.{answer, run, partFrom};
 ghost use Rattle.messages.specs.Promises.{sentAlone};
 ghost use Rattle.embed.specs.Bytes.{pageSize, registerAt, tablesSize, markByte, copyBytes, pageBytes, tablesBytes, fromEach, copyFrom, pageFrom, entryFrom, tablesFrom, pageMarked, marked};
-ghost use Rattle.embed.specs.Private.{Small};
-ghost use Rattle.embed.specs.Exports.{version, tablesIn, noTables, tablesOf, withTables, freshInto, tallyOf, withTally, storeNumber, placeNumber, packed, lentState, AnswerLent, RunLent, RepliesLent};
+ghost use Rattle.embed.specs.Private.{Small, Low};
+ghost use Rattle.embed.specs.Exports.{version, tablesIn, noTables, tablesOf, withTables, freshInto, tallyOf, withTally, storeNumber, placeNumber, packed, lentState, AnswerLent, RunLent, RepliesLent, WriteLent, readingNumber};
+ghost use Rattle.stations.specs.Writer.{writtenAs};
+ghost use Rattle.stations.specs.Reader.{readReply};
 
 // How many bytes a page takes.
 const PAGE_SIZE: usize = 42;
@@ -43,7 +48,7 @@ const TABLES_SIZE: usize = REGISTER_AT + 2 * 254;
 // The version of what C and Rust see: these functions, and the tables as bytes.
 const MAJOR: u32 = 2;
 
-const MINOR: u32 = 1;
+const MINOR: u32 = 2;
 
 const PATCH: u32 = 0;
 
@@ -371,6 +376,25 @@ fn place_number(place: Place) -> u32
     place.len as u32 + 256 * store_number(place.slow) + 65536 * place.start as u32
 }
 
+// What the reader of replies gives, in one number: its refusal, or 0 with what the reply tells.
+fn reading_number(r: Reading) -> u64
+    requires { ⌜ Low r ⌝ }
+    ensures { λ x. ⌜ x ≡ readingNumber r ⌝ }
+{
+    match r {
+        Reading::Refused { number } => number as u64,
+        Reading::Reply {
+            number,
+            laid,
+            start,
+            len,
+        } => 256 * number as u64
+            + 65536 * laid as u64
+            + 4294967296 * start as u64
+            + 1099511627776 * len as u64,
+    }
+}
+
 // ---- for C and Rust
 
 // 65536 times the major version, 256 times the minor one and the patch, in one.
@@ -496,4 +520,33 @@ pub extern "C" fn reel_replies(
     put_tally(part.tally, tally);
     *used = part.used;
     part.at
+}
+
+// Writes the message of a call to the front of the buffer: its number and 256 times the length of the message, in one.
+#[no_mangle]
+pub extern "C" fn reel_write(
+    kind: u8,
+    first: u8,
+    second: u8,
+    third: u8,
+    fourth: u8,
+    bytes: &[u8],
+    out: &mut [u8],
+) -> u32
+    ensures { λ r. ⌜ WriteLent (writtenAs (length (now (out .entry))) kind (first ∷ second ∷ third ∷ fourth ∷ []) (now (bytes .entry)))
+        (now (out .entry)) (now (out .exit)) r ⌝ }
+{
+    let w = write_kind(kind, first, second, third, fourth, bytes, out);
+    packed(w.number, w.len, 0)
+}
+
+// Reads the reply to a message of the kind that is told: the reader's own refusal, 1 to 4; or 0 and, in one, 256 times the
+// number that the reply carries, 65536 times the bytes laid, and in the fifth and sixth byte where the data start and how
+// many they are.
+#[no_mangle]
+pub extern "C" fn reel_read_reply(kind: u8, reply: &[u8]) -> u64
+    ensures { λ r. ⌜ r ≡ readingNumber (readReply kind (now (reply .entry))) ⌝ }
+{
+    let told = read_reply(kind, reply);
+    reading_number(told)
 }

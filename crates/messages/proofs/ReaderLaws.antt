@@ -117,6 +117,7 @@ yields-at file at r e = record { told = e; meant = ap (yielded file) e ∙ sym (
 
 pub record MessageAt (file : List ℕ) (at start len next : ℕ) : Type 0 where
   pub starts : start ≡ at + 2
+  pub size : len ≡ lengthAt file at
   pub ends : next ≡ start + len
   pub inside : next ≤ length file
 
@@ -135,7 +136,7 @@ message-at file at start len next =
         let l : len ≡ lengthAt file at = cc in
         let n : next ≡ at + 2 + lengthAt file at = cc in
         let k = ltb-false (length file) (at + 2 + lengthAt file at) e in
-        record { starts = cc; ends = cc; inside = omega arith }
+        record { starts = cc; size = l; ends = cc; inside = omega arith }
 
 -- its bytes, as the code takes them
 pub message-part : (file : List ℕ) (at start len next : ℕ) → Message start len next ≡ nextAt file at

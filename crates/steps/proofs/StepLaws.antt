@@ -23,7 +23,8 @@ use Rattle.steps.specs.declared.Call.{Call}
 use Rattle.steps.specs.declared.Work.{Work}
 use Rattle.steps.specs.declared.Work.the-variants.{Nothing, Clear, ClearPage, Duplicate, Spread, Show, ShowPage, ShowHolder}
 use Rattle.steps.specs.declared.Decision.{Decision}
-use Rattle.steps.specs.Kinds.{leastLength}
+use Rattle.steps.specs.Kinds.{tells, leastLength}
+use Rattle.steps.specs.Data.{formed}
 use Rattle.steps.specs.Stores.{fits, block, held, zeros, over}
 use Rattle.steps.specs.Steps.{Outcome, refuse, accept, test, mapped, Plan, isPlaced, copyAt, decide, decideAny, numberOf}
 use Rattle.steps.specs.Effects.{laidIn, shownOf, State, joined, Result, carriedOut, step, left, laidBy, dataOf}
@@ -198,6 +199,16 @@ module _ (s : State) (c : Call) (bs : List ℕ) where
           → 4 * (6 + length (dataOf (mapped (carriedOut s c bs) o))) ≤ 35 * (2 + leastLength (c .kind))
       go (refuse n) k = omega arith
       go (accept plan) (if-accepted u) = rw (u .plan-ok .shows (joined s) (joined-long (u .good))) (u .plan-ok .paid)
+
+  -- what it tells has the form of its kind's data, and the bytes laid are few
+  pub step-formed : IfAccepted (λ (r : Result). (formed (tells (c .kind)) (r .data-out) ≡ true) × (r .laid ≤ 512)) (step s c bs)
+  unfolding step
+  step-formed = go _ sure
+    where
+      go : (o : Outcome Plan) → IfAccepted (Sure s c bs) o
+          → IfAccepted (λ (r : Result). (formed (tells (c .kind)) (r .data-out) ≡ true) × (r .laid ≤ 512)) (mapped (carriedOut s c bs) o)
+      go (refuse n) (if-refused row) = if-refused row
+      go (accept plan) (if-accepted u) = if-accepted (u .plan-ok .as-told (joined s) (joined-long (u .good)), u .plan-ok .laid-fits)
 
   -- every number is 0 or one of the table
   pub step-number : listed (numberOf (step s c bs)) (accepted ∷ table) ≡ true

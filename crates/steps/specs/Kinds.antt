@@ -1,5 +1,5 @@
--- Document 01, "The steps": what each kind of call names and what its reply tells. One row a kind: the lengths of its messages, its
--- arguments, what it is tested for and the form of its replies follow from it.
+-- Document 01, "The steps": the table of kinds, a row a kind in each column: what its calls name, what its replies tell, and its number. The
+-- lengths of its messages, its arguments, what it is tested for and the form of its replies follow.
 use Prim.Native.Nat.{ℕ, _+_, _-_}
 use mathlib.Core.Bool.{Bool, false, _||_, cond}
 use mathlib.Core.List.{List, [], _∷_, _++_}
@@ -74,7 +74,7 @@ kinds =
 abbrev pub isUnknown : ℕ → Bool
 isUnknown number = eqb number 0 || ltb (length kinds) number
 
--- a number that is no kind counts as 1 here, and is turned back before (`parse`)
+-- a number that is no kind's counts as 1 here, and is turned back before
 abbrev pub kindOf : ℕ → Kind
 kindOf number = getD kinds (number - 1) Create
 

@@ -10,3 +10,6 @@ pub mod Caller
 pub mod Refusals
 pub mod Searched
 pub mod Clean
+pub mod Written
+pub mod Told
+pub mod Stations

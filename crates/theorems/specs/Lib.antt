@@ -4,7 +4,9 @@ pub mod Demand3
 pub mod Held
 pub mod Clean
 pub mod Searched
+pub mod Stations
 pub mod Cases
+pub mod StationCases
 pub mod Impostors
 pub mod Witness3
 pub mod Witness1

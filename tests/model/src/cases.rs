@@ -1,10 +1,12 @@
 //! The cases of document 01 as call files, each with the whole list of its replies: the worked
 //! example, the starred cases on its end state, and for each trap and impostor a file whose replies
 //! it gets wrong. Then the pairs of right and act of request [3] of document 02, and the deletes of
-//! its request [2], each also with the bytes that it leaves in the stores.
+//! its request [2], each also with the bytes that it leaves in the stores. Last the calls and the
+//! replies of its request [4]: the worked example's, and such as are refused or just not.
 
 use crate::kernel::Kernel;
 use crate::model::{frame_bytes, Lent, Reader, Tables, Tally, FRAME, PROGRAM_FRAMES, SLIP};
+use crate::stations::{Sent, Told};
 use reel::lines;
 
 /// A call file that goes on from the worked example.
@@ -434,6 +436,205 @@ pub const DELETES: [Deletes; 13] = [
     },
 ];
 
+/// A call for the writer.
+pub struct Written {
+    pub name: &'static str,
+    pub kind: u8,
+    pub arguments: [u8; 4],
+    pub bytes: &'static [u8],
+    /// The length of the buffer.
+    pub room: usize,
+    /// The line of its message, or the number of the refusal.
+    pub due: Result<&'static str, u8>,
+}
+
+const fn written(
+    name: &'static str,
+    (kind, arguments): (u8, [u8; 4]),
+    bytes: &'static [u8],
+    room: usize,
+    due: Result<&'static str, u8>,
+) -> Written {
+    Written {
+        name,
+        kind,
+        arguments,
+        bytes,
+        room,
+        due,
+    }
+}
+
+/// "The writer gives 18 for a buffer below 71 bytes, then 7 as document 01 does, with frames up to
+/// 253 in range"; 3 for an unknown kind comes between.
+#[rustfmt::skip]
+pub const WRITTEN: [Written; 36] = [
+    written("the example's creation", (1, [3, 5, 0, 0]), &[], 71, Ok("create 3 5")),
+    written("the example's copy", (6, [5, 0, 0, 0]), &[], 72, Ok("copy 5 0 0")),
+    written("the example's set current", (8, [5, 0, 0, 0]), &[], 80, Ok("current 5 0")),
+    written("the example's write", (5, [3, 5, 0, 0]), &[0x41, 0x37], 71, Ok("write 3 5 0 41 37")),
+    written("the example's read", (4, [3, 5, 0, 3]), &[], 71, Ok("read 3 5 0 3")),
+    written("the example's look", (10, [5, 0, 0, 0]), &[], 200, Ok("look-page 5")),
+    written("the last station and page", (2, [15, 63, 0, 0]), &[], 71, Ok("delete-page 15 63")),
+    written("the highest right", (3, [15, 63, 15, 2]), &[], 71, Ok("grant 15 63 15 2")),
+    written("any copy number", (7, [63, 255, 0, 0]), &[], 71, Ok("delete-copy 63 255")),
+    written("a copy number past the last", (9, [0, 8, 0, 0]), &[], 71, Ok("remove-current 0 8")),
+    written("a copy to the last frame", (6, [0, 255, 253, 0]), &[], 71, Ok("copy 0 255 253")),
+    written("a look at the last frame", (11, [253, 0, 0, 0]), &[], 71, Ok("look-frame 253")),
+    written("the last byte of a page", (4, [0, 0, 63, 1]), &[], 71, Ok("read 0 0 63 1")),
+    written("what plays no part", (1, [3, 5, 255, 255]), &[7; 65], 71, Ok("create 3 5")),
+    // 7.
+    written("station 16", (1, [16, 0, 0, 0]), &[], 71, Err(7)),
+    written("page 64", (2, [0, 64, 0, 0]), &[], 71, Err(7)),
+    written("other station 16", (3, [0, 0, 16, 0]), &[], 71, Err(7)),
+    written("right 3", (3, [0, 0, 0, 3]), &[], 71, Err(7)),
+    written("frame 254", (6, [0, 0, 254, 0]), &[], 71, Err(7)),
+    written("frame 255, a look", (11, [255, 0, 0, 0]), &[], 71, Err(7)),
+    written("count 0", (4, [0, 0, 0, 0]), &[], 71, Err(7)),
+    written("count 65", (4, [0, 0, 0, 65]), &[], 71, Err(7)),
+    written("offset 63, count 2", (4, [0, 0, 63, 2]), &[], 71, Err(7)),
+    written("offset 64", (4, [0, 0, 64, 1]), &[], 71, Err(7)),
+    written("offset and count of 257: 1 in one byte", (4, [0, 0, 255, 2]), &[], 71, Err(7)),
+    written("a write of no byte", (5, [0, 0, 0, 1]), &[], 71, Err(7)),
+    written("a write of 65 bytes", (5, [0, 0, 0, 0]), &[7; 65], 71, Err(7)),
+    written("a write of 64 bytes from offset 1 on", (5, [0, 0, 1, 0]), &[7; 64], 71, Err(7)),
+    written("a write of 257 bytes: 1 in one byte", (5, [0, 0, 0, 0]), &[7; 257], 71, Err(7)),
+    // 3.
+    written("kind 0", (0, [0; 4]), &[], 71, Err(3)),
+    written("kind 12", (12, [255; 4]), &[], 71, Err(3)),
+    written("kind 255", (255, [0; 4]), &[], 71, Err(3)),
+    // 18.
+    written("70 bytes, whatever the message", (10, [5, 0, 0, 0]), &[], 70, Err(18)),
+    written("70 bytes, out of range", (10, [64, 0, 0, 0]), &[], 70, Err(18)),
+    written("70 bytes, an unknown kind", (12, [0; 4]), &[], 70, Err(18)),
+    written("no byte", (11, [0; 4]), &[], 0, Err(18)),
+];
+
+/// Bytes for the reader of replies.
+pub struct Read {
+    pub name: &'static str,
+    /// The kind that it is told.
+    pub kind: u8,
+    /// In hexadecimal.
+    pub bytes: &'static str,
+    /// The number, the bytes laid and, in hexadecimal, the data; or the number of the refusal.
+    pub due: Result<(u8, u16, &'static str), u8>,
+}
+
+const fn read(
+    name: &'static str,
+    kind: u8,
+    bytes: &'static str,
+    due: Result<(u8, u16, &'static str), u8>,
+) -> Read {
+    Read {
+        name,
+        kind,
+        bytes,
+        due,
+    }
+}
+
+#[rustfmt::skip]
+pub const READ: [Read; 51] = [
+    read("the example's creation", 1, DONE, Ok((0, 0, ""))),
+    read("the example's copy", 6, ONE_FRAME, Ok((0, 64, ""))),
+    read("the example's set current", 8, DONE, Ok((0, 0, ""))),
+    read("the example's write", 5, "00 04 01 00 00 02", Ok((0, 2, ""))),
+    read("the example's read", 4, "00 07 01 00 00 00 41 37 00", Ok((0, 0, "41 37 00"))),
+    read("the example's look", 10, "00 08 01 00 00 00 01 00 01 01", Ok((0, 0, "01 00 01 01"))),
+    read("a free frame", 11, "00 07 01 00 00 00 00 FF FF", Ok((0, 0, "00 FF FF"))),
+    read("any three bytes of a frame look", 11, "00 07 01 00 00 00 09 40 08", Ok((0, 0, "09 40 08"))),
+    read("a null copy", 10, "00 08 01 00 00 00 01 FF 00 01", Ok((0, 0, "01 FF 00 01"))),
+    read("any frame of a page look", 10, "00 08 01 00 00 00 01 FE 01 00", Ok((0, 0, "01 FE 01 00"))),
+    read("any bytes laid", 1, "00 04 01 00 FE FF", Ok((0, 0xFEFF, ""))),
+    read("a refusal", 4, NO_RIGHT, Ok((10, 0, ""))),
+    read("a number that the kind never gets", 4, "00 04 01 08 00 00", Ok((8, 0, ""))),
+    read("number 18", 1, "00 04 01 12 00 00", Ok((18, 0, ""))),
+    read("number 19", 1, "00 04 01 13 00 00", Ok((19, 0, ""))),
+    read("a reply that carries 1", 1, "00 04 01 01 00 00", Ok((1, 0, ""))),
+    read("bytes after the reply", 1, "00 04 01 00 00 00 00 04 02", Ok((0, 0, ""))),
+    read("a read, bytes after it", 4, "00 05 01 00 00 00 41 37 00", Ok((0, 0, "41"))),
+    // 1.
+    read("no byte", 1, "", Err(1)),
+    read("one byte", 1, "00", Err(1)),
+    read("no byte after the length", 1, "00 04", Err(1)),
+    read("the last byte missing", 1, "00 04 01 00 00", Err(1)),
+    read("the last byte of a read missing", 4, "00 07 01 00 00 00 41 37", Err(1)),
+    read("cut short before a foreign version", 1, "00 04 02 00 00", Err(1)),
+    read("cut short before an unknown kind", 12, "00 04 01 00 00", Err(1)),
+    // 2.
+    read("L of 0", 1, "00 00 01 00 00 00", Err(2)),
+    read("version 2", 1, "00 04 02 00 00 00", Err(2)),
+    read("a foreign version before an unknown kind", 12, "00 04 00 00 00 00", Err(2)),
+    read("a foreign version before a wrong length", 1, "00 01 02", Err(2)),
+    // 3.
+    read("kind 0", 0, DONE, Err(3)),
+    read("kind 12", 12, DONE, Err(3)),
+    read("an unknown kind before a wrong length", 12, "00 01 01", Err(3)),
+    // 4.
+    read("L of 1", 1, "00 01 01", Err(4)),
+    read("L of 3", 1, "00 03 01 00 00", Err(4)),
+    read("data for a kind that has none", 1, "00 05 01 00 00 00 00", Err(4)),
+    read("a read of no byte", 4, DONE, Err(4)),
+    read("a page look of no byte", 10, DONE, Err(4)),
+    read("a frame look of two bytes", 11, "00 06 01 00 00 00 00 FF", Err(4)),
+    read("a frame look of four bytes", 11, "00 08 01 00 00 00 00 FF FF FF", Err(4)),
+    read("n of 0", 10, "00 05 01 00 00 00 00", Err(4)),
+    read("n of 2 with one copy", 10, "00 08 01 00 00 00 02 00 01 01", Err(4)),
+    read("n of 1 with two copies", 10, "00 0B 01 00 00 00 01 00 01 01 06 00 01", Err(4)),
+    read("n of 1 with part of a second copy", 10, "00 09 01 00 00 00 01 00 01 01 06", Err(4)),
+    read("a CURRENT byte of 2", 10, "00 08 01 00 00 00 01 00 02 01", Err(4)),
+    read("a MOST RECENT byte of 2", 10, "00 08 01 00 00 00 01 00 01 02", Err(4)),
+    read("the second copy's CURRENT byte 2", 10, "00 0B 01 00 00 00 02 00 01 01 06 02 01", Err(4)),
+    read("number 20", 1, "00 04 01 14 00 00", Err(4)),
+    read("number 255", 1, "00 04 01 FF 00 00", Err(4)),
+    read("a refusal with bytes laid", 1, "00 04 01 08 00 40", Err(4)),
+    read("a refusal with bytes laid, in the high byte", 2, "00 04 01 0A 02 00", Err(4)),
+    read("a refusal with data", 4, "00 05 01 0A 00 00 41", Err(4)),
+];
+
+impl Written {
+    pub fn sent(&self) -> Sent {
+        Sent {
+            kind: self.kind,
+            arguments: self.arguments,
+            bytes: self.bytes.to_vec(),
+        }
+    }
+
+    /// The buffer after it, of which each byte was lent as AA; and the length, or the refusal.
+    pub fn due(&self) -> (Vec<u8>, Result<usize, u8>) {
+        let message = self.due.map(bytes);
+        let front = message.as_deref().unwrap_or_default();
+        let mut out = front.to_vec();
+        out.resize(self.room, 0xAA);
+        (
+            out,
+            message.as_ref().map(Vec::len).map_err(|&number| number),
+        )
+    }
+}
+
+impl Read {
+    pub fn bytes(&self) -> Vec<u8> {
+        raw(self.bytes)
+    }
+
+    pub fn due(&self) -> Result<Told, u8> {
+        self.due.map(|(number, laid, data)| Told {
+            number,
+            laid,
+            data: raw(data),
+        })
+    }
+}
+
+/// Bytes from hexadecimal.
+fn raw(hex: &str) -> Vec<u8> {
+    bytes(&format!("raw {hex}"))
+}
+
 /// The bytes of a line.
 pub fn bytes(line: &str) -> Vec<u8> {
     lines::bytes(line).expect("a line of words")
@@ -454,9 +655,7 @@ impl Case {
     /// The whole list of its replies.
     pub fn replies(&self) -> Vec<Vec<u8>> {
         let replies = REPLIES.iter().chain(self.replies);
-        replies
-            .map(|reply| bytes(&format!("raw {reply}")))
-            .collect()
+        replies.map(|reply| raw(reply)).collect()
     }
 }
 
@@ -468,7 +667,7 @@ impl Deletes {
         let frames = (0..).zip(self.frames).map(|(frame, held)| match held {
             FIRST => frame_bytes(&tables, &first.fast, &first.slow, frame).to_vec(),
             front => {
-                let mut held = bytes(&format!("raw {front}"));
+                let mut held = raw(front);
                 held.resize(FRAME, 0);
                 held
             }

@@ -1,6 +1,7 @@
 //! The comparison of a kernel with the model, on every call and every byte.
 
 use crate::clean::Clean;
+use crate::exchange::Turns;
 use crate::flat::Demand3;
 use crate::gen::{self, Moves, Rng, DAMAGES, SHORT_SLIPS, SLIPS};
 use crate::kernel::{packed, Kernel, Modelled};
@@ -10,7 +11,7 @@ use crate::model::{
 };
 use reel::words::{self, hex, WORDS};
 
-/// Each number must be given this often.
+/// Each number, and each other case that is counted, must come up this often.
 pub const LEAST: u64 = 100;
 
 /// States and events that a run should reach, counted message by message.
@@ -43,6 +44,8 @@ pub struct Counts {
     pub runs_from_fresh: u64,
     /// Calls that keep the replies of a part of a file.
     pub parts: u64,
+    /// Messages written again, and replies read back.
+    pub turns: Turns,
 }
 
 impl Counts {
@@ -149,6 +152,12 @@ impl Compare<'_> {
         let is_refused = given.to_le_bytes()[0] != 0;
         if is_refused && is_changed(lent, &by_kernel) {
             difference.push_str("\n  a refused message changed the tables or a store");
+        }
+        if difference.is_empty() {
+            let (turns, out) = (&mut self.counts.turns, &by_kernel.out);
+            if let Err(error) = turns.check(self.kernel, bytes, out, answer.length) {
+                difference = format!("\n  {error}");
+            }
         }
         if difference.is_empty() {
             return Ok(by_kernel);

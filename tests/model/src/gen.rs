@@ -4,6 +4,7 @@ use crate::model::{
     frame_bytes, message, Call, Lent, Page, PageCopy, Tables, ENTRIES, FRAME, KINDS, MOST_FRAMES,
     NO_FRAME, NO_HOLDER, PAGES, RAW, RECORD, REGISTER, REGISTERED, SLIP, STATIONS, VERSION,
 };
+use crate::stations::{arguments, Sent};
 
 /// A small generator of random numbers (splitmix64).
 pub struct Rng(u64);
@@ -813,6 +814,36 @@ fn any_call(rng: &mut Rng) -> Call {
         10 => Call::LookPage { page },
         _ => Call::LookFrame { frame },
     }
+}
+
+/// A call for the writer, of any kind, known or not, with arguments mostly at a border. What plays no
+/// part is there too.
+pub fn any_sent(rng: &mut Rng) -> Sent {
+    let call = any_call(rng);
+    let mut sent = with_idle(rng, &call);
+    if sent.kind == 5 {
+        let count = rng.pick(&WRITTEN);
+        sent.bytes = rng.bytes(count);
+    }
+    if rng.once_in(8) {
+        sent.kind = rng.byte();
+    }
+    sent
+}
+
+/// So many bytes are given to a write, in range or not.
+const WRITTEN: [usize; 12] = [0, 1, 2, 31, 32, 33, 62, 63, 64, 65, 66, 70];
+
+/// A call for the writer, with arguments and bytes that play no part where the kind has room for
+/// them.
+pub fn with_idle(rng: &mut Rng, call: &Call) -> Sent {
+    let mut sent = Sent::of(call);
+    rng.fill(&mut sent.arguments[arguments(sent.kind)..]);
+    if sent.bytes.is_empty() {
+        let count = rng.pick(&[0, 1, 64, 65, 300]);
+        sent.bytes = rng.bytes(count);
+    }
+    sent
 }
 
 fn border(rng: &mut Rng, values: &[u8]) -> u8 {

@@ -1,10 +1,20 @@
 //! What can be compared with the model: the kernel of `libembed.a`, and the model itself, on which
 //! the tests of the comparison build.
 
-use crate::model::{self, Answer, Lent, Part, Reached, RAW};
+use crate::model::{self, Answer, Lent, Part, Reached, Refusal, RAW};
+use crate::stations::{self, Sent, Told};
+
+/// The functions that stations use.
+pub trait Stations {
+    /// Writes a call's message to the front of a buffer: its length, or the number of the refusal.
+    fn write(&self, sent: &Sent, out: &mut [u8]) -> Result<usize, u8>;
+    /// Reads the reply to a message of a kind: what it tells, or the number of the reader's own
+    /// refusal.
+    fn read_reply(&self, kind: u8, reply: &[u8]) -> Result<Told, u8>;
+}
 
 /// The functions of the kernel.
-pub trait Kernel {
+pub trait Kernel: Stations {
     /// Writes fresh tables: 0, or 19; 5 for a buffer of another length than raw tables have.
     fn fresh(&self, fast: u8, slow: u8, tables: &mut [u8]) -> u8;
     /// Answers one message: number + 256 * (length of the reply) + 65536 * (bytes laid).
@@ -38,7 +48,7 @@ pub struct Modelled;
 impl Kernel for Modelled {
     fn fresh(&self, fast: u8, slow: u8, tables: &mut [u8]) -> u8 {
         if tables.len() != RAW {
-            return model::Refusal::BrokenTables.number();
+            return Refusal::BrokenTables.number();
         }
         let (number, fresh) = model::fresh(fast, slow);
         tables.copy_from_slice(&fresh.to_raw());
@@ -68,8 +78,32 @@ impl Kernel for Modelled {
     }
 }
 
+impl Stations for Modelled {
+    fn write(&self, sent: &Sent, out: &mut [u8]) -> Result<usize, u8> {
+        stations::write(sent, out).map_err(Refusal::number)
+    }
+
+    fn read_reply(&self, kind: u8, reply: &[u8]) -> Result<Told, u8> {
+        stations::read_reply(kind, reply).map_err(Refusal::number)
+    }
+}
+
 /// The kernel of `libembed.a`.
 pub struct Embedded;
+
+impl Stations for Embedded {
+    fn write(&self, sent: &Sent, out: &mut [u8]) -> Result<usize, u8> {
+        kernel::write(sent.kind, sent.arguments, &sent.bytes, out)
+    }
+
+    fn read_reply(&self, kind: u8, reply: &[u8]) -> Result<Told, u8> {
+        kernel::read_reply(kind, reply).map(|told| Told {
+            number: told.number,
+            laid: told.laid,
+            data: told.data(reply).to_vec(),
+        })
+    }
+}
 
 impl Kernel for Embedded {
     fn fresh(&self, fast: u8, slow: u8, tables: &mut [u8]) -> u8 {

@@ -1,6 +1,7 @@
 //! `compare [--seed N] [--messages N]`: compares the kernel with the model.
 
 use model::compare::{compare, DEPTHS};
+use model::exchange;
 use model::kernel::Embedded;
 use reel::words::WORDS;
 use std::process::ExitCode;
@@ -28,7 +29,12 @@ fn main() -> ExitCode {
         return ExitCode::from(2);
     };
     println!("compare: seed {seed}");
-    let counts = match compare(&Embedded, seed, messages) {
+    let exchange = exchange::compare(&Embedded, seed).map_err(|difference| difference.to_string());
+    let compared = exchange.and_then(|exchange| {
+        let counts = compare(&Embedded, seed, messages)?;
+        Ok((exchange, counts))
+    });
+    let (exchange, counts) = match compared {
         Ok(counts) => counts,
         Err(difference) => {
             println!("compare: MISMATCH, seed {seed}\n{difference}");
@@ -46,7 +52,15 @@ fn main() -> ExitCode {
          {} parts of files with their replies kept",
         counts.runs, counts.runs_from_fresh, counts.parts
     );
-    let too_few = counts.too_few();
+    for (word, count) in exchange.rows() {
+        println!("     {word:33} {count:9}");
+    }
+    println!(
+        "{} calls given to the writer, {} times bytes to the reader of replies; {} messages written \
+         again and {} replies read back",
+        exchange.calls, exchange.replies, counts.turns.written_again, counts.turns.read_back
+    );
+    let too_few = [counts.too_few(), exchange.too_few()].concat();
     if !too_few.is_empty() {
         println!("compare: TOO FEW, seed {seed}\n{}", too_few.join("\n"));
         return ExitCode::FAILURE;

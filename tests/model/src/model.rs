@@ -332,20 +332,24 @@ impl Done {
     }
 }
 
-fn require(met: bool, otherwise: Refusal) -> Result<(), Refusal> {
+pub(crate) fn require(met: bool, otherwise: Refusal) -> Result<(), Refusal> {
     met.then_some(()).ok_or(otherwise)
 }
 
-fn station_in_range(station: u8) -> Result<(), Refusal> {
+pub(crate) fn station_in_range(station: u8) -> Result<(), Refusal> {
     require(usize::from(station) < STATIONS, Refusal::OutOfRange)
 }
 
-fn page_in_range(page: u8) -> Result<(), Refusal> {
+pub(crate) fn page_in_range(page: u8) -> Result<(), Refusal> {
     require(usize::from(page) < PAGES, Refusal::OutOfRange)
 }
 
+pub(crate) fn right_in_range(right: u8) -> Result<(), Refusal> {
+    require(right <= 2, Refusal::OutOfRange)
+}
+
 /// The part of a page from the offset on.
-fn part_in_range(offset: u8, count: usize) -> Result<(), Refusal> {
+pub(crate) fn part_in_range(offset: u8, count: usize) -> Result<(), Refusal> {
     let offset = usize::from(offset);
     let met = offset < FRAME && count > 0 && offset + count <= FRAME;
     require(met, Refusal::OutOfRange)
@@ -439,7 +443,7 @@ impl Reel<'_> {
         station_in_range(station)?;
         page_in_range(page)?;
         station_in_range(other)?;
-        require(right <= 2, Refusal::OutOfRange)?;
+        right_in_range(right)?;
         let page = self.tables.page_mut(page)?;
         require(page.owner == station, Refusal::NoRight)?;
         page.rights[usize::from(other)] = right;
@@ -567,15 +571,21 @@ pub fn message(version: u8, kind: u8, arguments: &[u8]) -> Vec<u8> {
     message
 }
 
+/// What follows the version byte of the message or reply at the front of some bytes, or which of 1
+/// and 2 it falls under.
+pub(crate) fn body(bytes: &[u8]) -> Result<&[u8], Refusal> {
+    let (&length, rest) = bytes.split_first_chunk().ok_or(Refusal::CutShort)?;
+    let length = usize::from(u16::from_be_bytes(length));
+    let whole = rest.get(..length).ok_or(Refusal::CutShort)?;
+    let (&version, body) = whole.split_first().ok_or(Refusal::ForeignVersion)?;
+    require(version == VERSION, Refusal::ForeignVersion)?;
+    Ok(body)
+}
+
 impl Call {
     /// The message at the front of some bytes, or which of 1 to 4 it falls under.
     pub fn decode(bytes: &[u8]) -> Result<Call, Refusal> {
-        let (&length, rest) = bytes.split_first_chunk().ok_or(Refusal::CutShort)?;
-        let length = usize::from(u16::from_be_bytes(length));
-        let body = rest.get(..length).ok_or(Refusal::CutShort)?;
-        let (&version, body) = body.split_first().ok_or(Refusal::ForeignVersion)?;
-        require(version == VERSION, Refusal::ForeignVersion)?;
-        let (&kind, arguments) = body.split_first().ok_or(Refusal::UnknownKind)?;
+        let (&kind, arguments) = body(bytes)?.split_first().ok_or(Refusal::UnknownKind)?;
         require((1..=KINDS).contains(&kind.into()), Refusal::UnknownKind)?;
         Call::from_arguments(kind, arguments).ok_or(Refusal::WrongLength)
     }
@@ -690,6 +700,9 @@ pub enum Refusal {
 }
 
 impl Refusal {
+    /// The last number of the table, whose first is 1.
+    pub const LAST: u8 = Refusal::TooManyFrames as u8;
+
     pub fn number(self) -> u8 {
         self as u8
     }

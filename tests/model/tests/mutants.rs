@@ -6,11 +6,12 @@ use ::model::clean::Clean;
 use ::model::compare::compare;
 use ::model::flat::Demand3;
 use ::model::gen::{self, Moves, Rng};
-use ::model::kernel::{packed, Kernel, Modelled};
+use ::model::kernel::{packed, Kernel, Modelled, Stations};
 use ::model::model::{
     self, frame_bytes, Answer, Call, Lent, Page, PageCopy, Reached, Reader, Tables, ENTRIES, FRAME,
     NO_FRAME, NO_HOLDER, RAW, RECORD, REGISTER, REGISTERED, SLIP, STATIONS,
 };
+use ::model::stations::{Sent, Told};
 
 /// One message answered by the model, to be spoiled.
 struct Turn<'a> {
@@ -46,6 +47,17 @@ enum Flaw {
 }
 
 struct Mutant(Flaw);
+
+/// The wrong writers and readers of replies stand in tests/stations.rs.
+impl Stations for Mutant {
+    fn write(&self, sent: &Sent, out: &mut [u8]) -> Result<usize, u8> {
+        Modelled.write(sent, out)
+    }
+
+    fn read_reply(&self, kind: u8, reply: &[u8]) -> Result<Told, u8> {
+        Modelled.read_reply(kind, reply)
+    }
+}
 
 impl Kernel for Mutant {
     fn fresh(&self, fast: u8, slow: u8, tables: &mut [u8]) -> u8 {

@@ -6,7 +6,7 @@ use crate::lines;
 use crate::looks::{Reply, Watched};
 use crate::options::{help, Command, Shift, STANDARD};
 use crate::record::Record;
-use crate::run::{each_message, each_turn, name_of, no_tables, open, Outcome};
+use crate::run::{each_message, each_turn, name_of, no_tables, open, tell, Outcome};
 use crate::{view, words};
 use kernel::Unit;
 use std::ffi::OsStr;
@@ -81,20 +81,37 @@ fn is_same_file(one: &OsStr, other: &OsStr) -> bool {
 }
 
 fn write(path: &OsStr, out: &OsStr) -> Result<(), Failure> {
+    let (file, notes) = call_file(path)?;
+    put(out, path, &file)?;
+    // After the file, since nothing is written if a later line stands for nothing.
+    tell(path, &notes);
+    Ok(())
+}
+
+/// The call file of the lines at this place, with a note on each call that the writer refuses.
+fn call_file(path: &OsStr) -> Result<(Vec<u8>, Vec<String>), Failure> {
     let (input, _) = open(path)?;
     let mut input = BufReader::new(input);
-    let (mut file, mut line, mut number) = (Vec::new(), Vec::new(), 0);
+    let (mut file, mut notes) = (Vec::new(), Vec::new());
+    let (mut line, mut number) = (Vec::new(), 0);
     let name = name_of(path);
     loop {
         line.clear();
         let length = input.read_until(b'\n', &mut line);
         if length.map_err(|error| Failure::at(&name, error))? == 0 {
-            return put(out, path, &file);
+            return Ok((file, notes));
         }
         number += 1;
         let wrong = |error| Failure::line(format!("{name}: line {number}: {error}"));
         let text = std::str::from_utf8(&line).map_err(|_| wrong("not a line of text".into()))?;
-        file.extend(lines::bytes(text).map_err(wrong)?);
+        let written = lines::written(text).map_err(wrong)?;
+        if let Some(refused) = written.refused {
+            let word = words::word(refused);
+            notes.push(format!(
+                "line {number}: the writer refuses this call, {refused} {word}; written all the same"
+            ));
+        }
+        file.extend(written.bytes);
     }
 }
 
@@ -111,7 +128,7 @@ fn show(shift: &Shift) -> Result<Outcome, Failure> {
     let mut unit = unit.map_err(|number| no_tables(shift, number))?;
     to_standard(|out| {
         each_turn(shift, true, |turn, message| {
-            let reply = Reply::from(unit.answer(message));
+            let reply = Reply::to(message, unit.answer(message));
             writeln!(out, "{}", numbered(turn, message, &reply, shift.fast))?;
             Ok(reply.number)
         })

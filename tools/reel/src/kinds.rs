@@ -171,6 +171,11 @@ pub fn number_of(kind: &Kind) -> u8 {
     before.count() as u8 + 1
 }
 
+/// The kind byte of a message; 0, which is no kind, where it ends before.
+pub fn kind_byte(message: &[u8]) -> u8 {
+    message.get(3).copied().unwrap_or(0)
+}
+
 /// A message of a known kind and of a length that the kind has.
 pub struct Call<'a> {
     pub kind: &'static Kind,
@@ -207,6 +212,7 @@ impl<'a> Call<'a> {
 #[cfg(test)]
 mod tests {
     use super::{number_of, Argument, Call, KINDS};
+    use kernel::MESSAGE;
 
     #[test]
     fn a_message_and_its_arguments() {
@@ -232,6 +238,22 @@ mod tests {
         for message in broken {
             assert!(Call::parse(message).is_none(), "{message:?}");
         }
+    }
+
+    #[test]
+    fn the_kernels_writer_has_the_same_kinds() {
+        let arguments = [1, 2, 1, 1];
+        let mut out = [0; MESSAGE];
+        for kind in &KINDS {
+            let bytes = &[0x41, 0x37][..kind.bytes().1.min(2)];
+            let length = kernel::write(number_of(kind), arguments, bytes, &mut out).unwrap();
+            let call = Call::parse(&out[..length]).unwrap();
+            assert_eq!(call.kind.word, kind.word);
+            assert_eq!(call.arguments, &arguments[..kind.arguments.len()]);
+            assert_eq!(call.bytes, bytes);
+        }
+        let next = KINDS.len() as u8 + 1;
+        assert_eq!(kernel::write(next, arguments, &[], &mut out), Err(3));
     }
 
     #[test]

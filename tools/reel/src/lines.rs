@@ -2,55 +2,96 @@
 
 use crate::kinds::{number_of, Call, Kind, KINDS, VERSION};
 use crate::words::hex;
+use kernel::MESSAGE;
 
 /// The word of a line whose bytes are laid as they are.
 const RAW: &str = "raw";
+/// So many bytes behind version, kind and four arguments go into any message: its length has two.
+const MOST_BYTES: usize = 65535 - 6;
 
-/// The bytes that a line stands for; an error names the word that is wrong.
-pub fn bytes(line: &str) -> Result<Vec<u8>, String> {
+/// What a line stands for.
+#[derive(Debug, Default, PartialEq, Eq)]
+pub struct Written {
+    pub bytes: Vec<u8>,
+    /// The number with which the kernel's writer refuses the call.
+    pub refused: Option<u8>,
+}
+
+/// What a line stands for; an error names the word that is wrong.
+pub fn written(line: &str) -> Result<Written, String> {
     let line = line.split('#').next().unwrap_or_default();
     let words: Vec<&str> = line.split_whitespace().collect();
     let Some((&name, rest)) = words.split_first() else {
-        return Ok(Vec::new());
+        return Ok(Written::default());
     };
     if name == RAW {
-        return rest.iter().map(|word| hexadecimal(word)).collect();
+        return Ok(Written {
+            bytes: bytes_of(rest)?,
+            refused: None,
+        });
     }
     let kind = KINDS.iter().find(|kind| kind.word == name);
-    message(kind.ok_or_else(|| format!("unknown word: {name}"))?, rest)
+    let kind = kind.ok_or_else(|| format!("unknown word: {name}"))?;
+    let (arguments, bytes) = parts(kind, rest)?;
+    Ok(message(kind, &arguments, &bytes))
 }
 
-/// The message of this kind with these words as its arguments and bytes.
-fn message(kind: &Kind, words: &[&str]) -> Result<Vec<u8>, String> {
-    let mut body = vec![VERSION, number_of(kind)];
+/// The bytes alone that a line stands for.
+pub fn bytes(line: &str) -> Result<Vec<u8>, String> {
+    written(line).map(|written| written.bytes)
+}
+
+/// The arguments and the bytes of this kind that the words name.
+fn parts(kind: &Kind, words: &[&str]) -> Result<(Vec<u8>, Vec<u8>), String> {
+    let mut arguments = Vec::new();
     let mut words = words.iter();
     for argument in kind.arguments {
         let name = argument.name();
         let word = words.next();
         let word = word.ok_or_else(|| format!("{}: the {name} is missing", kind.word))?;
-        body.push(decimal(word, name)?);
+        arguments.push(decimal(word, name)?);
     }
     let rest = words.as_slice();
     if let (false, [word, ..]) = (kind.has_bytes(), rest) {
         return Err(format!("{}: one word too many: {word}", kind.word));
     }
-    if !kind.admits(rest.len()) {
-        return Err(format!(
-            "{} takes 1 to 64 bytes, not {}",
-            kind.word,
-            rest.len()
-        ));
+    if rest.len() > MOST_BYTES {
+        let (word, count) = (kind.word, rest.len());
+        return Err(format!("{word}: {count} bytes are more than a message has"));
     }
-    for word in rest {
-        body.push(hexadecimal(word)?);
+    Ok((arguments, bytes_of(rest)?))
+}
+
+/// The message of a call by the kernel's writer. One that it refuses is put together all the same:
+/// wrong calls are wanted too, to see them answered.
+fn message(kind: &Kind, arguments: &[u8], bytes: &[u8]) -> Written {
+    let mut four = [0; 4];
+    four[..arguments.len()].copy_from_slice(arguments);
+    let mut out = [0; MESSAGE];
+    let length = kernel::write(number_of(kind), four, bytes, &mut out);
+    Written {
+        bytes: match length {
+            Ok(length) => out[..length].to_vec(),
+            Err(_) => put_together(kind, arguments, bytes),
+        },
+        refused: length.err(),
     }
-    Ok([&(body.len() as u16).to_be_bytes()[..], &body].concat())
+}
+
+/// A message of these arguments and bytes, whatever they are.
+fn put_together(kind: &Kind, arguments: &[u8], bytes: &[u8]) -> Vec<u8> {
+    let body = [&[VERSION, number_of(kind)], arguments, bytes].concat();
+    [&(body.len() as u16).to_be_bytes()[..], &body].concat()
 }
 
 fn decimal(word: &str, name: &str) -> Result<u8, String> {
     let is_plain = word.bytes().all(|letter| letter.is_ascii_digit());
     let number = word.parse().ok().filter(|_| is_plain);
     number.ok_or_else(|| format!("{name}: not a number 0 to 255: {word}"))
+}
+
+fn bytes_of(words: &[&str]) -> Result<Vec<u8>, String> {
+    words.iter().map(|word| hexadecimal(word)).collect()
 }
 
 fn hexadecimal(word: &str) -> Result<u8, String> {
@@ -72,7 +113,7 @@ pub fn line(message: &[u8]) -> String {
 
 #[cfg(test)]
 mod tests {
-    use super::{bytes, line};
+    use super::{bytes, line, written};
 
     #[test]
     fn lines_and_their_messages() {
@@ -94,8 +135,47 @@ mod tests {
     }
 
     #[test]
+    fn calls_that_the_writer_refuses_are_written_all_the_same() {
+        let longest = format!("write 3 5 0{}", " 00".repeat(65));
+        let message = [&[0, 70, 1, 5, 3, 5, 0][..], &[0; 65]].concat();
+        let pairs: [(&str, &[u8]); 10] = [
+            ("create 16 5", &[0, 4, 1, 1, 16, 5]),
+            ("look-page 64", &[0, 3, 1, 10, 64]),
+            ("grant 3 5 16 1", &[0, 6, 1, 3, 3, 5, 16, 1]),
+            ("grant 3 5 4 3", &[0, 6, 1, 3, 3, 5, 4, 3]),
+            ("read 3 5 0 0", &[0, 6, 1, 4, 3, 5, 0, 0]),
+            ("read 3 5 63 2", &[0, 6, 1, 4, 3, 5, 63, 2]),
+            ("write 3 5 64 41", &[0, 6, 1, 5, 3, 5, 64, 0x41]),
+            ("look-frame 254", &[0, 3, 1, 11, 254]),
+            ("write 3 5 0", &[0, 5, 1, 5, 3, 5, 0]),
+            (&longest, &message),
+        ];
+        for (words, message) in pairs {
+            let written = written(words).unwrap();
+            assert_eq!(written.bytes, message);
+            assert_eq!(written.refused, Some(7), "{words}");
+        }
+    }
+
+    #[test]
+    fn calls_at_the_ends_of_the_ranges_are_not_refused() {
+        let longest = format!("write 15 63 0{}", " FF".repeat(64));
+        for words in [
+            "grant 15 63 15 2",
+            "read 15 63 63 1",
+            "copy 63 255 253",
+            "look-frame 253",
+            &longest,
+            "raw 00 03 01 0B FE",
+            "",
+        ] {
+            assert_eq!(written(words).unwrap().refused, None, "{words}");
+        }
+    }
+
+    #[test]
     fn lines_that_stand_for_nothing() {
-        let write = format!("write 3 5 0{}", " 00".repeat(65));
+        let write = format!("write 3 5 0{}", " 00".repeat(65_530));
         let pairs = [
             ("turn 3", "turn"),
             ("create 3", "page"),
@@ -105,8 +185,7 @@ mod tests {
             ("look-page +5", "+5"),
             ("write 3 5 0 4G", "4G"),
             ("write 3 5 0 +4", "+4"),
-            ("write 3 5 0", "not 0"),
-            (&write, "not 65"),
+            (&write, "65530"),
             ("raw 100", "100"),
         ];
         for (words, named) in pairs {

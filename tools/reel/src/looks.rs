@@ -1,10 +1,12 @@
 //! The kernel fed message by message, and the pages as its own looks show them in between.
 
-use crate::kinds::{Argument, Call, VERSION};
-use kernel::{Answer, Unit};
+use crate::kinds::{kind_byte, Argument, Call};
+use kernel::{Answer, Unit, MESSAGE};
 
 pub const PAGES: usize = 64;
 
+/// The reader's refusal of a kind that it does not know.
+const UNKNOWN_KIND: u8 = 3;
 const LOOK_AT_PAGE: u8 = 10;
 /// The frame of a null copy in a look.
 pub const NO_FRAME: u8 = 255;
@@ -65,12 +67,22 @@ pub struct Reply {
     pub data: Vec<u8>,
 }
 
-impl From<Answer<'_>> for Reply {
-    fn from(answer: Answer) -> Reply {
-        Reply {
-            number: answer.number,
-            laid: answer.laid,
-            data: answer.data().to_vec(),
+impl Reply {
+    /// The reply to a message, as the kernel's reader takes it apart. It refuses one alone, 3: that to
+    /// a message without a kind that it knows, which was turned back, and the answer has the number.
+    pub fn to(message: &[u8], answer: Answer) -> Reply {
+        match kernel::read_reply(kind_byte(message), answer.reply) {
+            Ok(told) => Reply {
+                number: told.number,
+                laid: told.laid,
+                data: told.data(answer.reply).to_vec(),
+            },
+            Err(UNKNOWN_KIND) => Reply {
+                number: answer.number,
+                laid: answer.laid,
+                data: Vec::new(),
+            },
+            Err(number) => unreachable!("a reply of the kernel is refused {number}"),
         }
     }
 }
@@ -111,12 +123,16 @@ impl Watched {
 
     /// Answers the next message of the file, then looks at the pages that it may have changed.
     pub fn feed(&mut self, message: &[u8]) -> Reply {
-        let reply = Reply::from(self.unit.answer(message));
+        let reply = self.answer(message);
         self.changed = match reply.number {
             0 => self.look_after(message),
             _ => Vec::new(),
         };
         reply
+    }
+
+    fn answer(&mut self, message: &[u8]) -> Reply {
+        Reply::to(message, self.unit.answer(message))
     }
 
     /// Looks where an accepted message may have changed something: at the page it names, or at
@@ -135,17 +151,22 @@ impl Watched {
 
     /// Looks at a page; whether it shows other copies or marks than before.
     fn look(&mut self, page: u8) -> bool {
-        let answer = self.unit.answer(&[0, 3, VERSION, LOOK_AT_PAGE, page]);
-        let copies = match answer.number {
-            0 => copies_of(answer.data()),
-            _ => Vec::new(),
-        };
+        let copies = self.shown(page);
         let Some(seen) = self.pages.get_mut(usize::from(page)) else {
             return false;
         };
         let is_changed = *seen != copies;
         *seen = copies;
         is_changed
+    }
+
+    /// The copies that a look at a page shows; none where it is refused.
+    fn shown(&mut self, page: u8) -> Vec<PageCopy> {
+        let mut message = [0; MESSAGE];
+        match kernel::write(LOOK_AT_PAGE, [page, 0, 0, 0], &[], &mut message) {
+            Ok(length) => copies_of(&self.answer(&message[..length]).data),
+            Err(_) => Vec::new(),
+        }
     }
 }
 
@@ -170,6 +191,28 @@ mod tests {
         ];
         for (message, pages, copies) in steps {
             assert_eq!(changed(message), (pages, copies), "{message:?}");
+        }
+    }
+
+    #[test]
+    fn replies_to_calls_and_to_broken_messages() {
+        let mut watched = Watched::fresh(1, 1).unwrap();
+        let turns: [(&[u8], u8, u16, &[u8]); 10] = [
+            (&[0, 4, 1, 1, 3, 5], 0, 0, &[]),
+            (&[0, 5, 1, 6, 5, 0, 1], 0, 64, &[]),
+            (&[0, 3, 1, 10, 5], 0, 0, &[1, 1, 0, 1]),
+            (&[0, 3, 1, 11, 1], 0, 0, &[1, 5, 0]),
+            (&[0, 4, 1, 1, 3, 5], 8, 0, &[]),
+            (&[0, 3, 1, 1, 3], 4, 0, &[]),
+            (&[0, 2, 1, 0], 3, 0, &[]),
+            (&[0, 1, 1], 3, 0, &[]),
+            (&[0, 2, 2, 99], 2, 0, &[]),
+            (&[0], 1, 0, &[]),
+        ];
+        for (message, number, laid, data) in turns {
+            let reply = watched.feed(message);
+            let told = (reply.number, reply.laid, &reply.data[..]);
+            assert_eq!(told, (number, laid, data), "{message:?}");
         }
     }
 }

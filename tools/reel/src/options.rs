@@ -29,7 +29,8 @@ Exit status: 0 done; 1 with --strict, the file was read and a message was refuse
 a file that cannot be read or written.
 
 A line of words is one of these, with decimal numbers 0 to 255; BYTES are hexadecimal, two digits
-each. What follows a `#` is a comment.
+each. What follows a `#` is a comment. A call that the kernel's writer refuses, as one with a number
+out of range, is written all the same, with a warning on standard error.
 ";
 
 /// All that `reel --help` says.

@@ -5,7 +5,7 @@ use crate::kinds::{Argument, Call};
 use crate::options::{Shift, STANDARD};
 use crate::progress::Progress;
 use crate::reader::{missing, Messages};
-use crate::words::{counted, WORDS};
+use crate::words::{counted, word};
 use std::ffi::OsStr;
 use std::fs::File;
 use std::io::{self, BufReader, Read, Write};
@@ -63,12 +63,17 @@ impl Outcome {
         }
     }
 
-    /// Tells the notes about this file on standard error.
+    /// Tells the notes about this file.
     pub fn tell_notes(&self, path: &OsStr) {
-        for note in &self.notes {
-            // A note that cannot be told is no reason to stop.
-            let _ = writeln!(io::stderr(), "reel: {}: {note}", name_of(path));
-        }
+        tell(path, &self.notes);
+    }
+}
+
+/// Tells notes about a file on standard error.
+pub fn tell(path: &OsStr, notes: &[String]) {
+    for note in notes {
+        // A note that cannot be told is no reason to stop.
+        let _ = writeln!(io::stderr(), "reel: {}: {note}", name_of(path));
     }
 }
 
@@ -122,8 +127,7 @@ fn names_frame_outside(shift: &Shift, message: &[u8]) -> bool {
 
 /// The line for fresh tables that the kernel refuses.
 pub fn no_tables(shift: &Shift, number: u8) -> Failure {
-    let word = WORDS.get(usize::from(number)).unwrap_or(&"unknown number");
-    let (fast, slow) = (shift.fast, shift.slow);
+    let (fast, slow, word) = (shift.fast, shift.slow, word(number));
     Failure::line(format!(
         "tables of {fast} fast and {slow} slow frames: refused, {number} {word}"
     ))

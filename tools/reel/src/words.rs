@@ -27,6 +27,14 @@ pub const WORDS: [&str; 20] = [
     "too many frames",
 ];
 
+/// The word of a number.
+pub fn word(number: u8) -> &'static str {
+    WORDS
+        .get(usize::from(number))
+        .copied()
+        .unwrap_or("unknown number")
+}
+
 /// Bytes in hexadecimal, two digits each.
 pub fn hex(bytes: &[u8]) -> String {
     let digits: Vec<String> = bytes.iter().map(|byte| format!("{byte:02X}")).collect();
@@ -69,8 +77,7 @@ fn sentence(call: &Call) -> String {
 /// The reply to a message in words: its number, and what else it tells. `fast`, here and below, is
 /// the number of fast frames.
 pub fn reply(message: &[u8], reply: &Reply, fast: u8) -> String {
-    let number = usize::from(reply.number);
-    let word = WORDS.get(number).unwrap_or(&"unknown number");
+    let (number, word) = (reply.number, word(reply.number));
     if number > 0 {
         return format!("refused, {number} {word}");
     }

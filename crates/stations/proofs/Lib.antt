@@ -1,0 +1,3 @@
+pub mod WriterLaws
+pub mod FrontLaws
+pub mod ReaderLaws

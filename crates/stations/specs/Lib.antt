@@ -1,0 +1,4 @@
+pub mod Writer
+pub mod Reader
+pub mod Promises
+pub mod Private

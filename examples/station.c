@@ -1,0 +1,116 @@
+/*
+ * A station's side of the worked example of document 01: each call is written, answered by a unit, and its reply read. Then
+ * what writer and reader refuse. After `bash tools/build`:
+ *
+ *   gcc -std=c99 -I target/reel examples/station.c target/reel/libreel.a -o target/station && target/station
+ */
+#include <reel.h>
+
+#include <stdio.h>
+#include <stdlib.h>
+#include <string.h>
+
+enum { P = 4, S = 4, FILLER = 0xA5 };
+
+/* The unit. A real station has none of this: its bus takes the message there and brings the reply. */
+static uint8_t tables[REEL_TABLES_SIZE], fast[REEL_FRAME_SIZE * P], slow[REEL_FRAME_SIZE * S];
+
+/* All that a station needs. */
+static uint8_t message[REEL_MESSAGE_SIZE], reply[REEL_REPLY_SIZE];
+
+static void expect(int holds, const char *what) {
+  if (!holds) {
+    printf("FAILED: %s\n", what);
+    exit(1);
+  }
+}
+
+/* Sends the call of this kind that was written, and reads the reply. */
+static uint64_t sent(uint8_t kind, uint32_t written) {
+  expect(reel_written_number(written) == REEL_ACCEPTED, reel_word(reel_written_number(written)));
+  reel_answer(tables, sizeof tables, fast, sizeof fast, slow, sizeof slow, message, reel_written_length(written), reply,
+              sizeof reply);
+  return reel_read_reply(kind, reply, sizeof reply);
+}
+
+/* Whether the reply has these data. */
+static int has_data(uint64_t told, const uint8_t *due, size_t length) {
+  return reel_reply_length(told) == length && memcmp(reel_reply_data(told, reply), due, length) == 0;
+}
+
+static void worked_example(void) {
+  static const uint8_t two_bytes[] = {0x41, 0x37}, three_bytes[] = {0x41, 0x37, 0};
+  static const uint8_t one_copy[] = {1, 0, 1, 1}; /* n, then its frame, CURRENT and MOST RECENT */
+  uint64_t told;
+
+  /* station 3, page 5 */
+  told = sent(REEL_KIND_CREATE, reel_write_create(3, 5, message, sizeof message));
+  expect(reel_reply_accepted(told), "created");
+
+  /* page 5, copy 0, to frame 0 */
+  told = sent(REEL_KIND_MAKE_COPY, reel_write_make_copy(5, 0, 0, message, sizeof message));
+  expect(reel_reply_accepted(told) && reel_reply_laid(told) == 64, "64 laid");
+
+  /* page 5, copy 0 */
+  told = sent(REEL_KIND_SET_CURRENT, reel_write_set_current(5, 0, message, sizeof message));
+  expect(reel_reply_accepted(told), "current");
+
+  /* station 3, page 5, offset 0, two bytes */
+  told = sent(REEL_KIND_WRITE, reel_write_write(3, 5, 0, two_bytes, sizeof two_bytes, message, sizeof message));
+  expect(reel_reply_accepted(told) && reel_reply_laid(told) == 2, "2 laid");
+
+  /* station 3, page 5, offset 0, count 3 */
+  told = sent(REEL_KIND_READ, reel_write_read(3, 5, 0, 3, message, sizeof message));
+  expect(reel_reply_accepted(told) && has_data(told, three_bytes, sizeof three_bytes), "three bytes");
+
+  /* page 5 */
+  told = sent(REEL_KIND_LOOK_PAGE, reel_write_look_page(5, message, sizeof message));
+  expect(reel_reply_accepted(told) && has_data(told, one_copy, sizeof one_copy), "one copy on frame 0");
+
+  /* Page 5 stands: the reply is read, and tells why the unit turned the message back. */
+  told = sent(REEL_KIND_CREATE, reel_write_create(3, 5, message, sizeof message));
+  expect(reel_reply_refused(told) == REEL_ACCEPTED && reel_reply_number(told) == REEL_PAGE_STANDS, "created again");
+  printf("calls: six accepted and one refused, each written, answered and its reply read\n");
+}
+
+/* Refused, the writer writes nothing. */
+static void writer_refuses(void) {
+  static const uint8_t bytes[REEL_FRAME_SIZE + 1] = {0};
+  size_t room = sizeof message, i;
+  memset(message, FILLER, room);
+  expect(reel_write_look_page(5, message, room - 1) == REEL_SHORT_SLIP, "70 bytes, also for a message of five");
+  expect(reel_write(12, 5, 0, 0, 0, bytes, 0, message, room) == REEL_UNKNOWN_KIND, "kind 12");
+  expect(reel_write_read(3, 5, 63, 2, message, room) == REEL_OUT_OF_RANGE, "offset 63 with count 2");
+  expect(reel_write_look_frame(254, message, room) == REEL_OUT_OF_RANGE, "frame 254, which no unit has");
+  expect(reel_write_write(3, 5, 0, bytes, 0, message, room) == REEL_OUT_OF_RANGE, "a write of no byte");
+  expect(reel_write_write(3, 5, 0, bytes, 65, message, room) == REEL_OUT_OF_RANGE, "a write of 65 bytes");
+  for (i = 0; i < room; i++) expect(message[i] == FILLER, "nothing is written");
+  printf("writer: each refusal with its number, and nothing written\n");
+}
+
+/* The reader's own refusal is not the number that a reply carries. */
+static void reader_refuses(void) {
+  static const uint8_t accepted[] = {0, 4, 1, REEL_ACCEPTED, 0, 0}, refused[] = {0, 4, 1, REEL_CUT_SHORT, 0, 0};
+  static const uint8_t foreign[] = {0, 4, 2, REEL_ACCEPTED, 0, 0};
+  uint64_t told;
+  expect(reel_read_reply(REEL_KIND_CREATE, accepted, 5) == REEL_CUT_SHORT, "a byte is missing");
+  expect(reel_read_reply(REEL_KIND_CREATE, foreign, sizeof foreign) == REEL_FOREIGN_VERSION, "version 2");
+  expect(reel_read_reply(12, accepted, sizeof accepted) == REEL_UNKNOWN_KIND, "kind 12");
+  expect(reel_read_reply(REEL_KIND_READ, accepted, sizeof accepted) == REEL_WRONG_LENGTH, "an accepted read without data");
+
+  told = reel_read_reply(REEL_KIND_CREATE, refused, sizeof refused - 1);
+  expect(reel_reply_refused(told) == REEL_CUT_SHORT && !reel_reply_accepted(told), "the reply is cut short");
+  told = reel_read_reply(REEL_KIND_CREATE, refused, sizeof refused);
+  expect(reel_reply_refused(told) == REEL_ACCEPTED, "the reply is read");
+  expect(reel_reply_number(told) == REEL_CUT_SHORT && !reel_reply_accepted(told), "it says that the message was cut short");
+  printf("reader: each refusal with its number, told apart from a reply that carries it\n");
+}
+
+int main(void) {
+  expect(reel_version() == REEL_VERSION, "header and library are of one version");
+  expect(reel_fresh(P, S, tables, sizeof tables) == REEL_ACCEPTED, "fresh tables");
+  worked_example();
+  writer_refuses();
+  reader_refuses();
+  return 0;
+}
