@@ -292,7 +292,7 @@ module _ (room kind : ℕ) (r bs : List ℕ) where
       as-known h e ∙ rw (o, message-of k r bs o n) (ap (λ (x : ℕ). accept (laidMessage x (leastLength k) (mostLength k) r bs)) (number-kind kind e))
 
 -- a message has 71 bytes at the most
-pub laid-short : (room kind : ℕ) (r bs : List ℕ) → 4 ≤ length r → length (messageIn (writtenAs room kind r bs)) ≤ 71
+laid-short : (room kind : ℕ) (r bs : List ℕ) → 4 ≤ length r → length (messageIn (writtenAs room kind r bs)) ≤ 71
 laid-short room kind r bs h = go (ltb room 71) refl (isUnknown kind) refl (outside 254 (length bs) (callOf (kindOf kind) r)) refl
   where
     go : (a : Bool) → ltb room 71 ≡ a → (b : Bool) → isUnknown kind ≡ b → (c : Bool) → outside 254 (length bs) (callOf (kindOf kind) r) ≡ c
@@ -357,3 +357,8 @@ wrote-accepted o m out out′ len e l p = rw e (record { number-told = refl; len
 
 pub wrote-same : {o o′ : Outcome (List ℕ)} {out out′ : List ℕ} {r : Written} → o ≡ o′ → Wrote o out out′ r → Wrote o′ out out′ r
 wrote-same {out = out} {out′ = out′} {r = r} e w = subst (λ (x : Outcome (List ℕ)). Wrote x out out′ r) e w
+
+-- its message has 71 bytes at the most
+pub wrote-short : (room kind : ℕ) (r bs : List ℕ) {out out′ : List ℕ} {w : Written} → Wrote (writtenAs room kind r bs) out out′ w → 4 ≤ length r
+    → w .len ≤ 71
+wrote-short room kind r bs x h = omega (arith, x .len-told, laid-short room kind r bs h)

@@ -1,8 +1,6 @@
 -- `reel_write` meets its contract: a message has 71 bytes at the most.
-use mathlib.Core.List.{[], _∷_}
 use native.Mathlib.Omega.{arith}
-use lib.ListN.{length}
-use Rattle.stations.proofs.WriterLaws.{laid-short}
+use Rattle.stations.proofs.WriterLaws.{wrote-short}
 use borrow.Author.Needs.{needs}
 use Rattle.embed.proofs.reel_write.Statement.{statement}
 use Rattle.embed.proofs.reel_write.Tie as tie
@@ -11,10 +9,7 @@ write-kind-requires : tie.Need-write-kind-requires
 write-kind-requires c κs = search needs
 
 packed-requires : tie.Need-packed-requires
-packed-requires c κs =
-    let w = c .before .before in
-    let a = w .before .before .before .before .args in
-    omega (arith, w .write-kind .ensures .len-told, laid-short (length (a .out .now)) (a .kind) (a .first ∷ a .second ∷ a .third ∷ a .fourth ∷ []) (a .bytes .now) (omega arith))
+packed-requires c κs = omega (arith, wrote-short _ _ _ _ (c .before .before .write-kind .ensures) (omega arith))
 
 same-length : tie.Need-same-length
 same-length c = search needs
