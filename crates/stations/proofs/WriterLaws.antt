@@ -1,6 +1,6 @@
 -- The writer. In order: the lengths of a kind's messages; its arguments, and where they stand; a message as the code lays it; what a call comes
 -- to; what the writer leaves.
-use Prim.Native.Nat.{ℕ, zero, suc, _+_, _-_, _/_, _%_, _≤_, _<_, zero-le}
+use Prim.Native.Nat.{ℕ, zero, suc, _+_, _-_, _/_, _%_, _≤_, _<_}
 use mathlib.Core.Path.{_≡_, refl, sym, ap, subst, _∙_}
 use mathlib.Core.Bool.{Bool, true, false, _&&_, cond, false≢true}
 use mathlib.Core.List.{List, [], _∷_, _++_, append-assoc, append-nil}
@@ -297,9 +297,9 @@ laid-short room kind r bs h = go (ltb room 71) refl (isUnknown kind) refl (outsi
   where
     go : (a : Bool) → ltb room 71 ≡ a → (b : Bool) → isUnknown kind ≡ b → (c : Bool) → outside 254 (length bs) (callOf (kindOf kind) r) ≡ c
         → length (messageIn (writtenAs room kind r bs)) ≤ 71
-    go true e b f c g = subst (λ (o : Outcome (List ℕ)). length (messageIn o) ≤ 71) (sym (as-short room kind r bs (ltb-true room 71 e))) zero-le
-    go false e true f c g = subst (λ (o : Outcome (List ℕ)). length (messageIn o) ≤ 71) (sym (as-unknown room kind r bs (ltb-false room 71 e) f)) zero-le
-    go false e false f true g = subst (λ (o : Outcome (List ℕ)). length (messageIn o) ≤ 71) (sym (as-outside room kind r bs (ltb-false room 71 e) f g)) zero-le
+    go true e b f c g = subst (λ (o : Outcome (List ℕ)). length (messageIn o) ≤ 71) (sym (as-short room kind r bs (ltb-true room 71 e))) (omega arith)
+    go false e true f c g = subst (λ (o : Outcome (List ℕ)). length (messageIn o) ≤ 71) (sym (as-unknown room kind r bs (ltb-false room 71 e) f)) (omega arith)
+    go false e false f true g = subst (λ (o : Outcome (List ℕ)). length (messageIn o) ≤ 71) (sym (as-outside room kind r bs (ltb-false room 71 e) f g)) (omega arith)
     go false e false f false g =
         let few = few-singles (kindOf kind) in
         let short = room-for (kindOf kind) r bs (replicate 71 0) g (omega arith) .short in
