@@ -1,6 +1,6 @@
 /*
  * A station's side of the worked example of document 01: each call is written, answered by a unit, and its reply read. Then
- * what writer and reader refuse. After `bash tools/build`:
+ * a frame is retired, and what writer and reader refuse. After `bash tools/build`:
  *
  *   gcc -std=c99 -I target/reel examples/station.c target/reel/libreel.a -o target/station && target/station
  */
@@ -73,15 +73,31 @@ static void worked_example(void) {
   printf("calls: six accepted and one refused, each written, answered and its reply read\n");
 }
 
+/* Frame 5 is retired: the reply has no data, a look shows the frame as retired, and no copy is made there. */
+static void retired_frame(void) {
+  static const uint8_t shown[] = {2, 255, 255};
+  uint64_t told = sent(REEL_KIND_RETIRE, reel_write_retire(5, message, sizeof message));
+  expect(reel_reply_accepted(told) && reel_reply_laid(told) == 0 && reel_reply_length(told) == 0, "retired");
+
+  told = sent(REEL_KIND_LOOK_FRAME, reel_write_look_frame(5, message, sizeof message));
+  expect(reel_reply_accepted(told) && has_data(told, shown, sizeof shown), "shown as retired");
+
+  /* page 5, copy 0, to frame 5 */
+  told = sent(REEL_KIND_MAKE_COPY, reel_write_make_copy(5, 0, 5, message, sizeof message));
+  expect(reel_reply_refused(told) == REEL_ACCEPTED && reel_reply_number(told) == REEL_RETIRED, "no copy on it");
+  printf("retired: a frame retired and looked at, and a copy to it refused\n");
+}
+
 /* Refused, the writer writes nothing. */
 static void writer_refuses(void) {
   static const uint8_t bytes[REEL_FRAME_SIZE + 1] = {0};
   size_t room = sizeof message, i;
   memset(message, FILLER, room);
   expect(reel_write_look_page(5, message, room - 1) == REEL_SHORT_SLIP, "70 bytes, also for a message of five");
-  expect(reel_write(12, 5, 0, 0, 0, bytes, 0, message, room) == REEL_UNKNOWN_KIND, "kind 12");
+  expect(reel_write(13, 5, 0, 0, 0, bytes, 0, message, room) == REEL_UNKNOWN_KIND, "kind 13");
   expect(reel_write_read(3, 5, 63, 2, message, room) == REEL_OUT_OF_RANGE, "offset 63 with count 2");
   expect(reel_write_look_frame(254, message, room) == REEL_OUT_OF_RANGE, "frame 254, which no unit has");
+  expect(reel_write_retire(254, message, room) == REEL_OUT_OF_RANGE, "frame 254 retired");
   expect(reel_write_write(3, 5, 0, bytes, 0, message, room) == REEL_OUT_OF_RANGE, "a write of no byte");
   expect(reel_write_write(3, 5, 0, bytes, 65, message, room) == REEL_OUT_OF_RANGE, "a write of 65 bytes");
   for (i = 0; i < room; i++) expect(message[i] == FILLER, "nothing is written");
@@ -92,11 +108,15 @@ static void writer_refuses(void) {
 static void reader_refuses(void) {
   static const uint8_t accepted[] = {0, 4, 1, REEL_ACCEPTED, 0, 0}, refused[] = {0, 4, 1, REEL_CUT_SHORT, 0, 0};
   static const uint8_t foreign[] = {0, 4, 2, REEL_ACCEPTED, 0, 0};
+  static const uint8_t unlisted[] = {0, 4, 1, REEL_RETIRED + 1, 0, 0};
+  static const uint8_t data[] = {0, 7, 1, REEL_ACCEPTED, 0, 0, 2, 255, 255};
   uint64_t told;
   expect(reel_read_reply(REEL_KIND_CREATE, accepted, 5) == REEL_CUT_SHORT, "a byte is missing");
   expect(reel_read_reply(REEL_KIND_CREATE, foreign, sizeof foreign) == REEL_FOREIGN_VERSION, "version 2");
-  expect(reel_read_reply(12, accepted, sizeof accepted) == REEL_UNKNOWN_KIND, "kind 12");
+  expect(reel_read_reply(13, accepted, sizeof accepted) == REEL_UNKNOWN_KIND, "kind 13");
   expect(reel_read_reply(REEL_KIND_READ, accepted, sizeof accepted) == REEL_WRONG_LENGTH, "an accepted read without data");
+  expect(reel_read_reply(REEL_KIND_RETIRE, data, sizeof data) == REEL_WRONG_LENGTH, "an accepted retire with data");
+  expect(reel_read_reply(REEL_KIND_RETIRE, unlisted, sizeof unlisted) == REEL_WRONG_LENGTH, "number 21");
 
   told = reel_read_reply(REEL_KIND_CREATE, refused, sizeof refused - 1);
   expect(reel_reply_refused(told) == REEL_CUT_SHORT && !reel_reply_accepted(told), "the reply is cut short");
@@ -110,6 +130,7 @@ int main(void) {
   expect(reel_version() == REEL_VERSION, "header and library are of one version");
   expect(reel_fresh(P, S, tables, sizeof tables) == REEL_ACCEPTED, "fresh tables");
   worked_example();
+  retired_frame();
   writer_refuses();
   reader_refuses();
   return 0;

@@ -1,6 +1,6 @@
 /*
- * The worked example of document 01 through every function of reel.h, each reply compared, what deletes leave in the stores, and
- * what the functions answer where something is wrong. After `bash tools/build`:
+ * The worked example of document 01 through every function of reel.h, each reply compared, what deletes leave in the stores, a
+ * frame retired, and what the functions answer where something is wrong. After `bash tools/build`:
  *
  *   gcc -std=c99 -I target/reel examples/worked.c target/reel/libreel.a -o target/worked && target/worked
  */
@@ -302,6 +302,60 @@ static void wrong_register(void) {
   printf("register: a wrong register entry is answered as broken tables, and nothing changed\n");
 }
 
+/* Where the mark of a frame stands. */
+static uint8_t *mark(struct unit u, unsigned frame) { return u.tables + REEL_TABLES_RETIRED + frame; }
+
+/* A mark that breaks the tables: everything is refused, and the mark remains. */
+static void wrong_mark(struct unit u, unsigned frame, uint8_t value, const char *what) {
+  static const uint8_t look[] = {0, 3, 1, REEL_KIND_LOOK_FRAME, 5};
+  uint8_t before = *mark(u, frame);
+  *mark(u, frame) = value;
+  expect(rules(u) == REEL_BROKEN_TABLES, what);
+  expect(reel_answer_number(answer(u, look, sizeof look)) == REEL_BROKEN_TABLES, what);
+  expect(*mark(u, frame) == value, what);
+  *mark(u, frame) = before;
+  expect(rules(u) == REEL_ACCEPTED, "the mark put right");
+}
+
+/* A frame of the card is worn out: retired, it never takes a copy again. */
+static void retired(void) {
+  static const uint8_t retire[] = {0, 3, 1, REEL_KIND_RETIRE, 5}, retire_held[] = {0, 3, 1, REEL_KIND_RETIRE, 0};
+  static const uint8_t retire_none[] = {0, 3, 1, REEL_KIND_RETIRE, P + S};
+  static const uint8_t look[] = {0, 3, 1, REEL_KIND_LOOK_FRAME, 5}, shown[] = {2, 255, 255};
+  static const uint8_t make_copy[] = {0, 5, 1, REEL_KIND_MAKE_COPY, 5, 0, 5}; /* page 5, copy 0, to frame 5 */
+  static const uint8_t no_copy[] = {0, 5, 1, REEL_KIND_MAKE_COPY, 5, 1, 5};   /* page 5 has no copy 1 */
+  struct unit u = fresh_unit(REEL_REPLY_SIZE);
+  uint8_t *before = lend(u.tables_len);
+  int i;
+  run(u, calls, sizeof calls);
+  memcpy(before, u.tables, u.tables_len);
+  expect(reel_answer_number(answer(u, retire_none, sizeof retire_none)) == REEL_OUT_OF_RANGE, "the unit has no frame 8");
+  expect(reel_answer_number(answer(u, retire_held, sizeof retire_held)) == REEL_FRAME_HELD, "frame 0, which page 5 is on");
+  expect(memcmp(u.tables, before, u.tables_len) == 0, "a refused retire leaves the tables as they were");
+
+  /* The second time it is accepted too, and changes nothing. */
+  before[REEL_TABLES_RETIRED + 5] = 1;
+  for (i = 0; i < 2; i++) {
+    expect(answer(u, retire, sizeof retire) == REEL_ACCEPTED + 256 * REEL_REPLY_HEAD, "retired: nothing laid, no data");
+    expect(memcmp(u.tables, before, u.tables_len) == 0, "retired: its mark alone");
+  }
+  expect(untouched(u.slow, u.slow_len), "retired: its bytes remain");
+  expect(reel_answer_number(answer(u, look, sizeof look)) == REEL_ACCEPTED, "a look at it");
+  expect(whole(u.out) == REEL_REPLY_HEAD + sizeof shown && memcmp(u.out + REEL_REPLY_HEAD, shown, sizeof shown) == 0,
+         "a look shows it as retired");
+  expect(reel_answer_number(answer(u, no_copy, sizeof no_copy)) == REEL_NO_COPY, "no copy comes before retired");
+  expect(reel_answer_number(answer(u, make_copy, sizeof make_copy)) == REEL_RETIRED, "no copy is made on it");
+  expect(memcmp(u.tables, before, u.tables_len) == 0 && untouched(u.slow, u.slow_len), "refused: all as it was");
+
+  wrong_mark(u, 5, 2, "a mark of 2");
+  wrong_mark(u, P + S, 1, "a mark past the last frame");
+  wrong_mark(u, REEL_REGISTER_ENTRIES - 1, 1, "a mark on the last frame number");
+  wrong_mark(u, 0, 1, "a mark on a frame that a copy is on");
+  free(before);
+  give_up(u);
+  printf("retired: a frame takes no copy again, and a wrong mark is answered as broken tables\n");
+}
+
 int main(void) {
   expect(reel_version() == REEL_VERSION, "header and library are of one version");
   by_answer();
@@ -311,5 +365,6 @@ int main(void) {
   deleted();
   refused();
   wrong_register();
+  retired();
   return 0;
 }

@@ -37,8 +37,8 @@ extern "C" {
 
 /* ---- the version: major, minor and patch */
 
-#define REEL_VERSION_MAJOR 2
-#define REEL_VERSION_MINOR 2
+#define REEL_VERSION_MAJOR 3
+#define REEL_VERSION_MINOR 0
 #define REEL_VERSION_PATCH 0
 #define REEL_VERSION (65536 * REEL_VERSION_MAJOR + 256 * REEL_VERSION_MINOR + REEL_VERSION_PATCH)
 
@@ -55,11 +55,12 @@ uint32_t reel_version(void);
 
 /* ---- the tables' bytes: what a caller may look at; it changes them by messages alone */
 
-#define REEL_TABLES_SIZE 3198
+#define REEL_TABLES_SIZE 3452
 #define REEL_TABLES_P 0           /* the number of fast frames */
 #define REEL_TABLES_S 1           /* the number of slow frames */
 #define REEL_TABLES_PAGES 2       /* the records of the 64 pages, one after the other */
 #define REEL_TABLES_REGISTER 2690 /* the register: a register entry for each frame number 0 to 253, one after the other */
+#define REEL_TABLES_RETIRED 3198  /* a mark for each frame number 0 to 253, a byte each: 1 where it is retired, else 0 */
 
 #define REEL_PAGE_SIZE 42   /* a page's record: */
 #define REEL_PAGE_RIGHTS 0  /* a right for each station: 0 none, 1 read, 2 read and write */
@@ -83,6 +84,11 @@ uint32_t reel_version(void);
 #define REEL_ENTRY_SIZE 2 /* bytes of a register entry */
 #define REEL_NO_HOLDER 65535
 
+/*
+ * A frame is free, held by a copy, or retired. A retired one never takes a copy again: no message takes its mark back. Its bytes
+ * remain. Where a mark is above 1, or is 1 on a frame that a copy is on or from frame P + S on, the tables are broken.
+ */
+
 /* ---- messages and replies */
 
 #define REEL_MESSAGE_VERSION 1 /* the third byte of messages and replies */
@@ -102,15 +108,19 @@ enum reel_kind {
   REEL_KIND_SET_CURRENT = 8,    /* page, copy */
   REEL_KIND_REMOVE_CURRENT = 9, /* page, copy */
   REEL_KIND_LOOK_PAGE = 10,     /* page */
-  REEL_KIND_LOOK_FRAME = 11     /* frame */
+  REEL_KIND_LOOK_FRAME = 11,    /* frame */
+  REEL_KIND_RETIRE = 12         /* frame */
 };
+
+/* The data of a look at a frame are three bytes: 1, page, copy where a copy is on it; 0, 255, 255 where it is free; 2, 255, 255
+   where it is retired. */
 
 /* Why a message is turned back. Versions to come may add numbers. */
 enum reel_number {
   REEL_ACCEPTED = 0,          /* the message was carried out */
   REEL_CUT_SHORT = 1,         /* one byte left, or fewer than L after the length */
   REEL_FOREIGN_VERSION = 2,   /* L is 0, or version not 1 */
-  REEL_UNKNOWN_KIND = 3,      /* L is 1, or kind not 1 to 11 */
+  REEL_UNKNOWN_KIND = 3,      /* L is 1, or kind not 1 to 12 */
   REEL_WRONG_LENGTH = 4,      /* L not as listed for the kind */
   REEL_BROKEN_TABLES = 5,     /* a table rule fails */
   REEL_MISFIT_STORE = 6,      /* a store's length is wrong */
@@ -120,13 +130,14 @@ enum reel_number {
   REEL_NO_RIGHT = 10,         /* right too low, or not owner */
   REEL_NOTHING_CURRENT = 11,  /* read or write, no CURRENT copy */
   REEL_NO_COPY = 12,          /* copy number is n or more */
-  REEL_FRAME_HELD = 13,       /* make copy on a frame not free */
+  REEL_FRAME_HELD = 13,       /* make copy to a held frame, or retire of one */
   REEL_EIGHT_COPIES = 14,     /* make copy with n = 8 */
   REEL_LAST_RECENT = 15,      /* delete of the only MOST RECENT copy */
   REEL_STALE = 16,            /* set current, not MOST RECENT */
   REEL_NO_FRAME = 17,         /* set current on a null copy */
   REEL_SHORT_SLIP = 18,       /* reply buffer below 70 bytes; nothing is written */
-  REEL_TOO_MANY_FRAMES = 19   /* fresh with P or S above 127; returns fresh tables with P = S = 0 */
+  REEL_TOO_MANY_FRAMES = 19,  /* fresh with P or S above 127; returns fresh tables with P = S = 0 */
+  REEL_RETIRED = 20           /* make copy to a retired frame */
 };
 
 /* The word of a number, for a log; an empty one for any other. */
@@ -152,6 +163,7 @@ static inline const char *reel_word(unsigned number) {
   case REEL_NO_FRAME: return "no frame";
   case REEL_SHORT_SLIP: return "short slip";
   case REEL_TOO_MANY_FRAMES: return "too many frames";
+  case REEL_RETIRED: return "retired";
   default: return "";
   }
 }
@@ -217,7 +229,7 @@ uint32_t reel_read(const uint8_t *tables, size_t tables_len, size_t fast_len, si
  * take it apart, and others have the arguments by name. The number is REEL_ACCEPTED, or the first that applies of
  *
  *   REEL_SHORT_SLIP    out_len is below REEL_MESSAGE_SIZE, however short the message
- *   REEL_UNKNOWN_KIND  kind not 1 to 11
+ *   REEL_UNKNOWN_KIND  kind not 1 to 12
  *   REEL_OUT_OF_RANGE  as for a message, but with frames up to 253 in range, as the writer does not know the unit; also a
  *                      write of no byte or of more than 64
  *
@@ -234,7 +246,7 @@ uint32_t reel_write(uint8_t kind, uint8_t first, uint8_t second, uint8_t third, 
  *
  *   REEL_CUT_SHORT        as for a message, also no byte at all
  *   REEL_FOREIGN_VERSION  as for a message
- *   REEL_UNKNOWN_KIND     kind not 1 to 11
+ *   REEL_UNKNOWN_KIND     kind not 1 to 12
  *   REEL_WRONG_LENGTH     a length that the kind, the number or the n of a look at a page does not have; a number that is not
  *                         in enum reel_number; a refusal with bytes laid; a CURRENT or MOST RECENT above 1
  *
@@ -316,6 +328,9 @@ static inline uint32_t reel_write_look_page(uint8_t page, uint8_t *out, size_t o
 }
 static inline uint32_t reel_write_look_frame(uint8_t frame, uint8_t *out, size_t out_len) {
   return reel_write_plain(REEL_KIND_LOOK_FRAME, frame, 0, 0, 0, out, out_len);
+}
+static inline uint32_t reel_write_retire(uint8_t frame, uint8_t *out, size_t out_len) {
+  return reel_write_plain(REEL_KIND_RETIRE, frame, 0, 0, 0, out, out_len);
 }
 
 /* ---- what reel_write gives, taken apart */

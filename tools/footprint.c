@@ -110,6 +110,8 @@ static void serve_all(const char *by, int n, int deep) {
       {"remove current", REEL_KIND_REMOVE_CURRENT, {LAST, 6}, 2},
       {"look at page", REEL_KIND_LOOK_PAGE, {LAST}, 1},
       {"look at the last frame", REEL_KIND_LOOK_FRAME, {FRAMES - 1}, 1},
+      {"retire the last frame", REEL_KIND_RETIRE, {FRAMES - 1}, 1},
+      {"retire the frame before it", REEL_KIND_RETIRE, {FRAMES - 2}, 1},
   };
   int alone = strcmp(by, "reel_answer") == 0;
   size_t i;

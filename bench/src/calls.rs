@@ -1,5 +1,6 @@
 //! Call files, made up beside a peer that keeps the tables: a shift of placement moves with reads,
-//! writes, looks and some refusals, a steady round of calls on tables of a given size, and deletes.
+//! writes, looks and some refusals, a steady round of calls on tables of a given size, deletes, and
+//! calls that retire frames. The shift has none of the last, so that its figures stay comparable.
 
 use crate::peer::{Peer, Tables, NULL_FRAME};
 
@@ -97,7 +98,8 @@ impl Calls {
         let limit = usize::from(self.tables().fast + self.tables().slow);
         let start = self.random.below(limit);
         let mut frames = (0..limit).map(|k| ((start + k) % limit) as u8);
-        frames.find(|&f| self.tables().holder(f).is_none())
+        let tables = self.tables();
+        frames.find(|&f| tables.holder(f).is_none() && !tables.is_retired(f))
     }
 
     /// A page with a current copy, and rights for some stations.
@@ -234,7 +236,7 @@ impl Calls {
             4 => self.send(&[1, 6, page, 0, 254]),
             5 => self.send(&[1, 6, page, 0, g.copies[0].frame]),
             6 => self.send(&[2, 4, 0, 0, 0, 1]),
-            7 => self.send(&[1, 12, 0]),
+            7 => self.send(&[1, 13, 0]),
             8 => self.send(&[1, 9, page]),
             _ => self.send(&[1, 8, page, 9]),
         }
@@ -324,6 +326,27 @@ impl Calls {
         for page in 0..pages {
             let owner = self.tables().pages[usize::from(page)].owner;
             self.send(&[1, 2, owner, page]);
+        }
+    }
+
+    /// Retires every free frame.
+    pub fn retire_free(&mut self) {
+        while let Some(frame) = self.free_frame() {
+            self.send(&[1, 12, frame]);
+        }
+    }
+
+    /// A retired frame is looked at, copied to from one of so many pages, which is refused, and retired
+    /// again; so many times.
+    pub fn retired_in_turn(&mut self, pages: usize, times: usize) {
+        let frames = 0..self.tables().fast + self.tables().slow;
+        let retired: Vec<u8> = frames.filter(|&f| self.tables().is_retired(f)).collect();
+        for _ in 0..times {
+            let frame = retired[self.random.below(retired.len())];
+            let page = self.random.below(pages) as u8;
+            self.send(&[1, 11, frame]);
+            self.send(&[1, 6, page, 0, frame]);
+            self.send(&[1, 12, frame]);
         }
     }
 

@@ -1,5 +1,5 @@
-//! (f) The calls of a shift written, and the replies to them read: by the kernel's binding and by
-//! plain Rust.
+//! (f) The calls of a file, such as a shift's, written, and the replies to them read: by the kernel's
+//! binding and by plain Rust.
 
 use bench::stations::{read_reply_by_rust, write_by_rust, Told, MESSAGE};
 use bench::{FAST, SLOW};
@@ -17,7 +17,7 @@ struct Turn {
     reply: Range<usize>,
 }
 
-/// The calls of a shift and the kernel's replies to them; messages that are refused 1 to 4 are no
+/// The calls of a file and the kernel's replies to them; messages that are refused 1 to 4 are no
 /// calls.
 pub struct Exchange {
     file: Vec<u8>,
@@ -37,9 +37,14 @@ fn by_kernel(kind: u8, reply: &[u8]) -> Result<Told, u8> {
 
 impl Exchange {
     pub fn of_shift() -> Exchange {
-        let mut unit = Unit::fresh(FAST, SLOW).expect("a unit");
+        let unit = Unit::fresh(FAST, SLOW).expect("a unit");
+        Exchange::of(unit, bench::shift().file)
+    }
+
+    /// The calls of a file, answered by this unit.
+    pub fn of(mut unit: Unit, file: Vec<u8>) -> Exchange {
         let mut exchange = Exchange {
-            file: bench::shift().file,
+            file,
             replies: vec![],
             turns: vec![],
         };

@@ -4,9 +4,10 @@
 //! does that work once on that side, for a count of instructions, and `bench WORK count` prints how
 //! many messages, tests or calls it has. WORK is run, answer or sound, or frames1, frames8 or
 //! frames64, looks at frames on so many pages, or copies, pages, copydeletes or pagedeletes, the
-//! deletes; on the kernel's side alone kept or parts, a run with its replies, and refused, look,
-//! grant or empty, the C call by itself. no-copydeletes and no-pagedeletes are the same files without
-//! the deletes, to be taken off. WORK is also write or read-reply, with SIDE kernel or rust.
+//! deletes, or retires or retired, frames retired and calls on retired ones; on the kernel's side alone
+//! kept or parts, a run with its replies, and refused, look, grant or empty, the C call by itself.
+//! no-copydeletes, no-pagedeletes and no-retires are the same files without the deletes or retires, to
+//! be taken off. WORK is also write or read-reply, with SIDE kernel or rust.
 
 mod exchange;
 mod timing;
@@ -24,8 +25,9 @@ const TESTS: u32 = 5_000;
 const CALLS: usize = 1_000;
 /// A reply buffer that is emptied between the parts of a run.
 const PART: usize = 4096;
-/// On so many pages there are deletes; with eight copies each they hold 248 of the 254 frames.
-const DELETED_PAGES: u8 = 31;
+/// On so many pages there are deletes and retired frames; with eight copies each they hold 248 of the
+/// 254 frames.
+const SOME_PAGES: u8 = 31;
 
 /// Who answers a call file, and how.
 #[derive(Clone, Copy)]
@@ -103,42 +105,62 @@ impl Work {
         Work::of(start, calls)
     }
 
-    /// Deletes on pages with so many copies each, in the file that is made there.
-    fn deletes(copies: u8, make: impl Fn(&mut Calls)) -> Work {
+    /// Accepted calls on pages with so many copies each, in the file that is made there.
+    fn accepted(copies: u8, make: impl Fn(&mut Calls)) -> Work {
         let mut calls = Calls::new(FAST, SLOW);
-        calls.spread(DELETED_PAGES, copies);
+        calls.spread(SOME_PAGES, copies);
         calls.begin();
         let start = calls.peer.clone();
         make(&mut calls);
-        assert_eq!(calls.counts.refused, 0, "deletes refused");
+        assert_eq!(calls.counts.refused, 0, "deletes or retires refused");
         Work::of(start, calls)
     }
 
     /// A copy made and one deleted in turn, on pages with seven copies.
     fn copies_in_turn() -> Work {
-        Work::deletes(7, |calls| {
-            calls.copies_in_turn(DELETED_PAGES.into(), 10_000);
+        Work::accepted(7, |calls| {
+            calls.copies_in_turn(SOME_PAGES.into(), 10_000);
         })
     }
 
     /// A page created, copied to eight frames and deleted in turn, beside pages with seven copies.
     fn pages_in_turn() -> Work {
-        Work::deletes(7, |calls| calls.pages_in_turn(63, 8, 2_000))
+        Work::accepted(7, |calls| calls.pages_in_turn(63, 8, 2_000))
     }
 
     /// Deletes alone, behind a grant: pages with eight copies come down to one each.
     fn copy_deletes() -> Work {
-        Work::deletes_alone(|calls| calls.delete_copies(DELETED_PAGES))
+        Work::alone(8, |calls| calls.delete_copies(SOME_PAGES))
     }
 
     /// Deletes alone, behind a grant: of pages with eight copies each.
     fn page_deletes() -> Work {
-        Work::deletes_alone(|calls| calls.delete_pages(DELETED_PAGES))
+        Work::alone(8, |calls| calls.delete_pages(SOME_PAGES))
     }
 
-    /// The grant changes the tables, so that a run without the deletes also puts them back.
-    fn deletes_alone(make: impl Fn(&mut Calls)) -> Work {
-        let work = Work::deletes(8, |calls| {
+    /// Retires alone, behind a grant: of every free frame, beside pages with one copy each.
+    fn retires() -> Work {
+        Work::alone(1, Calls::retire_free)
+    }
+
+    /// Looks at retired frames, copies to them, which are refused, and retires of them again in turn,
+    /// beside pages with four copies each.
+    fn retired() -> Work {
+        const TIMES: usize = 5_000;
+        let mut calls = Calls::new(FAST, SLOW);
+        calls.spread(SOME_PAGES, 4);
+        calls.retire_free();
+        calls.begin();
+        let start = calls.peer.clone();
+        calls.retired_in_turn(SOME_PAGES.into(), TIMES);
+        assert_eq!(calls.counts.refused, TIMES, "copies to retired frames");
+        Work::of(start, calls)
+    }
+
+    /// Calls that are told apart from a grant before them. It changes the tables, so that a run without
+    /// these calls also puts them back.
+    fn alone(copies: u8, make: impl Fn(&mut Calls)) -> Work {
+        let work = Work::accepted(copies, |calls| {
             calls.grant_to_read();
             make(calls);
         });
@@ -445,6 +467,7 @@ fn report() {
     by_pages();
     deletes();
     stations();
+    retired_frames();
 }
 
 /// The times of the test of the rules, by the kernel and by Rust.
@@ -492,13 +515,17 @@ fn by_pages() {
         let work = Work::frames(pages);
         work.check();
         let sides = [Side::Run, Side::Unchecked, Side::Registered];
-        let [run, unchecked, registered] = work.times(150, sides).map(|t| best(&t));
-        println!(
-            "| {pages} | {run:.1} | {unchecked:.1} | {:.2} | {registered:.1} | {:.2} |",
-            run / unchecked,
-            run / registered
-        );
+        row_of_three(&pages.to_string(), work.times(150, sides).map(|t| best(&t)));
     }
+}
+
+/// A row of the run beside Rust that searches and Rust with the register.
+fn row_of_three(what: &str, [run, unchecked, registered]: [f64; 3]) {
+    println!(
+        "| {what} | {run:.1} | {unchecked:.1} | {:.2} | {registered:.1} | {:.2} |",
+        run / unchecked,
+        run / registered
+    );
 }
 
 /// (e) Deletes: within files that also make what is deleted, and by themselves.
@@ -506,13 +533,6 @@ fn deletes() {
     println!("\n| (e) | run | Rust that searches | ratio | Rust with the register | ratio |");
     println!("|---|---|---|---|---|---|");
     let sides = [Side::Run, Side::Unchecked, Side::Registered];
-    let row = |what: &str, [run, unchecked, registered]: [f64; 3]| {
-        println!(
-            "| {what} | {run:.1} | {unchecked:.1} | {:.2} | {registered:.1} | {:.2} |",
-            run / unchecked,
-            run / registered
-        );
-    };
     let in_turn = [
         (
             "a copy made and one deleted in turn, a message",
@@ -525,7 +545,7 @@ fn deletes() {
     ];
     for (what, work) in in_turn {
         work.check();
-        row(what, work.times(150, sides).map(|times| best(&times)));
+        row_of_three(what, work.times(150, sides).map(|times| best(&times)));
     }
     let alone = [
         ("delete copy alone", Work::copy_deletes()),
@@ -536,8 +556,25 @@ fn deletes() {
     ];
     for (what, work) in alone {
         work.check();
-        row(what, work.added(1_000, sides));
+        row_of_three(what, work.added(1_000, sides));
     }
+}
+
+/// (g) Frames retired, and calls on retired ones.
+fn retired_frames() {
+    println!("\n| (g) | run | Rust that searches | ratio | Rust with the register | ratio |");
+    println!("|---|---|---|---|---|---|");
+    let sides = [Side::Run, Side::Unchecked, Side::Registered];
+    let (alone, retired) = (Work::retires(), Work::retired());
+    for work in [&alone, &retired] {
+        work.check();
+        Exchange::of(work.unit(kernel::SLIP), work.file.clone()).check();
+    }
+    row_of_three("retire of a free frame alone", alone.added(1_000, sides));
+    row_of_three(
+        "a retired frame looked at, copied to, which is refused, and retired again in turn, a message",
+        retired.times(150, sides).map(|times| best(&times)),
+    );
 }
 
 /// (f) Calls written and replies read.
@@ -597,6 +634,8 @@ fn once(work: &str, side: &str) {
         ("pages", _) => Work::pages_in_turn(),
         ("copydeletes", _) => Work::copy_deletes(),
         ("pagedeletes", _) => Work::page_deletes(),
+        ("retires", _) => Work::retires(),
+        ("retired", _) => Work::retired(),
         _ => Work::full(),
     };
     let mut sides = given.sides();

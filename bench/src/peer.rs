@@ -32,6 +32,8 @@ pub struct Tables<const REGISTER: bool> {
     pub slow: u8,
     pub pages: [Page; 64],
     register: Register,
+    /// Which frames are retired.
+    retired: [bool; 254],
 }
 
 /// Messages, refusals and bytes laid.
@@ -107,6 +109,7 @@ impl<const REGISTER: bool> Tables<REGISTER> {
             slow,
             pages: [ABSENT; 64],
             register: [NO_HOLDER; 254],
+            retired: [false; 254],
         }
     }
 
@@ -114,6 +117,7 @@ impl<const REGISTER: bool> Tables<REGISTER> {
     pub fn searching(&self) -> Tables<false> {
         Tables {
             pages: self.pages,
+            retired: self.retired,
             ..Tables::fresh(self.fast, self.slow)
         }
     }
@@ -126,7 +130,9 @@ impl<const REGISTER: bool> Tables<REGISTER> {
         let limit = self.fast + self.slow;
         let mut due = [NO_HOLDER; 254];
         let mut pages = self.pages.iter().enumerate();
-        pages.all(|(i, g)| g.sound(i, limit, &mut due)) && (!REGISTER || self.register == due)
+        pages.all(|(i, g)| g.sound(i, limit, &mut due))
+            && (!REGISTER || self.register == due)
+            && (0..254).all(|f| !self.retired[f] || (f < usize::from(limit) && due[f] == NO_HOLDER))
     }
 
     /// The page and number of the copy on a frame.
@@ -143,6 +149,10 @@ impl<const REGISTER: bool> Tables<REGISTER> {
             }
         }
         None
+    }
+
+    pub fn is_retired(&self, frame: u8) -> bool {
+        self.retired[usize::from(frame)]
     }
 
     /// Puts into the register what it has of a frame from now on; a null copy has no frame.
@@ -169,6 +179,7 @@ impl<const REGISTER: bool> Tables<REGISTER> {
             });
             bytes.extend(held.to_be_bytes());
         }
+        bytes.extend(self.retired.map(u8::from));
         bytes
     }
 }
@@ -219,7 +230,7 @@ fn shape(m: &[u8]) -> Result<(), u8> {
         3 | 4 => m.len() == 6,
         5 => (6..=69).contains(&m.len()),
         6 => m.len() == 5,
-        10 | 11 => m.len() == 3,
+        10..=12 => m.len() == 3,
         _ => return Err(3),
     };
     test(ok, 4)
@@ -298,7 +309,7 @@ fn station_step<const REGISTER: bool>(
     }
 }
 
-/// Kinds 6 to 11.
+/// Kinds 6 to 12.
 fn placement_step<const REGISTER: bool>(
     t: &mut Tables<REGISTER>,
     fast: &mut [u8],
@@ -314,10 +325,18 @@ fn placement_step<const REGISTER: bool>(
         test(f < limit, 7)?;
         let shown = match t.holder(f) {
             Some((page, copy)) => [1, page, copy],
+            None if t.is_retired(f) => [2, 255, 255],
             None => [0, 255, 255],
         };
         data[..3].copy_from_slice(&shown);
         return Ok((0, 3));
+    }
+    if kind == 12 {
+        let f = m[2];
+        test(f < limit, 7)?;
+        test(t.holder(f).is_none(), 13)?;
+        t.retired[usize::from(f)] = true;
+        return Ok((0, 0));
     }
     test(m[2] <= 63, 7)?;
     let page = usize::from(m[2]);
@@ -337,6 +356,7 @@ fn placement_step<const REGISTER: bool>(
         let g = &t.pages[page];
         test(g.n != 0, 9)?;
         test(number < g.n, 12)?;
+        test(!t.is_retired(f), 20)?;
         test(t.holder(f).is_none(), 13)?;
         let g = &mut t.pages[page];
         test(g.n < 8, 14)?;

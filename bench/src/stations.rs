@@ -40,7 +40,7 @@ pub fn write_by_rust(
         6 => (3, a <= 63 && c <= 253),
         7..=9 => (2, a <= 63),
         10 => (1, a <= 63),
-        11 => (1, a <= 253),
+        11 | 12 => (1, a <= 253),
         _ => return Err(3),
     };
     if !is_in_range {
@@ -64,7 +64,7 @@ pub fn read_reply_by_rust(kind: u8, reply: &[u8]) -> Result<Told, u8> {
     if body.first() != Some(&1) {
         return Err(2);
     }
-    if !(1..=11).contains(&kind) {
+    if !(1..=12).contains(&kind) {
         return Err(3);
     }
     let [_, number, high, low, ref data @ ..] = *body else {
@@ -76,7 +76,7 @@ pub fn read_reply_by_rust(kind: u8, reply: &[u8]) -> Result<Told, u8> {
         (0, 10) => is_page_look(data),
         (0, 11) => data.len() == 3,
         (0, _) => data.is_empty(),
-        (1..=19, _) => laid == 0 && data.is_empty(),
+        (1..=20, _) => laid == 0 && data.is_empty(),
         _ => false,
     };
     if !is_sound {

@@ -3,8 +3,8 @@
  * memory that may only be read. So the processor stops any access of the library outside what it is lent, which no
  * instrumentation of this file could see. The same file is served message by message, in one run and in parts, and all that
  * is left is compared. Of each delete it is tested what it leaves in the lent stores: zeros in the frames that it frees, by the
- * register, and every other byte as it was. Each message that is a call is written again, and each reply read where nothing
- * follows it. Messages and sizes follow from a seed.
+ * register, and every other byte as it was; of each retire that it sets the mark of its frame and changes nothing else. Each
+ * message that is a call is written again, and each reply read where nothing follows it. Messages and sizes follow from a seed.
  */
 #define _DEFAULT_SOURCE
 #include <reel.h>
@@ -34,6 +34,7 @@ static int behind;    /* whether the fence stands behind the buffers, or before 
 static uint32_t frames; /* so many frames may be named */
 static unsigned freed;  /* so many frames were seen freed */
 static unsigned again;  /* so many messages were written again */
+static unsigned marked; /* so many frames were seen retired */
 
 static uint32_t any(uint32_t below) {
   seed = seed * 1664525u + 1013904223u;
@@ -94,8 +95,9 @@ static void make_fresh(struct unit *u, uint8_t p, uint8_t s) {
 
 /* A message, mostly one of the right form and with arguments that have a chance. */
 static size_t message(uint8_t *to) {
-  static const uint8_t lengths[] = {4, 4, 6, 6, 6, 5, 4, 4, 4, 3, 3};
-  static const uint8_t kinds[] = {1, 1, 1, 1, 2, 3, 3, 4, 4, 4, 5, 5, 5, 5, 6, 6, 6, 6, 6, 6, 6, 7, 7, 8, 8, 8, 8, 9, 10, 11};
+  static const uint8_t lengths[] = {4, 4, 6, 6, 6, 5, 4, 4, 4, 3, 3, 3};
+  static const uint8_t kinds[] = {1, 1, 1, 1, 2, 3, 3, 4, 4, 4, 5, 5, 5, 5, 6,  6,
+                                  6, 6, 6, 6, 6, 7, 7, 8, 8, 8, 8, 9, 10, 11, 12};
   size_t kind = kinds[any(sizeof kinds)], length = lengths[kind - 1], i;
   if (kind == REEL_KIND_WRITE) length += any(64);
   if (any(50) == 0) length = any(70);
@@ -150,7 +152,9 @@ static void written_alike(struct unit u, struct block lent, const uint8_t *m, si
   written = write_into(out, REEL_MESSAGE_SIZE, m[3], arguments, sealed(lent, m + end, size - end), size - end);
   if (reel_written_number(written) == REEL_ACCEPTED) {
     expect(reel_written_length(written) == size && memcmp(out, m, size) == 0, "a message written again");
-    expect(number != REEL_OUT_OF_RANGE || m[3] == REEL_KIND_MAKE_COPY || m[3] == REEL_KIND_LOOK_FRAME, "a call out of range");
+    expect(number != REEL_OUT_OF_RANGE || m[3] == REEL_KIND_MAKE_COPY || m[3] == REEL_KIND_LOOK_FRAME ||
+               m[3] == REEL_KIND_RETIRE,
+           "a call out of range");
     again++;
   } else {
     expect(reel_written_number(written) == REEL_OUT_OF_RANGE && number == REEL_OUT_OF_RANGE, "a call in range");
@@ -212,6 +216,26 @@ static void cleared(struct unit u, struct state before, uint32_t answered) {
   expect(reel_answer_number(answered) == REEL_ACCEPTED || laid == 0, "a refused delete");
 }
 
+/* An accepted retire leaves the frame with its mark and without a copy, and every other byte as it was; a refused one all. */
+static void retired(struct unit u, struct state before, uint8_t frame, uint32_t answered) {
+  struct state now = state_of(u);
+  if (reel_answer_number(answered) == REEL_ACCEPTED) {
+    expect(frame < frames && !is_held(before.tables, frame), "a frame that may be retired");
+    marked += before.tables[REEL_TABLES_RETIRED + frame] == 0;
+    before.tables[REEL_TABLES_RETIRED + frame] = 1;
+  }
+  expect(memcmp(now.tables, before.tables, REEL_TABLES_SIZE) == 0, "the tables after a retire");
+  expect(memcmp(now.stores, before.stores, REEL_FRAME_SIZE * frames) == 0, "the stores after a retire");
+  expect(reel_answer_laid(answered) == 0, "the bytes laid by a retire");
+}
+
+/* A copy is made on no retired frame. */
+static void not_on_retired(struct state before, uint8_t frame, uint32_t answered) {
+  int is_retired = frame < frames && before.tables[REEL_TABLES_RETIRED + frame] == 1;
+  expect(reel_answer_number(answered) != REEL_ACCEPTED || !is_retired, "a copy on a retired frame");
+  expect(reel_answer_number(answered) != REEL_RETIRED || is_retired, "a frame that is not retired");
+}
+
 static void same(struct unit one, struct unit other) {
   expect(memcmp(part(one.tables, REEL_TABLES_SIZE), part(other.tables, REEL_TABLES_SIZE), REEL_TABLES_SIZE) == 0, "tables");
   expect(memcmp(part(one.fast, one.fast_len), part(other.fast, other.fast_len), one.fast_len) == 0, "the fast store");
@@ -235,10 +259,12 @@ static void serve(struct unit one, struct unit whole, struct unit parts, struct 
     struct state before = state_of(one);
     uint32_t answered = answer(one, sealed(lent, file + length, size), size);
     if (size > 3 && (kind == REEL_KIND_DELETE_PAGE || kind == REEL_KIND_DELETE_COPY)) cleared(one, before, answered);
+    if (size == 5 && kind == REEL_KIND_RETIRE) retired(one, before, file[length + 4], answered);
+    if (size == 7 && kind == REEL_KIND_MAKE_COPY) not_on_retired(before, file[length + 6], answered);
     memcpy(replies + said, part(one.out, REEL_REPLY_SIZE), reel_answer_length(answered));
     if (size == 8 && file[length + 2] == REEL_MESSAGE_VERSION && file[length + 3] == REEL_KIND_READ)
       read_alike(one, lent, file + length, answered);
-    if (size > 3 && kind >= REEL_KIND_CREATE && kind <= REEL_KIND_LOOK_FRAME) told_alike(one, lent, kind, answered);
+    if (size > 3 && kind >= REEL_KIND_CREATE && kind <= REEL_KIND_RETIRE) told_alike(one, lent, kind, answered);
     if (reel_answer_number(answered) == REEL_ACCEPTED || reel_answer_number(answered) > REEL_WRONG_LENGTH)
       written_alike(one, lent, file + length, size, answered);
     tally[REEL_TALLY_MESSAGES]++;
@@ -264,7 +290,7 @@ static void serve(struct unit one, struct unit whole, struct unit parts, struct 
 
 /* Calls and replies of any sort, between fences. */
 static void senseless_call(struct unit u, struct block lent) {
-  uint8_t bytes[REEL_MESSAGE_SIZE + 9], arguments[4], kind = (uint8_t)any(13);
+  uint8_t bytes[REEL_MESSAGE_SIZE + 9], arguments[4], kind = (uint8_t)any(14);
   size_t count = any(sizeof bytes), room = any(200), size, i;
   uint32_t written;
   uint64_t told;
@@ -324,7 +350,8 @@ int main(void) {
   }
   expect(freed > 1000, "deletes that free frames");
   expect(again > 10000, "messages that are calls");
-  printf("%u messages three times, %u written again, %u frames freed, %u senseless calls\n", 12u * MESSAGES, again, freed,
-         2u * 20000);
+  expect(marked > 20, "frames that are retired");
+  printf("%u messages three times, %u written again, %u frames freed, %u retired, %u senseless calls\n", 12u * MESSAGES, again,
+         freed, marked, 2u * 20000);
   return 0;
 }

@@ -2,9 +2,9 @@
 //! a unit that owns all it lends.
 
 /// The version of the library that this binding is for: 65536 * major + 256 * minor + patch.
-pub const VERSION: u32 = 2 * 65536 + 2 * 256;
+pub const VERSION: u32 = 3 * 65536;
 /// How many bytes the tables take. Nothing in Rust looks into them.
-pub const TABLES: usize = 3198;
+pub const TABLES: usize = 3452;
 /// The bytes of a frame, and so of a page.
 pub const FRAME: usize = 64;
 /// The most fast frames, and the most slow ones.
@@ -411,7 +411,7 @@ impl Unit {
 
 #[cfg(test)]
 mod tests {
-    use super::{read_reply, write, Answer, Unit};
+    use super::{read_reply, write, Answer, Unit, MESSAGE, TABLES};
 
     /// The worked example of document 01, and its replies.
     const FILE: [&[u8]; 6] = [
@@ -538,25 +538,58 @@ mod tests {
     #[test]
     fn calls_and_replies_that_are_refused() {
         let mut out = [0xAA; 71];
-        assert_eq!(write(12, [0; 4], &[], &mut out[..70]), Err(18));
-        assert_eq!(write(12, [0; 4], &[], &mut out), Err(3));
+        assert_eq!(write(13, [0; 4], &[], &mut out[..70]), Err(18));
+        assert_eq!(write(13, [0; 4], &[], &mut out), Err(3));
         assert_eq!(write(0, [0; 4], &[], &mut out), Err(3));
         assert_eq!(write(11, [254, 0, 0, 0], &[], &mut out), Err(7));
+        assert_eq!(write(12, [254, 0, 0, 0], &[], &mut out), Err(7));
         assert_eq!(write(5, [3, 5, 0, 0], &[], &mut out), Err(7));
         assert_eq!(out, [0xAA; 71]);
         assert_eq!(read_reply(1, &[]), Err(1));
-        assert_eq!(read_reply(12, &[0, 4, 1, 0, 0]), Err(1));
-        assert_eq!(read_reply(12, &[0, 4, 2, 0, 0, 0]), Err(2));
-        assert_eq!(read_reply(12, &[0, 4, 1, 0, 0, 0]), Err(3));
-        assert_eq!(read_reply(1, &[0, 4, 1, 20, 0, 0]), Err(4));
+        assert_eq!(read_reply(13, &[0, 4, 1, 0, 0]), Err(1));
+        assert_eq!(read_reply(13, &[0, 4, 2, 0, 0, 0]), Err(2));
+        assert_eq!(read_reply(13, &[0, 4, 1, 0, 0, 0]), Err(3));
+        assert_eq!(read_reply(1, &[0, 4, 1, 21, 0, 0]), Err(4));
+        assert_eq!(read_reply(12, &[0, 7, 1, 0, 0, 0, 2, 255, 255]), Err(4));
         let told = read_reply(1, &[0, 4, 1, 1, 0, 0, 9]).unwrap();
         assert_eq!((told.number, told.laid, told.length), (1, 0, 0));
+        let told = read_reply(1, &[0, 4, 1, 20, 0, 0]).unwrap();
+        assert_eq!((told.number, told.laid, told.length), (20, 0, 0));
+    }
+
+    #[test]
+    fn a_retired_frame_takes_no_copy() {
+        let mut unit = Unit::fresh(4, 4).unwrap();
+        unit.slow.fill(0xDD);
+        for message in FILE {
+            unit.answer(message);
+        }
+        let mut out = [0; MESSAGE];
+        for (frame, number) in [(8, 7), (0, 13), (5, 0), (5, 0)] {
+            let length = write(12, [frame, 0, 0, 0], &[], &mut out).unwrap();
+            assert_eq!(out[..length], [0, 3, 1, 12, frame]);
+            let answer = unit.answer(&out[..length]);
+            let told = read_reply(12, answer.reply).unwrap();
+            assert_eq!((told.number, told.laid, told.length), (number, 0, 0));
+        }
+        assert_eq!(unit.slow, [0xDD; 4 * 64]);
+        assert_eq!(unit.answer(&[0, 3, 1, 11, 4]).data(), [0, 255, 255]);
+        assert_eq!(unit.answer(&[0, 3, 1, 11, 5]).data(), [2, 255, 255]);
+        // No page and no copy come before 20.
+        for (page, copy, number) in [(6, 0, 9), (5, 1, 12), (5, 0, 20)] {
+            assert_eq!(unit.answer(&[0, 5, 1, 6, page, copy, 5]).number, number);
+        }
+        assert_eq!((unit.rules(), &unit.slow[..]), (0, &[0xDD; 4 * 64][..]));
     }
 
     #[test]
     fn the_test_of_tables_and_stores() {
         let mut unit = Unit::fresh(4, 4).unwrap();
         assert_eq!(unit.rules(), 0);
+        // The last mark is that of a frame that the unit does not have.
+        unit.tables[TABLES - 1] = 1;
+        assert_eq!(unit.rules(), 5);
+        unit.tables[TABLES - 1] = 0;
         unit.slow.pop();
         assert_eq!(unit.rules(), 6);
         unit.tables[0] = 128;

@@ -5,7 +5,7 @@ use mathlib.Core.List.{List}
 use native.Mathlib.Nat.{not-suc-le-zero, le-of-suc-le-suc, mul-zero, mul-suc}
 use native.Mathlib.Omega.{arith}
 use lib.ListN.{length, getD, drop}
-use lib.Seq.{drop-drop}
+use lib.Seq.{drop-drop, getD-drop}
 use Rattle.embed.specs.Bytes.{fromEach}
 
 module _ {A : Type 0} (size : ℕ) (from : List ℕ → A) where
@@ -23,3 +23,9 @@ module _ {A : Type 0} (size : ℕ) (from : List ℕ → A) where
   each-at (suc k) (suc i) b d h =
       let e : size + size * i ≡ size * suc i = omega (arith, mul-suc size i) in
       each-at k i (drop size b) d (le-of-suc-le-suc h) ∙ rw (drop-drop (size * i) size b, e)
+
+-- values of one byte: that of the one at i, from index n on
+pub byte-at : (n i : ℕ) (l : List ℕ) → getD (drop (1 * i) (drop n l)) 0 0 ≡ getD l (n + i) 0
+byte-at n i l =
+    let e : n + (1 * i + 0) ≡ n + i = omega arith in
+    getD-drop (1 * i) (drop n l) 0 0 ∙ getD-drop n l (1 * i + 0) 0 ∙ ap (λ (k : ℕ). getD l k 0) e

@@ -1,11 +1,11 @@
 -- Tables laid out take tablesSize bytes with each mark 0 or 1, and read back they are the same tables.
 use Prim.Native.Nat.{ℕ, zero, suc, _+_, _*_, _<_, suc-le-suc, zero-le}
 use mathlib.Core.Bool.{Bool, true, false}
-use mathlib.Core.Path.{_≡_, refl, ap₂, _∙_}
+use mathlib.Core.Path.{_≡_, refl, sym, ap, ap₂, _∙_}
 use mathlib.Core.List.{List, [], _∷_, _++_, flatMap, append-nil, append-assoc}
 use native.Mathlib.Omega.{arith}
 use lib.Dec.{eqb}
-use lib.ListN.{length, getD, length-append}
+use lib.ListN.{length, getD, drop, length-append}
 use lib.Seq.{take-at, drop-at, getD-append-add}
 use borrow.Author.Tests.{eqb-true}
 use Rattle.tables.specs.declared.Copy.{Copy}
@@ -19,7 +19,7 @@ use Rattle.tables.proofs.RuleLaws.{sound-of}
 use Rattle.tables.proofs.RegisterLaws.{register-fits}
 use Rattle.messages.specs.Replies.{be16}
 use Rattle.steps.specs.Data.{isMark, copyMarked, eachIs}
-use Rattle.embed.specs.Bytes.{pageSize, tablesSize, markByte, markFrom, copyBytes, pageBytes, tablesBytes, fromEach, copyFrom, pageFrom, entryFrom, tablesFrom, pageMarked, marked}
+use Rattle.embed.specs.Bytes.{pageSize, tablesSize, markByte, markFrom, copyBytes, pageBytes, retiredByte, tablesBytes, fromEach, copyFrom, pageFrom, entryFrom, retiredFrom, tablesFrom, pageMarked, retiredMarked, marked}
 use Rattle.embed.proofs.LayLaws.{flat-length}
 
 -- ---- values of one size in a row
@@ -117,6 +117,13 @@ page-kept g e =
 entry-kept : (e : ℕ) → e < 65536 → Kept 2 be16 entryFrom (λ (b : List ℕ). true) e
 entry-kept e h = record { long = refl; back = λ rest. omega arith; passed = λ rest. refl }
 
+-- the mark of a retired frame
+mark-kept : (b : Bool) → Kept 1 retiredByte retiredFrom retiredMarked b
+mark-kept b = record { long = refl; back = λ rest. mark-back b; passed = λ rest. mark-passed b }
+
+pub retired-length : (l : List Bool) → length l ≡ 254 → length (flatMap retiredByte l) ≡ 254
+retired-length l h = flat-length retiredByte 1 false l (λ i _. refl) ∙ rw h
+
 pub register-length : (r : List ℕ) → length r ≡ 254 → length (flatMap be16 r) ≡ 508
 register-length r h = flat-length be16 2 noHolder r (λ i l. refl) ∙ rw h
 
@@ -126,6 +133,7 @@ pub record Formed (t : Tables) : Type 0 where
   pub pages-shaped : all shaped (t .pages) ≡ true
   pub register-long : length (t .register) ≡ 254
   pub register-low : (f : ℕ) → f < 254 → getD (t .register) f noHolder < 65536
+  pub retired-long : length (t .retired) ≡ 254
 
 module _ (t : Tables) (s : Formed t) where
   pages-kept : (p : ℕ) → p < length (t .pages) → Kept pageSize pageBytes pageFrom pageMarked (getD (t .pages) p noPageRecord)
@@ -136,24 +144,42 @@ module _ (t : Tables) (s : Formed t) where
 
   pub bytes-length : length (tablesBytes t) ≡ tablesSize
   unfolding tablesBytes
-  bytes-length = simp length-append (omega (arith, pages-length, register-length (t .register) (s .register-long)))
+  bytes-length =
+      simp length-append
+      (omega (arith, pages-length, register-length (t .register) (s .register-long), retired-length (t .retired) (s .retired-long)))
+
+  -- what stands behind the pages and the register
+  behind-register : drop (pageSize * 64 + 508) (flatMap pageBytes (t .pages) ++ (flatMap be16 (t .register) ++ flatMap retiredByte (t .retired)))
+      ≡ flatMap retiredByte (t .retired)
+  behind-register =
+      let ps = flatMap pageBytes (t .pages) in
+      let es = flatMap be16 (t .register) in
+      let long : length (ps ++ es) ≡ pageSize * 64 + 508 =
+      simp length-append (omega (arith, pages-length, register-length (t .register) (s .register-long))) in
+      ap (drop (pageSize * 64 + 508)) (sym (append-assoc ps es (flatMap retiredByte (t .retired))))
+      ∙ drop-at (ps ++ es) (flatMap retiredByte (t .retired)) (pageSize * 64 + 508) long
 
   pub from-bytes : tablesFrom (tablesBytes t) ≡ t
   unfolding tablesBytes tablesFrom
   from-bytes =
       let ps = flatMap pageBytes (t .pages) in
       let es = flatMap be16 (t .register) in
-      let p = row-back pageSize pageBytes pageFrom pageMarked noPageRecord (t .pages) es pages-kept in
-      let pages : fromEach 64 pageSize pageFrom (ps ++ es) ≡ t .pages = rw (s .pages-long) at p in
-      let e = row-back 2 be16 entryFrom _ noHolder (t .register) [] (λ f h. entry-kept _ (s .register-low f (rw (s .register-long) at h))) in
-      let register : fromEach 254 2 entryFrom es ≡ t .register = rw (s .register-long, append-nil) at e in
-      rw (pages, drop-at ps es (pageSize * 64) pages-length, register)
+      let ms = flatMap retiredByte (t .retired) in
+      let p = row-back pageSize pageBytes pageFrom pageMarked noPageRecord (t .pages) (es ++ ms) pages-kept in
+      let pages : fromEach 64 pageSize pageFrom (ps ++ (es ++ ms)) ≡ t .pages = rw (s .pages-long) at p in
+      let e = row-back 2 be16 entryFrom _ noHolder (t .register) ms (λ f h. entry-kept _ (s .register-low f (rw (s .register-long) at h))) in
+      let register : fromEach 254 2 entryFrom (es ++ ms) ≡ t .register = rw (s .register-long) at e in
+      let m = row-back 1 retiredByte retiredFrom retiredMarked false (t .retired) [] (λ f h. mark-kept _) in
+      let retired : fromEach 254 1 retiredFrom ms ≡ t .retired = rw (s .retired-long, append-nil) at m in
+      rw (pages, drop-at ps (es ++ ms) (pageSize * 64) pages-length, register, behind-register, retired)
 
   pub bytes-marked : marked (tablesBytes t) ≡ true
   unfolding tablesBytes marked
   bytes-marked =
-      let e = row-passed pageSize pageBytes pageFrom pageMarked noPageRecord (t .pages) (flatMap be16 (t .register)) pages-kept in
-      rw (s .pages-long) at e
+      let ms = flatMap retiredByte (t .retired) in
+      let e = row-passed pageSize pageBytes pageFrom pageMarked noPageRecord (t .pages) (flatMap be16 (t .register) ++ ms) pages-kept in
+      let m = row-passed 1 retiredByte retiredFrom retiredMarked false (t .retired) [] (λ f h. mark-kept _) in
+      and-intro (rw (s .pages-long) at e) (rw behind-register (rw (s .retired-long, append-nil) at m))
 
 rule-shaped : (limit : ℕ) (g : Page) → pageRule limit g ≡ true → shaped g ≡ true
 unfolding pageRule
@@ -169,6 +195,7 @@ sound-formed t e =
       pages-shaped = all-of shaped (t .pages) noPageRecord (λ p h. rule-shaped (frames t) (pageAt t p) (ok p h));
       register-long = s .register-long;
       register-low = register-fits t s;
+      retired-long = s .marks-long;
     }
 
 -- so they are what their bytes give back

@@ -1,17 +1,17 @@
 -- Bytes that hold tables, read and laid out again, are the very bytes.
 use Prim.Native.Nat.{ℕ, zero, suc, _+_, _*_, _/_, _%_, _≤_, _<_}
 use mathlib.Core.Bool.{Bool, true}
-use mathlib.Core.Path.{_≡_, refl, ap, _∙_}
+use mathlib.Core.Path.{_≡_, refl, sym, ap, _∙_}
 use mathlib.Core.List.{List, [], _∷_, _++_, flatMap}
 use native.Mathlib.Nat.{mul-zero, mul-suc}
 use native.Mathlib.Omega.{arith}
 use lib.ListN.{length, getD, take, drop, length-drop, take-append-drop}
-use lib.Seq.{take-add, drop-drop, getD-drop}
+use lib.Seq.{take-add, take-all, drop-drop, getD-drop}
 use borrow.Author.Tests.{eqb-true, ltb-true}
 use Rattle.tables.proofs.ListLaws.{and-left, and-right}
 use Rattle.messages.specs.Replies.{be16}
 use Rattle.steps.specs.Data.{isMark, copyMarked, eachIs}
-use Rattle.embed.specs.Bytes.{pageSize, tablesSize, markByte, markFrom, copyBytes, pageBytes, tablesBytes, fromEach, copyFrom, pageFrom, entryFrom, tablesFrom, pageMarked, marked}
+use Rattle.embed.specs.Bytes.{pageSize, tablesSize, markByte, markFrom, copyBytes, pageBytes, retiredByte, tablesBytes, fromEach, copyFrom, pageFrom, entryFrom, retiredFrom, tablesFrom, pageMarked, retiredMarked, marked}
 use Rattle.embed.specs.Exports.{tablesSized, tablesIn}
 
 -- values of one size in a row, where each is laid out as the bytes that it was read from
@@ -57,16 +57,21 @@ page-same b h e =
 abbrev pub AreBytes : List ℕ → Type 0
 AreBytes b = (i : ℕ) → getD b i 0 < 256
 
-register-same : (k : ℕ) (b : List ℕ) → length b ≡ 2 * k → AreBytes b → flatMap be16 (fromEach k 2 entryFrom b) ≡ b
+register-same : (k : ℕ) (b : List ℕ) → 2 * k ≤ length b → AreBytes b → flatMap be16 (fromEach k 2 entryFrom b) ≡ take (2 * k) b
 unfolding flatMap fromEach
-register-same zero [] n low = refl
-register-same zero (x ∷ b) n low = absurd (omega arith)
+register-same zero b n low = refl
 register-same (suc k) [] n low = absurd (omega arith)
 register-same (suc k) (x ∷ []) n low = absurd (omega arith)
 register-same (suc k) (x ∷ y ∷ b) n low =
     let high : (x * 256 + y) / 256 % 256 ≡ x = omega (arith, low 0, low 1) in
     let rest : (x * 256 + y) % 256 ≡ y = omega (arith, low 1) in
-    rw (high, rest, register-same k b (omega arith) (λ i. low (suc (suc i))))
+    let more : 2 * suc k ≡ suc (suc (2 * k)) = omega arith in
+    rw (high, rest, more, register-same k b (omega arith) (λ i. low (suc (suc i))))
+
+-- the mark of a retired frame
+retired-same : (b : List ℕ) → 1 ≤ length b → retiredMarked b ≡ true → retiredByte (retiredFrom b) ≡ take 1 b
+retired-same [] h e = absurd (omega arith)
+retired-same (x ∷ b) h e = rw (mark-same x e)
 
 whole : (b : List ℕ) → length b ≡ tablesSize → AreBytes b → marked b ≡ true → tablesBytes (tablesFrom b) ≡ b
 unfolding tablesBytes tablesFrom marked
@@ -74,10 +79,15 @@ whole [] n low e = absurd (omega arith)
 whole (p ∷ []) n low e = absurd (omega arith)
 whole (p ∷ s ∷ l) n low e =
     let at = pageSize * 64 in
-    let far : length (drop at l) ≡ 2 * 254 = rw (length-drop at l) (omega arith) in
-    let pages = row-same pageSize pageBytes pageFrom pageMarked page-same 64 l (omega arith) e in
+    let ok = and-left (eachIs 64 pageSize pageMarked l) _ e in
+    let pages = row-same pageSize pageBytes pageFrom pageMarked page-same 64 l (omega arith) ok in
+    let far : 2 * 254 ≤ length (drop at l) = rw (length-drop at l) (omega arith) in
     let register = register-same 254 (drop at l) far (λ i. rw (getD-drop at l i 0) (low (suc (suc (at + i))))) in
-    rw (pages, register, take-append-drop at l)
+    let end : drop (at + 508) l ≡ drop 508 (drop at l) = sym (drop-drop 508 at l) in
+    let last : length (drop (at + 508) l) ≡ 254 = rw (length-drop (at + 508) l) (omega arith) in
+    let marks = row-same 1 retiredByte retiredFrom retiredMarked retired-same 254 (drop (at + 508) l) (omega arith)
+    (and-right (eachIs 64 pageSize pageMarked l) _ e) in
+    rw (pages, register, marks, take-all 254 (drop (at + 508) l) (omega arith), end, take-append-drop 508 (drop at l), take-append-drop at l)
 
 -- bytes that hold tables are as many as tables take
 pub in-sized : (b : List ℕ) → tablesIn b ≡ true → length b ≡ tablesSize

@@ -1,7 +1,7 @@
 -- The tables as bytes: P, S, then each page, which is the sixteen rights, the eight entries of three bytes, the owner and n,
--- then the register, two bytes, big-endian, for each frame number.
+-- then the register, two bytes, big-endian, for each frame number, and for each frame number a byte, 1 where it is retired and else 0.
 use Prim.Native.Nat.{ℕ, zero, suc, _+_, _*_}
-use mathlib.Core.Bool.{Bool, not, cond}
+use mathlib.Core.Bool.{Bool, not, _&&_, cond}
 use mathlib.Core.List.{List, [], _∷_, _++_, flatMap}
 use lib.ListN.{getD, take, drop}
 use lib.Dec.{eqb}
@@ -9,20 +9,23 @@ use Rattle.tables.specs.declared.Copy.{Copy}
 use Rattle.tables.specs.declared.Page.{Page}
 use Rattle.tables.specs.declared.Tables.{Tables}
 use Rattle.tables.specs.Model.{sized}
-use Rattle.steps.specs.Data.{copyMarked, eachIs}
+use Rattle.steps.specs.Data.{isMark, copyMarked, eachIs}
 use Rattle.messages.specs.Replies.{be16, be16At}
 
 -- ---- sizes
 
--- how many bytes a page takes, where the register begins, and how many bytes the tables take
+-- how many bytes a page takes, where the register and the marks of retired frames begin, and how many bytes the tables take
 abbrev pub pageSize : ℕ
 pageSize = 42
 
 abbrev pub registerAt : ℕ
 registerAt = 2 + 64 * pageSize
 
+abbrev pub marksAt : ℕ
+marksAt = registerAt + 2 * 254
+
 abbrev pub tablesSize : ℕ
-tablesSize = registerAt + 2 * 254
+tablesSize = marksAt + 254
 
 -- ---- laid out
 
@@ -36,8 +39,13 @@ copyBytes c = c .frame ∷ markByte (c .current) ∷ markByte (c .recent) ∷ []
 unfoldable pub pageBytes : Page → List ℕ
 pageBytes g = g .rights ++ (flatMap copyBytes (g .copies) ++ (g .owner ∷ g .n ∷ []))
 
+-- the mark of a retired frame
+abbrev pub retiredByte : Bool → List ℕ
+retiredByte b = markByte b ∷ []
+
 unfoldable pub tablesBytes : Tables → List ℕ
-tablesBytes t = t .shared .p ∷ t .shared .s ∷ flatMap pageBytes (t .pages) ++ flatMap be16 (t .register)
+tablesBytes t =
+    t .shared .p ∷ t .shared .s ∷ flatMap pageBytes (t .pages) ++ (flatMap be16 (t .register) ++ flatMap retiredByte (t .retired))
 
 -- ---- read back
 
@@ -59,14 +67,27 @@ pageFrom b = record { rights = take 16 b; copies = fromEach 8 3 copyFrom (drop 1
 abbrev pub entryFrom : List ℕ → ℕ
 entryFrom b = be16At b 0
 
+-- the mark of a retired frame
+abbrev pub retiredFrom : List ℕ → Bool
+retiredFrom b = markFrom (getD b 0 0)
+
 unfoldable pub tablesFrom : List ℕ → Tables
-tablesFrom b = record { shared = sized (getD b 0 0) (getD b 1 0); pages = fromEach 64 pageSize pageFrom (drop 2 b); register = fromEach 254 2 entryFrom (drop registerAt b) }
+tablesFrom b =
+    record {
+      shared = sized (getD b 0 0) (getD b 1 0);
+      pages = fromEach 64 pageSize pageFrom (drop 2 b);
+      register = fromEach 254 2 entryFrom (drop registerAt b);
+      retired = fromEach 254 1 retiredFrom (drop marksAt b);
+    }
 
 -- ---- the marks
 
 unfoldable pub pageMarked : List ℕ → Bool
 pageMarked b = eachIs 8 3 copyMarked (drop 16 b)
 
--- whether both marks of each entry of every page are 0 or 1
+abbrev pub retiredMarked : List ℕ → Bool
+retiredMarked b = isMark (getD b 0 0)
+
+-- whether both marks of each entry of every page, and the marks of retired frames, are 0 or 1
 unfoldable pub marked : List ℕ → Bool
-marked b = eachIs 64 pageSize pageMarked (drop 2 b)
+marked b = eachIs 64 pageSize pageMarked (drop 2 b) && eachIs 254 1 retiredMarked (drop marksAt b)

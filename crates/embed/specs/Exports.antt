@@ -28,9 +28,9 @@ use Rattle.embed.specs.Bytes.{tablesSize, tablesBytes, tablesFrom, marke
 abbrev pub versionNumber : ℕ → ℕ → ℕ → ℕ
 versionNumber major minor patch = 65536 * major + 256 * minor + patch
 
--- 2.2.0
+-- 3.0.0
 abbrev pub version : ℕ
-version = versionNumber 2 2 0
+version = versionNumber 3 0 0
 
 -- ---- tables
 

@@ -2,7 +2,7 @@
 // type of ours: P, S, then for each of the 64 pages the sixteen rights, the
 // eight entries (frame, CURRENT, MOST RECENT; each mark is 0 or 1), the owner and n; then the
 // register, for each of the 254 frame numbers two bytes, big-endian: 8 times the page and the
-// copy, in one, or 65535 for none.
+// copy, in one, or 65535 for none; then for each of them a byte, 1 for a retired frame and else 0.
 use messages::Tally;
 use messages::answer;
 use messages::fill;
@@ -24,13 +24,13 @@ ghost use mathlib.Core.List.{[], _∷_, flatMap};
 ghost use Prim.Native.Nat.{_+_, _≤_, _<_};
 ghost use lib.ListN.{length, take, drop};
 ghost use lib.Seq.{sets};
-ghost use Rattle.steps.specs.Data.{copyMarked};
+ghost use Rattle.steps.specs.Data.{copyMarked, eachIs};
 ghost use Rattle.steps.specs.Effects.{readCall, readPlace};
 ghost use Rattle.steps.specs.Promises.{lent, rulesNumber};
 ghost use Rattle.messages.specs.Replies.{be16};
 ghost use Rattle.messages.specs.Run.{answer, run, partFrom};
 ghost use Rattle.messages.specs.Promises.{sentAlone};
-ghost use Rattle.embed.specs.Bytes.{pageSize, registerAt, tablesSize, markByte, copyBytes, pageBytes, tablesBytes, fromEach, copyFrom, pageFrom, entryFrom, tablesFrom, pageMarked, marked};
+ghost use Rattle.embed.specs.Bytes.{pageSize, registerAt, marksAt, tablesSize, markByte, copyBytes, pageBytes, retiredByte, tablesBytes, fromEach, copyFrom, pageFrom, entryFrom, retiredFrom, tablesFrom, pageMarked, retiredMarked, marked};
 ghost use Rattle.embed.specs.Private.{Small, Low};
 ghost use Rattle.embed.specs.Exports.{version, tablesIn, noTables, tablesOf, withTables, freshInto, tallyOf, withTally, storeNumber, placeNumber, packed, lentState, AnswerLent, RunLent, RepliesLent, WriteLent, readingNumber};
 ghost use Rattle.stations.specs.Writer.{writtenAs};
@@ -42,13 +42,16 @@ const PAGE_SIZE: usize = 42;
 // Where the register begins.
 const REGISTER_AT: usize = 2 + 64 * PAGE_SIZE;
 
+// Where the marks of retired frames begin.
+const MARKS_AT: usize = REGISTER_AT + 2 * 254;
+
 // How many bytes the tables take.
-const TABLES_SIZE: usize = REGISTER_AT + 2 * 254;
+const TABLES_SIZE: usize = MARKS_AT + 254;
 
 // The version of what C and Rust see: these functions, and the tables as bytes.
-const MAJOR: u32 = 2;
+const MAJOR: u32 = 3;
 
-const MINOR: u32 = 2;
+const MINOR: u32 = 0;
 
 const PATCH: u32 = 0;
 
@@ -127,6 +130,19 @@ fn register_from(bytes: &[u8]) -> [u16; 254]
     register
 }
 
+fn retired_from(bytes: &[u8]) -> [bool; 254]
+    requires { ⌜ length (now bytes) ≡ tablesSize ⌝ }
+    ensures { λ r. ⌜ r ≡ fromEach 254 1 retiredFrom (drop marksAt (now (bytes .entry))) ⌝ }
+{
+    let mut retired = [false; 254];
+    let mut i: usize = 0;
+    while i < 254 {
+        retired[i] = bytes[MARKS_AT + i] != 0;
+        i += 1;
+    }
+    retired
+}
+
 fn tables_from(bytes: &[u8]) -> Tables
     requires { ⌜ length (now bytes) ≡ tablesSize ⌝ }
     ensures { λ r. ⌜ r ≡ tablesFrom (now (bytes .entry)) ⌝ }
@@ -146,6 +162,7 @@ fn tables_from(bytes: &[u8]) -> Tables
         },
         pages: pages,
         register: register_from(bytes),
+        retired: retired_from(bytes),
     }
 }
 
@@ -173,9 +190,9 @@ fn page_marked(bytes: &[u8], at: usize) -> bool
     ok
 }
 
-fn marked(bytes: &[u8]) -> bool
+fn pages_marked(bytes: &[u8]) -> bool
     requires { ⌜ length (now bytes) ≡ tablesSize ⌝ }
-    ensures { λ r. ⌜ r ≡ marked (now (bytes .entry)) ⌝ }
+    ensures { λ r. ⌜ r ≡ eachIs 64 pageSize pageMarked (drop 2 (now (bytes .entry))) ⌝ }
 {
     let mut i: usize = 0;
     while i < 64 {
@@ -185,6 +202,30 @@ fn marked(bytes: &[u8]) -> bool
         i += 1;
     }
     true
+}
+
+// Branch-free, in vectors.
+fn retired_marked(bytes: &[u8]) -> bool
+    requires { ⌜ length (now bytes) ≡ tablesSize ⌝ }
+    ensures { λ r. ⌜ r ≡ eachIs 254 1 retiredMarked (drop marksAt (now (bytes .entry))) ⌝ }
+{
+    let mut ok = true;
+    let mut i: usize = 0;
+    while i < 254 {
+        ok = ok & (bytes[MARKS_AT + i] < 2);
+        i += 1;
+    }
+    ok
+}
+
+fn marked(bytes: &[u8]) -> bool
+    requires { ⌜ length (now bytes) ≡ tablesSize ⌝ }
+    ensures { λ r. ⌜ r ≡ marked (now (bytes .entry)) ⌝ }
+{
+    if !pages_marked(bytes) {
+        return false;
+    }
+    retired_marked(bytes)
 }
 
 // ---- the tables into bytes
@@ -253,6 +294,18 @@ fn put_register(register: [u16; 254], bytes: &mut [u8])
     }
 }
 
+fn put_retired(retired: [bool; 254], bytes: &mut [u8])
+    requires { ⌜ length (now bytes) ≡ tablesSize ⌝ }
+    ensures { λ _. ⌜ now (bytes .exit) ≡ sets (now (bytes .entry)) marksAt (flatMap retiredByte retired) ⌝ }
+{
+    let mut i: usize = 0;
+    while i < 254 {
+        let mark = retired[i];
+        bytes[MARKS_AT + i] = mark_byte(mark);
+        i += 1;
+    }
+}
+
 fn put_tables(tables: Tables, bytes: &mut [u8])
     requires { ⌜ length (now bytes) ≡ tablesSize ⌝ }
     ensures { λ _. ⌜ now (bytes .exit) ≡ tablesBytes tables ⌝ }
@@ -267,6 +320,8 @@ fn put_tables(tables: Tables, bytes: &mut [u8])
     }
     let register = tables.register;
     put_register(register, bytes);
+    let retired = tables.retired;
+    put_retired(retired, bytes);
 }
 
 // ---- lent bytes of any length

@@ -24,7 +24,7 @@ parseKind kind m =
 abbrev pub isForeign : List ℕ → Bool
 isForeign m = eqb (length m) 0 || not (eqb (getD m 0 0) 1)
 
--- "a version byte 1, a kind byte 1 to 11"; 3: "L is 1, or kind not 1 to 11"
+-- "a version byte 1, a kind byte .. as numbered above"; 3: L is 1, or the kind is unknown
 unfoldable pub parse : List ℕ → Parsed
 parse m =
     cond (isForeign m) (Refused foreignVersion)

@@ -23,7 +23,7 @@ fn turned_back(number: u8) -> Parsed
     Parsed::Refused { number }
 }
 
-// What a message of a kind from 1 to 11 asks for: 4, or its call.
+// What a message of a known kind asks for: 4, or its call.
 fn parse_kind(number: u8, m: &[u8]) -> Parsed
     ensures { λ r. ⌜ r ≡ parseKind number (now (m .entry)) ⌝ }
 {

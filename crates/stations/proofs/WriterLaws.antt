@@ -14,7 +14,7 @@ use Rattle.tables.specs.Lists.{all}
 use Rattle.tables.specs.Numbers.{unknownKind, outOfRange, shortSlip}
 use Rattle.tables.proofs.ListLaws.{and-left, and-right, or-left, or-right, all-at}
 use Rattle.steps.specs.declared.Kind.{Kind}
-use Rattle.steps.specs.declared.Kind.the-variants.{Create, DeletePage, Grant, Read, Write, MakeCopy, DeleteCopy, SetCurrent, RemoveCurrent, LookPage, LookFrame}
+use Rattle.steps.specs.declared.Kind.the-variants.{Create, DeletePage, Grant, Read, Write, MakeCopy, DeleteCopy, SetCurrent, RemoveCurrent, LookPage, LookFrame, Retire}
 use Rattle.steps.specs.declared.Call.{Call}
 use Rattle.steps.specs.Kinds.{Name, offset, bytes, names, kinds, kindNumber, isUnknown, kindOf, code, among, has, leastLength, mostLength, argument, callOf, value, values}
 use Rattle.steps.specs.Calls.{nameOutside, frameOutside, badSpan, spanOutside, outside}
@@ -172,6 +172,8 @@ kind-laws RemoveCurrent c r bs =
 kind-laws LookPage c r bs =
     record { asked-again = refl; placed-again = refl; same-values = refl; made-again = refl; values-again = refl }
 kind-laws LookFrame c r bs =
+    record { asked-again = refl; placed-again = refl; same-values = refl; made-again = refl; values-again = refl }
+kind-laws Retire c r bs =
     record { asked-again = refl; placed-again = refl; same-values = refl; made-again = refl; values-again = refl }
 
 -- ---- where they stand

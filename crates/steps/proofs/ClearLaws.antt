@@ -12,7 +12,7 @@ use borrow.Author.Tests.{eqb-true, eqb-false, ne-eqb}
 use Rattle.tables.specs.declared.Copy.{Copy}
 use Rattle.tables.specs.declared.Page.{Page}
 use Rattle.tables.specs.Lists.{all, count}
-use Rattle.tables.specs.declared.Edit.the-variants.{Created, Granted, Placed}
+use Rattle.tables.specs.declared.Edit.the-variants.{Kept, Created, Granted, Placed, Retired}
 use Rattle.tables.specs.Model.{isNull, inUse, absent, onFrame}
 use Rattle.tables.specs.Changes.{changed}
 use Rattle.tables.proofs.RuleLaws.{StandingPage, copy-at}
@@ -101,6 +101,15 @@ deleted-clears limit small g g′ st long within once f l none = go (eqb (on f g
 pub created-over : (g : Page) → absent g ≡ true → (st f : ℕ) → f ≤ 254 → on f (changed g (Created st)) ≡ on f g
 unfolding changed count
 created-over g none st f low = rw (eqb-true (g .n) 0 none) (created-on st f low)
+
+-- one that stays: on the same
+pub kept-on : (g : Page) (f : ℕ) → on f (changed g Kept) ≡ on f g
+unfolding changed
+kept-on g f = refl
+
+pub retired-on : (g : Page) (x f : ℕ) → on f (changed g (Retired x)) ≡ on f g
+unfolding changed
+retired-on g x f = refl
 
 -- one with another right: on the same
 pub granted-on : (g : Page) (o r f : ℕ) → on f (changed g (Granted o r)) ≡ on f g

@@ -13,32 +13,31 @@ use borrow.Author.Tests.{ltb-false, leb-false, eqb-false, eq-eqb, lt-ltb, le-leb
 use Rattle.tables.specs.declared.Copy.{Copy}
 use Rattle.tables.specs.declared.Page.{Page}
 use Rattle.tables.specs.declared.Tables.{Tables}
-use Rattle.tables.specs.declared.Holder.{Holder}
-use Rattle.tables.specs.declared.Holder.the-variants.{At, Free}
 use Rattle.tables.specs.declared.Edit.{Edit}
-use Rattle.tables.specs.declared.Edit.the-variants.{Created, Deleted, Granted, Staled, Placed, Added, Removed, Marked}
+use Rattle.tables.specs.declared.Edit.the-variants.{Kept, Created, Deleted, Granted, Staled, Placed, Added, Removed, Marked, Retired}
 use Rattle.tables.specs.Lists.{all, count, listed}
-use Rattle.tables.specs.Numbers.{noPage, noRight, noCopy, table}
+use Rattle.tables.specs.Numbers.{noPage, noRight, noCopy, frameHeld, table}
 use Rattle.tables.specs.Model.{frames, isNull, inUse, absent, pageAt}
 use Rattle.tables.specs.Rules.{free, isCurrent, copyRule, sound}
-use Rattle.tables.specs.Search.{isFree, shown}
+use Rattle.tables.specs.Search.{isFree, isRetired}
 use Rattle.tables.specs.Register.{registered}
-use Rattle.tables.specs.Changes.{changed}
+use Rattle.tables.specs.Changes.{changed, retiredBy}
 use Rattle.tables.proofs.ListLaws.{and-intro, and-left, and-right, or-left, or-right, all-imp, count-le, not-so}
 use Rattle.tables.proofs.RuleLaws.{GoodCopy, good-copy, current-placed, StandingPage, copy-at, length-in-use, Sound, sound-of, standing-at}
+use Rattle.tables.proofs.HolderLaws.{three-shown}
 use Rattle.tables.proofs.RegisterLaws.{registered-free}
 use Rattle.tables.proofs.Allowed.{FrameOk, RemoveOk, Allowed}
 use Rattle.tables.proofs.UsesLaws.{uses-at}
 use Rattle.tables.proofs.PageChanges.{removed-ok, staled-on, marked-on, removed-on, added-on}
 use Rattle.steps.specs.declared.Kind.{Kind}
-use Rattle.steps.specs.declared.Kind.the-variants.{Create, DeletePage, Grant, Read, Write, MakeCopy, DeleteCopy, SetCurrent, RemoveCurrent, LookPage, LookFrame}
+use Rattle.steps.specs.declared.Kind.the-variants.{Create, DeletePage, Grant, Read, Write, MakeCopy, DeleteCopy, SetCurrent, RemoveCurrent, LookPage, LookFrame, Retire}
 use Rattle.steps.specs.declared.Data.{Data}
 use Rattle.steps.specs.declared.Data.the-variants.{Empty}
 use Rattle.steps.specs.declared.Call.{Call}
 use Rattle.steps.specs.declared.View.{View}
 use Rattle.steps.specs.declared.Work.{Work}
-use Rattle.steps.specs.declared.Work.the-variants.{Clear, ClearPage, Duplicate, Spread, Show, ShowPage, ShowHolder}
-use Rattle.steps.specs.Kinds.{offset, bytes, frame, names, tells, code, among, has, leastLength}
+use Rattle.steps.specs.declared.Work.the-variants.{Nothing, Clear, ClearPage, Duplicate, Spread, Show, ShowPage, ShowHolder}
+use Rattle.steps.specs.Kinds.{offset, bytes, frame, names, tells, isRetire, code, among, has, leastLength}
 use Rattle.steps.specs.Calls.{nameOutside, frameOutside, badSpan, spanOutside}
 use Rattle.steps.specs.Steps.{Outcome, refuse, accept, test, Plan, editing, showing, laying, mayRead, mayWrite, owns, isPlaced, copyAt, currents, recents, placed, firstCurrent, standing, numbered, copying, perform, decideOn, decide}
 use Rattle.steps.specs.Data.{copyMarked, eachIs, formed}
@@ -47,7 +46,7 @@ use Rattle.steps.specs.Effects.{entries, laidIn, shownOf}
 use Rattle.steps.specs.Promises.{frameWithin, workWithin}
 use Rattle.steps.proofs.StoreLaws.{length-part, length-frame-part}
 use Rattle.steps.proofs.CopyLaws.{length-entries, entries-marked}
-use Rattle.steps.proofs.ClearLaws.{on, Clears, kept-clears, written-clears, made-clears, removed-clears, deleted-clears, created-over, granted-on, null-placed}
+use Rattle.steps.proofs.ClearLaws.{on, Clears, kept-clears, written-clears, made-clears, removed-clears, deleted-clears, created-over, kept-on, retired-on, granted-on, null-placed}
 
 -- ---- what holds of an outcome if it is accepted
 
@@ -132,12 +131,18 @@ module _ {limit : ℕ} where
 
 -- ---- one plan
 
+-- a frame that a call of kind k names is in range
+abbrev pub FrameNear : Tables → Call → Kind → Type 0
+FrameNear t c k = (has frame k && leb (frames t) (c .frame)) ≡ false
+
 -- what is known of the plan of a call of kind k on page g of tables t: its edit is allowed, what it lays and shows fits, and lies within the
--- frames; its data have the form of the kind's; it clears the frames that it frees; and its reply has at most 35 bytes for each 4 of its
--- message
+-- frames; its data have the form of the kind's; it clears the frames that it frees; its reply has at most 35 bytes for each 4 of its
+-- message; the frame that it names is in range, and it is retired by that kind alone, where it is not already
 pub record PlanOk (t : Tables) (c : Call) (size : ℕ) (k : Kind) (plan : Plan) : Type 0 where
   pub near : c .page < 64
+  pub frame-near : FrameNear t c k
   pub allowed : Allowed t (c .page) (plan .edit)
+  pub marks : retiredBy (plan .edit) ≡ cond (isRetire k && not (isRetired (registered t (c .frame)))) (c .frame) 255
   pub short : plan .len ≤ 64
   pub paid : 4 * (6 + plan .len) ≤ 35 * (2 + leastLength k)
   pub laid-fits : plan .laid ≤ 512
@@ -163,16 +168,22 @@ module _ (t : Tables) (c : Call) (size : ℕ) (near : c .page < 64) (rules : Sou
   abbrev Leaves : Edit → Work → Type 0
   Leaves e w = (bs st : List ℕ) → length bs ≡ size → length st ≡ 64 * frames t → Clears (frames t) g (changed g e) st (laidIn g w bs st)
 
-  module _ (kind : Kind) where
+  -- what a plan with this edit retires
+  abbrev Marks : Kind → Edit → Type 0
+  Marks k e = retiredBy e ≡ cond (isRetire k && not (isRetired (registered t (c .frame)))) (c .frame) 255
+
+  module _ (kind : Kind) (far : FrameNear t c kind) where
     -- one that only edits, shows or lays
-    edit-ok : tells kind ≡ Empty → (e : Edit) → Allowed t (c .page) e → ((f : ℕ) → f < frames t → on f (changed g e) ≡ on f g)
+    edit-ok : tells kind ≡ Empty → (e : Edit) → Marks kind e → Allowed t (c .page) e → ((f : ℕ) → f < frames t → on f (changed g e) ≡ on f g)
         → IfAccepted (PlanOk t c size kind) (editing e)
     unfolding shownOf laidIn formed
-    edit-ok is e a same =
+    edit-ok is e m a same =
         if-accepted
         (record {
           near = near;
+          frame-near = far;
           allowed = a;
+          marks = m;
           short = zero-le;
           paid = omega arith;
           laid-fits = zero-le;
@@ -182,17 +193,20 @@ module _ (t : Tables) (c : Call) (size : ℕ) (near : c .page < 64) (rules : Sou
           clears = λ bs st _ l. kept-clears (frames t) g (changed g e) st same;
         })
 
-    show-ok : (len : ℕ) (w : Work) → len ≤ 64 → 4 * (6 + len) ≤ 35 * (2 + leastLength kind) → workWithin g len (frames t) size w ≡ true
+    show-ok : isRetire kind ≡ false → (len : ℕ) (w : Work) → len ≤ 64 → 4 * (6 + len) ≤ 35 * (2 + leastLength kind) → workWithin g len (frames t) size w ≡ true
         → ((st : List ℕ) → length st ≡ 64 * frames t → length (shownOf g w len st) ≡ len)
         → ((st : List ℕ) → length (shownOf g w len st) ≡ len → formed (tells kind) (shownOf g w len st) ≡ true)
         → ((bs st : List ℕ) → laidIn g w bs st ≡ st)
         → IfAccepted (PlanOk t c size kind) (showing len w)
     unfolding changed
-    show-ok len w short paid inside shows form still =
+    show-ok other len w short paid inside shows form still =
+        let m : Marks kind Kept = rw other in
         if-accepted
         (record {
           near = near;
+          frame-near = far;
           allowed = tt;
+          marks = m;
           short = short;
           paid = paid;
           laid-fits = zero-le;
@@ -202,15 +216,17 @@ module _ (t : Tables) (c : Call) (size : ℕ) (near : c .page < 64) (rules : Sou
           clears = λ bs st _ l f low none. ap (λ (x : List ℕ). block x f) (still bs st) ∙ kept-clears (frames t) g g st (λ y _. refl) f low none;
         })
 
-    lay-ok : tells kind ≡ Empty → (e : Edit) (laid : ℕ) (w : Work) → Allowed t (c .page) e → laid ≤ 512
+    lay-ok : tells kind ≡ Empty → (e : Edit) → Marks kind e → (laid : ℕ) (w : Work) → Allowed t (c .page) e → laid ≤ 512
         → workWithin g 0 (frames t) size w ≡ true → ((st : List ℕ) → shownOf g w 0 st ≡ []) → Leaves e w
         → IfAccepted (PlanOk t c size kind) (laying e laid w)
     unfolding formed
-    lay-ok is e laid w a few inside none clears =
+    lay-ok is e m laid w a few inside none clears =
         if-accepted
         (record {
           near = near;
+          frame-near = far;
           allowed = a;
+          marks = m;
           short = zero-le;
           paid = omega arith;
           laid-fits = few;
@@ -222,10 +238,10 @@ module _ (t : Tables) (c : Call) (size : ℕ) (near : c .page < 64) (rules : Sou
 
   -- ---- the walk
 
-  copy-ok : (kind : Kind) → tells kind ≡ Empty → (k f : ℕ) → k < g .n → f < frames t → free t f ≡ true → absent g ≡ false
+  copy-ok : (kind : Kind) → FrameNear t c kind → tells kind ≡ Empty → isRetire kind ≡ false → (k f : ℕ) → k < g .n → f < frames t → free t f ≡ true → absent g ≡ false
       → g .n ≢ 8 → IfAccepted (PlanOk t c size kind) (copying (copyAt g k) f)
   unfolding shownOf laidIn
-  copy-ok kind is k f less low spare some room =
+  copy-ok kind far is other k f less low spare some room =
       go (isNull (copyAt g k)) refl (copy-at (stands some) k less .placed)
     where
       onto : FrameOk t f
@@ -235,11 +251,11 @@ module _ (t : Tables) (c : Call) (size : ℕ) (near : c .page < 64) (rules : Sou
           → IfAccepted (PlanOk t c size kind) (cond z (laying (Placed f) 64 (Clear f))
           (laying (Added f (copyAt g k .recent)) 64 (Duplicate (copyAt g k .frame) f)))
       go true e at =
-          lay-ok kind is (Placed f) 64 (Clear f) (record { onto = onto; stands = some }) (omega arith) (lt-ltb f (frames t) low) (λ st. refl)
+          lay-ok kind far is (Placed f) (rw other) 64 (Clear f) (record { onto = onto; stands = some }) (omega arith) (lt-ltb f (frames t) low) (λ st. refl)
           (λ bs st _ l. made-clears (frames t) g (changed g (Placed f)) st l f low
           (λ y near. null-placed (stands some) k less e f y (omega (arith, few-frames))) zeros refl)
       go false e at =
-          lay-ok kind is (Added f _) 64 (Duplicate _ f)
+          lay-ok kind far is (Added f _) (rw other) 64 (Duplicate _ f)
           (record { onto = onto; room = omega (arith, stands some .most); from = k; from-in = less; from-placed = e }) (omega arith)
           (and-intro (lt-ltb _ (frames t) (at refl)) (lt-ltb f (frames t) low)) (λ st. refl)
           (λ bs st _ l.
@@ -248,27 +264,27 @@ module _ (t : Tables) (c : Call) (size : ℕ) (near : c .page < 64) (rules : Sou
           (λ y _. added-on (stands some) f (copyAt g k .recent) y (omega (arith, stands some .most))) (block st (copyAt g k .frame))
           (length-part st (64 * copyAt g k .frame) 64 (omega arith)))
 
-  perform-ok : (k : Kind) → nameOutside c ≡ false → (has frame k && leb (frames t) (c .frame)) ≡ false
+  perform-ok : (k : Kind) → nameOutside c ≡ false → FrameNear t c k
       → (has offset k && badSpan (c .offset) (cond (has bytes k) size (c .count))) ≡ false
       → IfAccepted (PlanOk t c size k)
       (perform (record { frames = frames t; page = g; holder = registered t (c .frame) }) c size k)
   unfolding perform shownOf laidIn names tells code among formed
   perform-ok Create name far span =
       let low = ltb-false 15 (c .station) (or-left (ltb 15 (c .station)) _ (or-left (ltb 15 (c .station) || ltb 63 (c .page)) _ name)) in
-      past (not (absent g)) _ refl (λ none. edit-ok Create refl (Created (c .station)) (omega arith) (λ f l.
+      past (not (absent g)) _ refl (λ none. edit-ok Create far refl (Created (c .station)) refl (omega arith) (λ f l.
       created-over g (not-false _ none) (c .station) f (omega (arith, few-frames))))
   perform-ok DeletePage name far span =
       past-standing g (owns g (c .station)) (λ some.
       let few = count-le isPlaced (inUse g) in
       let most = stands some .most in
       let long = length-in-use (stands some) in
-      lay-ok DeletePage refl Deleted (64 * placed g) ClearPage tt (omega arith) (placed-within (stands some)) (λ st. refl)
+      lay-ok DeletePage far refl Deleted refl (64 * placed g) ClearPage tt (omega arith) (placed-within (stands some)) (λ st. refl)
       (λ bs st _ l. deleted-clears (frames t) (omega (arith, few-frames)) g (changed g Deleted) st l (placed-within (stands some))
       (λ f near. omega (arith, uses-at f (t .pages) (c .page), rules .once f near))))
   perform-ok Grant name far span =
       let low = ltb-false 2 (c .right) (or-right (ltb 15 (c .other)) _ (or-right (ltb 15 (c .station) || ltb 63 (c .page)) _ name)) in
       past-standing g (owns g (c .station)) (λ some.
-      edit-ok Grant refl (Granted (c .other) (c .right)) (record { stands = some; low = low }) (λ f _. granted-on g (c .other) (c .right) f))
+      edit-ok Grant far refl (Granted (c .other) (c .right)) refl (record { stands = some; low = low }) (λ f _. granted-on g (c .other) (c .right) f))
   perform-ok Read name far span =
       past-standing g (mayRead g (c .station)) (λ some.
       past (eqb (currents g) 0) _ refl (λ e.
@@ -276,7 +292,7 @@ module _ (t : Tables) (c : Call) (size : ℕ) (near : c .page < 64) (rules : Sou
       let low = first-low (inUse g) (currents-within (stands some)) (omega arith) in
       let some-bytes = eqb-false (c .count) 0 (or-left (eqb (c .count) 0) _ (or-right (ltb 63 (c .offset)) _ span)) in
       let span = span-within (c .offset) (c .count) span in
-      show-ok Read (c .count) (Show _ (c .offset)) (omega arith) (omega arith) (and-intro (lt-ltb _ (frames t) low) (le-leb (c .offset + c .count) 64 span))
+      show-ok Read far refl (c .count) (Show _ (c .offset)) (omega arith) (omega arith) (and-intro (lt-ltb _ (frames t) low) (le-leb (c .offset + c .count) 64 span))
       (λ st l. length-frame-part st _ (c .offset) (c .count) (omega arith) span)
       (λ st l. rw l (and-intro (le-leb 1 (c .count) (omega arith)) (le-leb (c .count) 64 (omega arith)))) (λ bs st. refl)))
   perform-ok Write name far span =
@@ -287,32 +303,32 @@ module _ (t : Tables) (c : Call) (size : ℕ) (near : c .page < 64) (rules : Sou
       let few = count-le isCurrent (inUse g) in
       let most = stands some .most in
       let long = length-in-use (stands some) in
-      lay-ok Write refl Staled (size * currents g) (Spread (c .offset)) (record { stands = some; written = omega arith })
+      lay-ok Write far refl Staled refl (size * currents g) (Spread (c .offset)) (record { stands = some; written = omega arith })
       (mul-le-mul {n₂ = 64} {m₂ = 8} (omega arith) (omega arith))
       (and-intro (le-leb (c .offset + size) 64 span) (currents-within (stands some))) (λ st. refl)
       (λ bs st b l. written-clears (frames t) g (changed g Staled) st l (λ f. staled-on (stands some) f) isCurrent (c .offset) bs
       (omega arith) (currents-within (stands some)))))
   perform-ok MakeCopy name far span =
-      past-numbered g (c .copy) (λ some less. past (not (isFree (registered t (c .frame)))) _ refl (λ is.
-      past (eqb (g .n) 8) _ refl (λ room.
+      past-numbered g (c .copy) (λ some less. past (isRetired (registered t (c .frame))) _ refl (λ kept.
+      past (not (isFree (registered t (c .frame)))) _ refl (λ is. past (eqb (g .n) 8) _ refl (λ room.
       let low = leb-false (frames t) (c .frame) far in
-      copy-ok MakeCopy refl (c .copy) (c .frame) less low (told (c .frame) low ∙ not-false _ is) some (eqb-false (g .n) 8 room))))
+      copy-ok MakeCopy far refl refl (c .copy) (c .frame) less low (told (c .frame) low ∙ not-false _ is) some (eqb-false (g .n) 8 room)))))
   perform-ok DeleteCopy name far span =
       past-numbered g (c .copy) (λ some less.
       past (copyAt g (c .copy) .recent && eqb (recents g) 1) _ refl (λ last.
       let ok : RemoveOk g (c .copy) = record { in-use = less; not-last = last } in
-      lay-ok DeleteCopy refl (Removed (c .copy)) 64 (Clear (copyAt g (c .copy) .frame)) ok (omega arith)
+      lay-ok DeleteCopy far refl (Removed (c .copy)) refl 64 (Clear (copyAt g (c .copy) .frame)) ok (omega arith)
       (lt-ltb _ (frames t) (copy-at (stands some) (c .copy) less .placed (removed-placed (stands some) (c .copy) ok))) (λ st. refl)
       (λ bs st _ l. removed-clears (frames t) g (changed g (Removed (c .copy))) st l (copyAt g (c .copy) .frame)
       (copy-at (stands some) (c .copy) less .placed (removed-placed (stands some) (c .copy) ok)) (λ f. removed-on (stands some) (c .copy) f less))))
   perform-ok SetCurrent name far span =
       past-numbered g (c .copy) (λ some less. past (isNull (copyAt g (c .copy))) _ refl (λ full.
       past (not (copyAt g (c .copy) .recent)) _ refl (λ new.
-      edit-ok SetCurrent refl (Marked (c .copy) true) (record { in-use = less; fresh = λ _. not-false _ new; placed = λ _. full })
+      edit-ok SetCurrent far refl (Marked (c .copy) true) refl (record { in-use = less; fresh = λ _. not-false _ new; placed = λ _. full })
       (λ f _. marked-on (stands some) (c .copy) true f less))))
   perform-ok RemoveCurrent name far span =
       past-numbered g (c .copy) (λ some less.
-      edit-ok RemoveCurrent refl (Marked (c .copy) false) (record { in-use = less; fresh = λ e. absurd (false≢true e); placed = λ e. absurd (false≢true e) })
+      edit-ok RemoveCurrent far refl (Marked (c .copy) false) refl (record { in-use = less; fresh = λ e. absurd (false≢true e); placed = λ e. absurd (false≢true e) })
       (λ f _. marked-on (stands some) (c .copy) false f less))
   perform-ok LookPage name far span =
       past (absent g) _ refl (λ some.
@@ -320,16 +336,22 @@ module _ (t : Tables) (c : Call) (size : ℕ) (near : c .page < 64) (rules : Sou
       let most = stands some .most in
       let long = length-in-use (stands some) in
       let data-long = length-entries (inUse g) in
-      show-ok LookPage (1 + 3 * length (inUse g)) ShowPage (omega arith) (omega arith) refl (λ st l. omega arith)
+      show-ok LookPage far refl (1 + 3 * length (inUse g)) ShowPage (omega arith) (omega arith) refl (λ st l. omega arith)
       (λ st l. and-intro (and-intro (le-leb 1 (g .n) (omega arith)) (le-leb (g .n) 8 most))
       (and-intro (eq-eqb _ (1 + 3 * g .n) (omega arith)) (subst (λ (n : ℕ). eachIs n 3 copyMarked (entries (inUse g)) ≡ true) long (entries-marked (inUse g)))))
       (λ bs st. refl))
-  perform-ok LookFrame name far span = show-ok LookFrame 3 (ShowHolder _) (omega arith) (omega arith) refl
-      (λ st l. three (registered t (c .frame))) (λ st l. eq-eqb _ 3 l) (λ bs st. refl)
+  perform-ok LookFrame name far span = show-ok LookFrame far refl 3 (ShowHolder _) (omega arith) (omega arith) refl
+      (λ st l. three-shown (registered t (c .frame))) (λ st l. eq-eqb _ 3 l) (λ bs st. refl)
+  perform-ok Retire name far span = by (isRetired (registered t (c .frame))) refl
     where
-      three : (h : Holder) → length (shown h) ≡ 3
-      three (At p k) = refl
-      three Free = refl
+      by : (b : Bool) → isRetired (registered t (c .frame)) ≡ b → IfAccepted (PlanOk t c size Retire)
+          (cond b (editing Kept) (test (not (isFree (registered t (c .frame)))) frameHeld (editing (Retired (c .frame)))))
+      by true e = edit-ok Retire far refl Kept (rw e) tt (λ f _. kept-on g f)
+      by false e =
+          past (not (isFree (registered t (c .frame)))) _ refl (λ is.
+          let low = leb-false (frames t) (c .frame) far in
+          edit-ok Retire far refl (Retired (c .frame)) (rw e) (record { in-range = low; unused = told (c .frame) low ∙ not-false _ is })
+          (λ f _. retired-on g (c .frame) f))
 
 -- ---- a call on tables that keep the rules
 
@@ -347,3 +369,17 @@ unfolding decideOn perform
 read-shows v c size is =
     past (nameOutside c) _ refl (λ _. past (frameOutside (v .frames) c) _ refl (λ _. past (spanOutside size c) _ refl (λ _.
     rw is (past-standing (v .page) (mayRead (v .page) (c .station)) (λ _. past (eqb (currents (v .page)) 0) _ refl (λ _. if-accepted refl))))))
+
+-- an accepted retire edits the tables and does nothing else
+pub retire-plans : (v : View) (c : Call) (size : ℕ) → c .kind ≡ Retire
+    → IfAccepted (λ (plan : Plan). plan ≡ record { edit = cond (isRetired (v .holder)) Kept (Retired (c .frame)); laid = 0; len = 0; work = Nothing })
+    (decideOn v c size)
+unfolding decideOn perform
+retire-plans v c size is =
+    past (nameOutside c) _ refl (λ _. past (frameOutside (v .frames) c) _ refl (λ _. past (spanOutside size c) _ refl (λ _.
+    rw is (by (isRetired (v .holder))))))
+  where
+    by : (b : Bool) → IfAccepted (λ (plan : Plan). plan ≡ record { edit = cond b Kept (Retired (c .frame)); laid = 0; len = 0; work = Nothing })
+        (cond b (editing Kept) (test (not (isFree (v .holder))) frameHeld (editing (Retired (c .frame)))))
+    by true = if-accepted refl
+    by false = past (not (isFree (v .holder))) _ refl (λ _. if-accepted refl)

@@ -1,5 +1,5 @@
 -- The kinds and their numbers, and the last arm of a `match` on either.
--- In order: the kinds by their tags; what the kinds of an arm with several do not name; a number that is none of 2 to 11; the numbers of
+-- In order: the kinds by their tags; what the kinds of an arm with several do not name; a number that is none of 2 to 12; the numbers of
 -- the kinds.
 use Prim.Native.Nat.{ℕ, _+_, _-_, _≤_, _<_}
 use mathlib.Core.Path.{_≡_, refl, sym, ap, _∙_}
@@ -16,7 +16,7 @@ use denote.Enum.Declared.{tagOf}
 use Rattle.tables.specs.Lists.{all, allBelow}
 use Rattle.tables.proofs.ListLaws.{and-left, and-right, or-left, or-right, all-at, below-at}
 use Rattle.steps.specs.declared.Kind.{Kind}
-use Rattle.steps.specs.declared.Kind.the-variants.{Create, DeletePage, Grant, Read, Write, MakeCopy, DeleteCopy, SetCurrent, RemoveCurrent, LookPage, LookFrame}
+use Rattle.steps.specs.declared.Kind.the-variants.{Create, DeletePage, Grant, Read, Write, MakeCopy, DeleteCopy, SetCurrent, RemoveCurrent, LookPage, LookFrame, Retire}
 use Rattle.steps.specs.Kinds.{Name, kinds, kindNumber, isUnknown, kindOf, has}
 use Rattle.steps.proofs.Kind as kind
 
@@ -34,6 +34,7 @@ kind-at SetCurrent = refl
 kind-at RemoveCurrent = refl
 kind-at LookPage = refl
 kind-at LookFrame = refl
+kind-at Retire = refl
 
 one-of : (f : ℕ → Bool) (ts : List ℕ) (x : ℕ) → OneOf ts x → all f ts ≡ true → f x ≡ true
 unfolding all
@@ -49,31 +50,31 @@ unnamed x ts k w e =
     not-true (has x k)
     (sym (ap (λ (y : Kind). not (has x y)) (kind-at k)) ∙ one-of (λ i. not (has x (getD kinds i Create))) ts (tagOf kind.the-type k) w e)
 
--- n is none of 2 to 11, as the last arm has it
-abbrev pub NoneOfTen : ℕ → Type 0
-NoneOfTen n =
-    ((((((((((Unit {0} × (n ≡ 2 → ⊥)) × (n ≡ 3 → ⊥)) × (n ≡ 4 → ⊥)) × (n ≡ 5 → ⊥)) × (n ≡ 6 → ⊥)) × (n ≡ 7 → ⊥)) × (n ≡ 8 → ⊥))
-    × (n ≡ 9 → ⊥)) × (n ≡ 10 → ⊥)) × (n ≡ 11 → ⊥))
+-- n is none of 2 to 12, as the last arm has it
+abbrev pub NoneOfRows : ℕ → Type 0
+NoneOfRows n =
+    (((((((((((Unit {0} × (n ≡ 2 → ⊥)) × (n ≡ 3 → ⊥)) × (n ≡ 4 → ⊥)) × (n ≡ 5 → ⊥)) × (n ≡ 6 → ⊥)) × (n ≡ 7 → ⊥)) × (n ≡ 8 → ⊥))
+    × (n ≡ 9 → ⊥)) × (n ≡ 10 → ⊥)) × (n ≡ 11 → ⊥)) × (n ≡ 12 → ⊥))
 
-pub kind-rest : (n : ℕ) → NoneOfTen n → kindOf n ≡ Create
+pub kind-rest : (n : ℕ) → NoneOfRows n → kindOf n ≡ Create
 unfolding kinds
 kind-rest n r = go (decLe n 1)
   where
     above : (m : ℕ) → m ≤ n → (n ≡ m → ⊥) → m + 1 ≤ n
     above m l e = omega arith
 
-    pred-le : 12 ≤ n → 11 ≤ n - 1
+    pred-le : 13 ≤ n → 12 ≤ n - 1
     pred-le h = omega arith
 
     go : Dec (n ≤ 1) → kindOf n ≡ Create
     go (yes h) = ap (λ (i : ℕ). getD kinds i Create) (let e : n - 1 ≡ 0 = omega arith in e)
     go (no h) =
-        let two = above 2 (let b : 2 ≤ n = omega (arith, h) in b) (r .0 .0 .0 .0 .0 .0 .0 .0 .0 .1) in
-        let four = above 4 (above 3 two (r .0 .0 .0 .0 .0 .0 .0 .0 .1)) (r .0 .0 .0 .0 .0 .0 .0 .1) in
-        let six = above 6 (above 5 four (r .0 .0 .0 .0 .0 .0 .1)) (r .0 .0 .0 .0 .0 .1) in
-        let eight = above 8 (above 7 six (r .0 .0 .0 .0 .1)) (r .0 .0 .0 .1) in
-        let ten = above 10 (above 9 eight (r .0 .0 .1)) (r .0 .1) in
-        List·getD-eq-default kinds Create (pred-le (above 11 ten (r .1)))
+        let two = above 2 (let b : 2 ≤ n = omega (arith, h) in b) (r .0 .0 .0 .0 .0 .0 .0 .0 .0 .0 .1) in
+        let four = above 4 (above 3 two (r .0 .0 .0 .0 .0 .0 .0 .0 .0 .1)) (r .0 .0 .0 .0 .0 .0 .0 .0 .1) in
+        let six = above 6 (above 5 four (r .0 .0 .0 .0 .0 .0 .0 .1)) (r .0 .0 .0 .0 .0 .0 .1) in
+        let eight = above 8 (above 7 six (r .0 .0 .0 .0 .0 .1)) (r .0 .0 .0 .0 .1) in
+        let ten = above 10 (above 9 eight (r .0 .0 .0 .1)) (r .0 .0 .1) in
+        List·getD-eq-default kinds Create (pred-le (above 12 (above 11 ten (r .0 .1)) (r .1)))
 
 -- ---- the numbers of the kinds
 
@@ -91,6 +92,7 @@ numbered SetCurrent = (refl, refl)
 numbered RemoveCurrent = (refl, refl)
 numbered LookPage = (refl, refl)
 numbered LookFrame = (refl, refl)
+numbered Retire = (refl, refl)
 
 pub kind-numbered : (k : Kind) → kindOf (kindNumber k) ≡ k
 kind-numbered k = numbered k .0

@@ -6,7 +6,7 @@ use mathlib.Core.List.{List, [], _∷_, _++_}
 use lib.ListN.{length, getD}
 use lib.Dec.{ltb, eqb}
 use Rattle.steps.specs.declared.Kind.{Kind}
-use Rattle.steps.specs.declared.Kind.the-variants.{Create, DeletePage, Grant, Read, Write, MakeCopy, DeleteCopy, SetCurrent, RemoveCurrent, LookPage, LookFrame}
+use Rattle.steps.specs.declared.Kind.the-variants.{Create, DeletePage, Grant, Read, Write, MakeCopy, DeleteCopy, SetCurrent, RemoveCurrent, LookPage, LookFrame, Retire}
 use Rattle.steps.specs.declared.Data.{Data}
 use Rattle.steps.specs.declared.Data.the-variants as Data
 use Rattle.steps.specs.declared.Call.{Call}
@@ -36,6 +36,8 @@ names SetCurrent = page ∷ copy ∷ []
 names RemoveCurrent = page ∷ copy ∷ []
 names LookPage = page ∷ []
 names LookFrame = frame ∷ []
+-- document 02, request [5]: "retire (frame)"
+names Retire = frame ∷ []
 
 -- what the data of its accepted reply are: "then the bytes of a read or look"
 unfoldable pub tells : Kind → Data
@@ -50,8 +52,9 @@ tells SetCurrent = Data.Empty
 tells RemoveCurrent = Data.Empty
 tells LookPage = Data.Copies
 tells LookFrame = Data.Holder
+tells Retire = Data.Empty
 
--- "a kind byte 1 to 11 as numbered above"
+-- "a kind byte .. as numbered above", 1 to 12
 abbrev pub kindNumber : Kind → ℕ
 kindNumber Create = 1
 kindNumber DeletePage = 2
@@ -64,13 +67,19 @@ kindNumber SetCurrent = 8
 kindNumber RemoveCurrent = 9
 kindNumber LookPage = 10
 kindNumber LookFrame = 11
+kindNumber Retire = 12
+
+-- document 02, request [5]: "Kind 12, retire (frame)"
+abbrev pub isRetire : Kind → Bool
+isRetire k = eqb (kindNumber k) 12
 
 -- the kinds in the order of their numbers
 unfoldable pub kinds : List Kind
 kinds =
-    Create ∷ DeletePage ∷ Grant ∷ Read ∷ Write ∷ MakeCopy ∷ DeleteCopy ∷ SetCurrent ∷ RemoveCurrent ∷ LookPage ∷ LookFrame ∷ []
+    Create ∷ DeletePage ∷ Grant ∷ Read ∷ Write ∷ MakeCopy ∷ DeleteCopy ∷ SetCurrent ∷ RemoveCurrent ∷ LookPage ∷ LookFrame
+    ∷ Retire ∷ []
 
--- 3: "kind not 1 to 11"
+-- 3: the kind is none of those above
 abbrev pub isUnknown : ℕ → Bool
 isUnknown number = eqb number 0 || ltb (length kinds) number
 

@@ -15,7 +15,7 @@ use Rattle.tables.specs.Numbers.{accepted}
 use Rattle.tables.specs.Model.{inUse, absent, noCopyEntry, pageAt}
 use Rattle.tables.specs.Rules.{isRecent, isCurrent}
 use Rattle.tables.specs.Register.{registered}
-use Rattle.tables.specs.Changes.{changed, edited, after}
+use Rattle.tables.specs.Changes.{changed, retiredBy, edited, after}
 use Rattle.tables.specs.Keep.{unchanged}
 use Rattle.steps.specs.declared.Call.{Call}
 use Rattle.steps.specs.declared.Which.{Which}
@@ -99,7 +99,7 @@ decision p g v =
       moved = not (unchanged g (v .edit));
       laid = v .laid;
       len = v .len;
-      change = record { page = p; becomes = changed g (v .edit) };
+      change = record { page = p; becomes = changed g (v .edit); retires = retiredBy (v .edit) };
       before = g;
       work = v .work;
     }
@@ -124,7 +124,7 @@ ruled number d =
       moved = false;
       laid = 0;
       len = 0;
-      change = record { page = d .change .page; becomes = d .before };
+      change = record { page = d .change .page; becomes = d .before; retires = 255 };
       before = d .before;
       work = Nothing;
     })

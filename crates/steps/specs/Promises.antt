@@ -14,7 +14,7 @@ use Rattle.tables.specs.Lists.{all}
 use Rattle.tables.specs.Numbers.{accepted, brokenTables, misfitStore}
 use Rattle.tables.specs.Model.{inUse, pageAt}
 use Rattle.tables.specs.Rules.{isCurrent, sound}
-use Rattle.tables.specs.Changes.{changed, after}
+use Rattle.tables.specs.Changes.{changed, retiredBy, after}
 use Rattle.tables.specs.Keep.{unchanged}
 use Rattle.steps.specs.declared.Call.{Call}
 use Rattle.steps.specs.declared.Form.{Form}
@@ -67,7 +67,7 @@ editOf (refuse n) = Kept
 editOf (accept plan) = plan .edit
 
 -- The decision of a call c on tables t that comes to o, with the record of the page that it names: a number above 63 is refused whatever
--- the record is. The tables need not be moved where the edit is seen at a glance to leave the record as it is.
+-- the record is. The tables need not be moved where the edit is seen at a glance to leave them as they are.
 abbrev pub decisionOf : Tables → Call → Outcome Plan → Decision
 decisionOf t c o =
     record {
@@ -75,7 +75,7 @@ decisionOf t c o =
       moved = not (unchanged (pageAt t (c .page % 64)) (editOf o));
       laid = laidOf o;
       len = lenOf o;
-      change = record { page = c .page; becomes = changed (pageAt t (c .page % 64)) (editOf o) };
+      change = record { page = c .page; becomes = changed (pageAt t (c .page % 64)) (editOf o); retires = retiredBy (editOf o) };
       before = pageAt t (c .page % 64);
       work = workOf o;
     }

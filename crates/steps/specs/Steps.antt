@@ -10,15 +10,15 @@ use Rattle.tables.specs.declared.Page.{Page}
 use Rattle.tables.specs.declared.Tables.{Tables}
 use Rattle.tables.specs.declared.Holder.{Holder}
 use Rattle.tables.specs.declared.Edit.{Edit}
-use Rattle.tables.specs.declared.Edit.the-variants.{Kept, Created, Deleted, Granted, Staled, Placed, Added, Removed, Marked}
+use Rattle.tables.specs.declared.Edit.the-variants.{Kept, Created, Deleted, Granted, Staled, Placed, Added, Removed, Marked, Retired}
 use Rattle.tables.specs.Lists.{count}
-use Rattle.tables.specs.Numbers.{accepted, brokenTables, misfitStore, outOfRange, pageStands, noPage, noRight, nothingCurrent, noCopy, frameHeld, eightCopies, lastRecent, stale, noFrame}
+use Rattle.tables.specs.Numbers.{accepted, brokenTables, misfitStore, outOfRange, pageStands, noPage, noRight, nothingCurrent, noCopy, frameHeld, eightCopies, lastRecent, stale, noFrame, retired}
 use Rattle.tables.specs.Model.{frames, isNull, inUse, absent, noCopyEntry, pageAt}
 use Rattle.tables.specs.Rules.{isCurrent, isRecent, sound}
-use Rattle.tables.specs.Search.{isFree}
+use Rattle.tables.specs.Search.{isFree, isRetired}
 use Rattle.tables.specs.Register.{registered}
 use Rattle.steps.specs.declared.Kind.{Kind}
-use Rattle.steps.specs.declared.Kind.the-variants.{Create, DeletePage, Grant, Read, Write, MakeCopy, DeleteCopy, SetCurrent, RemoveCurrent, LookPage, LookFrame}
+use Rattle.steps.specs.declared.Kind.the-variants.{Create, DeletePage, Grant, Read, Write, MakeCopy, DeleteCopy, SetCurrent, RemoveCurrent, LookPage, LookFrame, Retire}
 use Rattle.steps.specs.declared.Act.the-variants as Act
 use Rattle.steps.specs.declared.Call.{Call}
 use Rattle.steps.specs.declared.View.{View}
@@ -42,7 +42,7 @@ abbrev pub mapped : {A B : Type 0} → (A → B) → Outcome A → Outcome B
 mapped f (refuse n) = refuse n
 mapped f (accept a) = accept (f a)
 
--- What an accepted call does: the edit of its page's record, the bytes laid, the length of its data, and what it lays or shows. "Every accepted
+-- What an accepted call does: its edit of the tables, the bytes laid, the length of its data, and what it lays or shows. "Every accepted
 -- reply states the bytes laid: 64 for make copy, for write its length times the number of current copies"; since request [2] of
 -- document 02, 64 also for each frame that a delete frees; else 0.
 pub record Plan : Type 0 where
@@ -51,7 +51,7 @@ pub record Plan : Type 0 where
   pub len : ℕ
   pub work : Work
 
--- only the record changes
+-- only the tables change
 abbrev pub editing : Edit → Outcome Plan
 editing e = accept (record { edit = e; laid = 0; len = 0; work = Nothing })
 
@@ -104,7 +104,7 @@ unfoldable pub firstCurrent : List Copy → ℕ
 firstCurrent [] = 255
 firstCurrent (c ∷ cs) = cond (c .current) (c .frame) (firstCurrent cs)
 
--- ---- the steps, numbers 8 to 17 in the order of document 01
+-- ---- the steps, numbers 8 to 17 and 20 in the order of the papers
 
 -- 9, 10: the page stands, and the station may act on it
 abbrev pub standing : Page → Bool → Outcome Plan → Outcome Plan
@@ -120,7 +120,8 @@ copying c f = cond (isNull c) (laying (Placed f) 64 (Clear f)) (laying (Added f 
 
 -- The call c on what it looks at, v; a write has `size` bytes. Document 02, request [2], of both deletes: "a frame that is freed .. is filled
 -- with 64 zeros, fast or slow", and "Each filled frame counts 64 bytes laid". A copy that delete copy accepts has a frame: a null one is
--- alone and MOST RECENT, so 15.
+-- alone and MOST RECENT, so 15. Request [5]: "20 .., make copy to such a frame, directly before 13"; "retire (frame), marks a free frame ..; a
+-- frame already retired is accepted without change", "Retire checks 7, then 13".
 unfoldable pub perform : View → Call → ℕ → Kind → Outcome Plan
 perform v c size Create = test (not (absent (v .page))) pageStands (editing (Created (c .station)))
 perform v c size DeletePage =
@@ -133,8 +134,8 @@ perform v c size Write =
     standing (v .page) (mayWrite (v .page) (c .station)) (test (eqb (currents (v .page)) 0) nothingCurrent
     (laying Staled (size * currents (v .page)) (Spread (c .offset))))
 perform v c size MakeCopy =
-    numbered (v .page) (c .copy) (test (not (isFree (v .holder))) frameHeld (test (eqb (v .page .n) 8) eightCopies
-    (copying (copyAt (v .page) (c .copy)) (c .frame))))
+    numbered (v .page) (c .copy) (test (isRetired (v .holder)) retired (test (not (isFree (v .holder))) frameHeld
+    (test (eqb (v .page .n) 8) eightCopies (copying (copyAt (v .page) (c .copy)) (c .frame)))))
 perform v c size DeleteCopy =
     numbered (v .page) (c .copy) (test (copyAt (v .page) (c .copy) .recent && eqb (recents (v .page)) 1) lastRecent
     (laying (Removed (c .copy)) 64 (Clear (copyAt (v .page) (c .copy) .frame))))
@@ -144,6 +145,8 @@ perform v c size SetCurrent =
 perform v c size RemoveCurrent = numbered (v .page) (c .copy) (editing (Marked (c .copy) false))
 perform v c size LookPage = test (absent (v .page)) noPage (showing (1 + 3 * length (inUse (v .page))) ShowPage)
 perform v c size LookFrame = showing 3 (ShowHolder (v .holder))
+perform v c size Retire =
+    cond (isRetired (v .holder)) (editing Kept) (test (not (isFree (v .holder))) frameHeld (editing (Retired (c .frame))))
 
 -- 7 before what a call else comes to, with so many frames
 abbrev pub ranged : {A : Type 0} → ℕ → ℕ → Call → Outcome A → Outcome A
@@ -156,7 +159,7 @@ decideOn v c size = ranged (v .frames) size c (perform v c size (c .kind))
 
 -- ---- a call on the tables
 
--- the page that it acts on
+-- the page that it acts on; for a call that names none it is page 0, whose record stays as it is
 abbrev pub pageFor : Tables → Call → ℕ
 pageFor t c = c .page
 

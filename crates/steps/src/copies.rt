@@ -7,6 +7,7 @@ use crate::LAST_RECENT;
 use crate::NO_COPY;
 use crate::NO_FRAME;
 use crate::NO_PAGE;
+use crate::RETIRED;
 use crate::STALE;
 use crate::Verdict;
 use crate::View;
@@ -80,6 +81,9 @@ pub(crate) fn make_copy(view: View, call: Call) -> Verdict
     let number = unnumbered(page, call.copy);
     if number != ACCEPTED {
         return refused(number);
+    }
+    if holder.is_retired() {
+        return refused(RETIRED);
     }
     if !holder.is_free() {
         return refused(FRAME_HELD);

@@ -15,6 +15,7 @@ use crate::copies::delete_copy;
 use crate::copies::make_copy;
 use crate::copies::remove_current;
 use crate::copies::set_current;
+use crate::frames::retire;
 use crate::looks::look_page;
 use crate::pages::create;
 use crate::pages::delete_page;
@@ -23,6 +24,7 @@ use crate::range::outside;
 use tables::Change;
 use tables::Edit;
 use tables::Holder;
+use tables::NULL_FRAME;
 use tables::Page;
 use tables::Shared;
 use tables::Tables;
@@ -81,6 +83,7 @@ fn verdict(view: View, call: Call, size: usize) -> Verdict
             let holder = view.holder;
             accepted(0, 3, Edit::Kept, Work::ShowHolder { holder })
         }
+        Kind::Retire => retire(view, call),
     }
 }
 
@@ -103,6 +106,7 @@ fn decided(shared: Shared, page: Page, holder: Holder, call: Call, size: usize) 
     let before = page;
     let edit = v.edit;
     let work = v.work;
+    let retires = edit.retires();
     let moved = !before.keeps(edit);
     let mut becomes = before;
     if moved {
@@ -116,6 +120,7 @@ fn decided(shared: Shared, page: Page, holder: Holder, call: Call, size: usize) 
         change: Change {
             page: call.page,
             becomes,
+            retires,
         },
         before,
         work,
@@ -181,6 +186,7 @@ fn ruled(number: u8, d: Decision) -> Decision
         change: Change {
             page,
             becomes: before,
+            retires: NULL_FRAME,
         },
         before,
         work: Work::Nothing,

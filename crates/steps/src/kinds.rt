@@ -72,6 +72,7 @@ pub fn form_of(number: u8, a: u8, b: u8, c: u8, d: u8) -> Form
         ),
         10 => row(Kind::LookPage, 3, 3, Data::Copies, 0, a, 0, 0, 0, 0, 0, 0),
         11 => row(Kind::LookFrame, 3, 3, Data::Holder, 0, 0, 0, 0, 0, 0, 0, a),
+        12 => row(Kind::Retire, 3, 3, Data::Empty, 0, 0, 0, 0, 0, 0, 0, a),
         _ => row(Kind::Create, 4, 4, Data::Empty, a, b, 0, 0, 0, 0, 0, 0),
     }
 }
@@ -92,6 +93,7 @@ pub fn number_of(kind: Kind) -> u8
         Kind::RemoveCurrent => 9,
         Kind::LookPage => 10,
         Kind::LookFrame => 11,
+        Kind::Retire => 12,
     }
 }
 

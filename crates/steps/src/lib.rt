@@ -4,6 +4,7 @@ mod access;
 mod copies;
 mod each;
 mod effects;
+mod frames;
 mod judgement;
 mod kinds;
 mod looks;
@@ -29,7 +30,7 @@ use tables::Holder;
 use tables::Page;
 use tables::Tables;
 
-// The numbers of document 01's table, "Why a message is turned back".
+// The numbers of document 01's table, "Why a message is turned back", and of document 02.
 pub const ACCEPTED: u8 = 0;
 
 pub const BROKEN_TABLES: u8 = 5;
@@ -58,6 +59,8 @@ pub const STALE: u8 = 16;
 
 pub const NO_FRAME: u8 = 17;
 
+pub const RETIRED: u8 = 20;
+
 // The kinds of call, in the order of their numbers from 1 on.
 pub enum Kind {
     Create,
@@ -71,10 +74,11 @@ pub enum Kind {
     RemoveCurrent,
     LookPage,
     LookFrame,
+    Retire,
 }
 
 // How many kinds there are.
-pub const KINDS: u8 = 11;
+pub const KINDS: u8 = 12;
 
 // A step that is asked for, with its arguments; one that its kind does not have is 0. The bytes of a write come beside it.
 pub struct Call {
@@ -148,8 +152,8 @@ pub enum Work {
     ShowHolder { holder: Holder },
 }
 
-// What a call comes to on what it looks at: its number, the bytes laid, the length of its data, the edit of its page's
-// record, and what is to be laid or shown.
+// What a call comes to on what it looks at: its number, the bytes laid, the length of its data, its edit of the tables,
+// and what is to be laid or shown.
 pub struct Verdict {
     pub number: u8,
     pub laid: u16,

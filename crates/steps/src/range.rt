@@ -23,6 +23,7 @@ fn names_frame(kind: Kind) -> bool
     match kind {
         Kind::MakeCopy => true,
         Kind::LookFrame => true,
+        Kind::Retire => true,
         _ => false,
     }
 }

@@ -7,7 +7,7 @@ use lib.ListN.{getD}
 use Rattle.tables.specs.declared.Page.{Page}
 use Rattle.tables.specs.declared.Tables.{Tables}
 use Rattle.tables.specs.declared.Edit.{Edit}
-use Rattle.tables.specs.declared.Edit.the-variants.{Kept, Created, Deleted, Granted, Staled, Placed, Added, Removed, Marked}
+use Rattle.tables.specs.declared.Edit.the-variants.{Kept, Created, Deleted, Granted, Staled, Placed, Added, Removed, Marked, Retired}
 use Rattle.tables.specs.Lists.{count}
 use Rattle.tables.specs.Model.{frames, isNull, inUse, absent, noCopyEntry, pageAt}
 use Rattle.tables.specs.Rules.{free, isRecent, isCurrent}
@@ -22,7 +22,7 @@ pub record StaleOk (g : Page) : Type 0 where
   pub stands : absent g ≡ false
   pub written : 1 ≤ count isCurrent (inUse g)
 
--- a frame for a new copy
+-- a frame for a new copy, or to be retired
 pub record FrameOk (t : Tables) (frame : ℕ) : Type 0 where
   pub in-range : frame < frames t
   pub unused : free t frame ≡ true
@@ -62,6 +62,7 @@ AllowedOn t g (Placed frame) = PlaceOk t g frame
 AllowedOn t g (Added frame recent) = AddOk t g frame
 AllowedOn t g (Removed k) = RemoveOk g k
 AllowedOn t g (Marked k current) = MarkOk g k current
+AllowedOn t g (Retired frame) = FrameOk t frame
 
 -- of page p
 abbrev pub Allowed : Tables → ℕ → Edit → Type 0

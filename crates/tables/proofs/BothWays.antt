@@ -1,6 +1,6 @@
 -- A right register, in both directions: each copy's frame names it, and no entry names anything else.
 use Prim.Native.Nat.{ℕ, zero, suc, _+_, _≤_, _<_}
-use mathlib.Core.Bool.{Bool, true, false, cond}
+use mathlib.Core.Bool.{Bool, true, false, cond, true≢false}
 use mathlib.Core.List.{List, [], _∷_}
 use mathlib.Core.Path.{_≡_, refl, sym, ap, subst, _∙_}
 use native.Mathlib.Nat.{not-suc-le-zero, le-of-suc-le-suc, zero-add}
@@ -12,10 +12,10 @@ use Rattle.tables.specs.declared.Copy.{Copy}
 use Rattle.tables.specs.declared.Page.{Page}
 use Rattle.tables.specs.declared.Tables.{Tables}
 use Rattle.tables.specs.declared.Holder.{Holder}
-use Rattle.tables.specs.declared.Holder.the-variants.{At, Free}
+use Rattle.tables.specs.declared.Holder.the-variants.{At, Free, Retired}
 use Rattle.tables.specs.Lists.{count}
-use Rattle.tables.specs.Model.{frames, noHolder, onFrame, inUse, freshPage, noCopyEntry, noPageRecord, pageAt}
-use Rattle.tables.specs.Search.{inCopies, inPages}
+use Rattle.tables.specs.Model.{frames, noHolder, retiredAt, onFrame, inUse, freshPage, noCopyEntry, noPageRecord, pageAt}
+use Rattle.tables.specs.Search.{inCopies, inPages, searched, isRetired}
 use Rattle.tables.specs.Rules.{sound}
 use Rattle.tables.specs.Register.{entry, entryOf, registered}
 use Rattle.tables.proofs.ListLaws.{count-at}
@@ -62,6 +62,7 @@ abbrev Found : ℕ → ℕ → List Page → Holder → Type 0
 Found f b gs (At p k) =
     (i : ℕ) × (p ≡ b + i) × (i < length gs) × (k < length (inUse (getD gs i noPageRecord))) × (getD (inUse (getD gs i noPageRecord)) k noCopyEntry .frame ≡ f)
 Found f b gs Free = Unit {0}
+Found f b gs Retired = Unit {0}
 
 found-copies : (f p j : ℕ) (cs : List Copy) (h : Holder) (P : Holder → Type 0)
     → ((k : ℕ) → k < length cs → getD cs k noCopyEntry .frame ≡ f → P (At p (j + k))) → P h → P (inCopies f p j cs h)
@@ -85,13 +86,20 @@ found-pages f b (g ∷ gs) =
     later : (h : Holder) → Found f (b + 1) gs h → Found f b (g ∷ gs) h
     later (At p k) w = (suc (w .0), omega (arith, w .1), omega (arith, w .2), w .3, w .4)
     later Free w = tt
+    later Retired w = tt
+
+-- what shows a copy is not retired
+not-retired : (b : Bool) (h : Holder) {p k : ℕ} → cond b Retired h ≡ At p k → h ≡ At p k
+not-retired true h e = absurd (true≢false (ap isRetired e))
+not-retired false h e = e
 
 -- of sound tables, the holder that a register entry names is a copy in use on that frame
 pub named-copy : (t : Tables) (f p k : ℕ) → sound t ≡ true → f < frames t → registered t f ≡ At p k
     → (p < 64) × (k < length (inUse (pageAt t p))) × (getD (inUse (pageAt t p)) k noCopyEntry .frame ≡ f)
 named-copy t f p k ok h e =
     let s = sound-of t ok in
-    let w : Found f 0 (t .pages) (At p k) = subst (Found f 0 (t .pages)) (sym (registered-is t f ok h) ∙ e) (found-pages f 0 (t .pages)) in
+    let w : Found f 0 (t .pages) (At p k) =
+    subst (Found f 0 (t .pages)) (not-retired (retiredAt t f) (searched t f) (sym (registered-is t f ok h) ∙ e)) (found-pages f 0 (t .pages)) in
     let q : w .0 ≡ p = omega (arith, w .1) in
     subst (λ (i : ℕ). (i < 64) × (k < length (inUse (pageAt t i))) × (getD (inUse (pageAt t i)) k noCopyEntry .frame ≡ f)) q
     (rw (s .pages-long) at (w .2), w .3, w .4)

@@ -15,7 +15,7 @@ use Rattle.tables.specs.declared.Copy.{Copy}
 use Rattle.tables.specs.declared.Page.{Page}
 use Rattle.tables.specs.declared.Tables.{Tables}
 use Rattle.tables.specs.declared.Edit.{Edit}
-use Rattle.tables.specs.declared.Edit.the-variants.{Kept, Created, Deleted, Granted, Staled, Placed, Added, Removed, Marked}
+use Rattle.tables.specs.declared.Edit.the-variants.{Kept, Created, Deleted, Granted, Staled, Placed, Added, Removed, Marked, Retired}
 use Rattle.tables.specs.Lists.{all, count}
 use Rattle.tables.specs.Model.{inUse, freshCopy, freshPage, noCopyEntry, noPageRecord, pageAt}
 use Rattle.tables.specs.Changes.{created, withCopies, staleCopy, newCopy, closeGap, markedCopy, changed, edited, after}
@@ -107,6 +107,7 @@ changed-rights g (Added f r) e = by (ltb (g .n) 8)
     by false = e
 changed-rights g (Removed k) e = e
 changed-rights g (Marked k b) e = e
+changed-rights g (Retired f) e = e
 
 -- and the eight entries
 pub changed-copies : (g : Page) (c : Edit) → length (g .copies) ≡ 8 → length (changed g c .copies) ≡ 8
@@ -124,6 +125,7 @@ changed-copies g (Added f r) e = by (ltb (g .n) 8)
     by false = e
 changed-copies g (Removed k) e = gap-length (g .copies) k ∙ e
 changed-copies g (Marked k b) e = length-set (g .copies) k (markedCopy (getD (g .copies) k noCopyEntry) b) ∙ e
+changed-copies g (Retired f) e = e
 
 -- ---- the copies in use, and the entries after them
 

@@ -1,6 +1,6 @@
 -- Fresh tables meet the table rules, and no frame of theirs is used.
 use Prim.Native.Nat.{ℕ, zero, suc, _+_, _≤_}
-use mathlib.Core.Bool.{true}
+use mathlib.Core.Bool.{true, false}
 use mathlib.Core.Path.{_≡_, refl, sym, ap, _∙_}
 use native.Mathlib.Omega.{arith}
 use lib.ListN.{replicate, length-replicate, getD-replicate}
@@ -35,4 +35,7 @@ fresh-sound p s hp hs =
       once = λ f h. let k = uses-fresh f 64 in omega arith;
       register-long = length-replicate 254 noHolder;
       register-ok = λ f h. getD-replicate 254 f noHolder noHolder h ∙ ap entryOf (sym (nobody f 0 (replicate 64 freshPage) (uses-fresh f 64)));
+      marks-long = length-replicate 254 false;
+      marks-past = λ f past h. getD-replicate 254 f false false h;
+      marks-free = λ f h is. uses-fresh f 64;
     })

@@ -1,21 +1,22 @@
 -- The search for a frame's holder: whom it passes over, and that a free frame is one that it does not find.
 use Prim.Native.Nat.{ℕ, _+_}
-use mathlib.Core.Bool.{Bool, true, false, _&&_, cond}
+use mathlib.Core.Bool.{Bool, true, false, not, _&&_, cond}
 use mathlib.Core.List.{List, [], _∷_}
 use mathlib.Core.Path.{_≡_, refl, sym, ap, _∙_}
 use native.Mathlib.Nat.{zero-add}
 use native.Mathlib.Omega.{arith}
 use lib.Dec.{eqb}
-use borrow.Author.Tests.{eqb-true, eq-eqb, ne-eqb}
+use lib.ListN.{length}
+use borrow.Author.Tests.{eqb-true, eq-eqb, ne-eqb, not-true}
 use Rattle.tables.specs.declared.Copy.{Copy}
 use Rattle.tables.specs.declared.Page.{Page}
 use Rattle.tables.specs.declared.Tables.{Tables}
 use Rattle.tables.specs.declared.Holder.{Holder}
-use Rattle.tables.specs.declared.Holder.the-variants.{At, Free}
+use Rattle.tables.specs.declared.Holder.the-variants.{At, Free, Retired}
 use Rattle.tables.specs.Lists.{count}
-use Rattle.tables.specs.Model.{inUse, onFrame}
+use Rattle.tables.specs.Model.{retiredAt, inUse, onFrame}
 use Rattle.tables.specs.Rules.{uses, free}
-use Rattle.tables.specs.Search.{inCopies, inPages, holderOf, isFree}
+use Rattle.tables.specs.Search.{inCopies, inPages, searched, holderOf, shown, isFree, isRetired}
 use Rattle.tables.proofs.ListLaws.{and-left, and-right, iff-eq, and-intro}
 
 -- ---- whom it passes over
@@ -66,10 +67,34 @@ free-pages f p (g ∷ gs) =
     free-copies f p 0 (inUse g) (inPages f (p + 1) gs)
     ∙ rw (free-pages f (p + 1) gs) (sum-zero (count (onFrame f) (inUse g)) (uses f gs))
 
--- a free frame is one that the search does not find
+-- no mark is on it, and no copy
+pub free-unmarked : (t : Tables) (f : ℕ) → free t f ≡ true → retiredAt t f ≡ false
+unfolding free
+free-unmarked t f e = not-true (retiredAt t f) (and-left (not (retiredAt t f)) _ e)
+
+pub free-nobody : (t : Tables) (f : ℕ) → free t f ≡ true → uses f (t .pages) ≡ 0
+unfolding free
+free-nobody t f e = eqb-true (uses f (t .pages)) 0 (and-right (not (retiredAt t f)) _ e)
+
+-- a free frame is one that the search does not find and that is not retired
 pub free-holder : (t : Tables) (f : ℕ) → free t f ≡ isFree (holderOf t f)
 unfolding free
-free-holder t f = sym (free-pages f 0 (t .pages))
+free-holder t f = go (retiredAt t f)
+  where
+    go : (b : Bool) → (not b && eqb (uses f (t .pages)) 0) ≡ isFree (cond b Retired (searched t f))
+    go true = refl
+    go false = sym (free-pages f 0 (t .pages))
+
+-- the holder of a frame shows as retired just where the frame is marked
+pub retired-shown : (b : Bool) (h : Holder) → isRetired h ≡ false → isRetired (cond b Retired h) ≡ b
+retired-shown true h e = refl
+retired-shown false h e = e
+
+-- what is shown of a frame has three bytes
+pub three-shown : (h : Holder) → length (shown h) ≡ 3
+three-shown (At p k) = refl
+three-shown Free = refl
+three-shown Retired = refl
 
 -- so the holder that it finds tells it
 pub told-free : (t : Tables) (f : ℕ) {h : Holder} → h ≡ holderOf t f → (h ≡ holderOf t f) × (isFree h ≡ free t f)

@@ -14,15 +14,15 @@ use Rattle.tables.specs.declared.Copy.{Copy}
 use Rattle.tables.specs.declared.Page.{Page}
 use Rattle.tables.specs.declared.Tables.{Tables}
 use Rattle.tables.specs.declared.Holder.{Holder}
-use Rattle.tables.specs.declared.Holder.the-variants.{At, Free}
+use Rattle.tables.specs.declared.Holder.the-variants.{At, Free, Retired}
 use Rattle.tables.specs.Lists.{count}
-use Rattle.tables.specs.Model.{frames, noHolder, onFrame, inUse, freshPage, noPageRecord, pageAt}
-use Rattle.tables.specs.Search.{inCopies, inPages, holderOf, isFree}
+use Rattle.tables.specs.Model.{frames, noHolder, retiredAt, onFrame, inUse, freshPage, noPageRecord, pageAt}
+use Rattle.tables.specs.Search.{inCopies, inPages, searched, holderOf, isFree, isRetired}
 use Rattle.tables.specs.Rules.{uses, free, sound}
 use Rattle.tables.specs.Register.{entry, entryOf, named, registered, vacated, occupied, registerAfter}
 use Rattle.tables.proofs.UsesLaws.{uses-set, uses-at}
 use Rattle.tables.proofs.RuleLaws.{eight, Sound, sound-of, pages-ruled, few-uses}
-use Rattle.tables.proofs.HolderLaws.{skip, nobody, free-holder}
+use Rattle.tables.proofs.HolderLaws.{skip, nobody, free-holder, retired-shown}
 use Rattle.tables.proofs.FreshLaws.{fresh-on}
 
 -- ---- the search
@@ -146,10 +146,11 @@ module _ (gs : List Page) (p : ℕ) (g : Page) (f : ℕ) (h : p < length gs) (fe
 
 -- ---- an entry, and the holder that it names
 
--- a page below m, and one of eight copies
+-- a page below m, and one of eight copies; the search never says of itself that a frame is retired
 abbrev pub Low : ℕ → Holder → Type 0
 Low m (At p k) = (p < m) × (k < 8)
 Low m Free = Unit {0}
+Low m Retired = ⊥
 
 pub low-copies : (f p k m : ℕ) (cs : List Copy) (h : Holder) → p < m → k + length cs ≤ 8 → Low m h → Low m (inCopies f p k cs h)
 unfolding inCopies
@@ -175,40 +176,50 @@ named-entry (At p k) low =
     let m : (8 * p + k) % 8 ≡ k = omega (arith, low .0, low .1) in
     rw (lt-ltb (8 * p + k) 512 (omega (arith, low .0, low .1)), d, m)
 named-entry Free low = refl
+named-entry Retired low = absurd low
 
--- the holder of frame f by the entry e, as the code comes to it: a number past the register has none
-abbrev pub byEntry : ℕ → ℕ → Holder
-byEntry e f = cond (ltb f 254) (named e) Free
+-- the holder of frame f by the entry e and the mark b, as the code comes to it: a number past the register has none
+abbrev pub byEntry : ℕ → Bool → ℕ → Holder
+byEntry e b f = cond (ltb f 254) (cond b Retired (named e)) Free
 
-pub by-entry : (t : Tables) (f : ℕ) → length (t .register) ≡ 254 → byEntry (getD (t .register) (f % 254) noHolder) f ≡ registered t f
-by-entry t f long = go (ltb f 254) refl
+pub by-entry : (t : Tables) (f : ℕ) → length (t .register) ≡ 254 → length (t .retired) ≡ 254
+    → byEntry (getD (t .register) (f % 254) noHolder) (getD (t .retired) (f % 254) false) f ≡ registered t f
+by-entry t f long marks = go (ltb f 254) refl
   where
-    go : (near : Bool) → ltb f 254 ≡ near → cond near (named (getD (t .register) (f % 254) noHolder)) Free ≡ registered t f
+    go : (near : Bool) → ltb f 254 ≡ near
+        → cond near (cond (getD (t .retired) (f % 254) false) Retired (named (getD (t .register) (f % 254) noHolder))) Free ≡ registered t f
     go true e =
         let h = ltb-true f 254 e in
-        ap (λ (i : ℕ). named (getD (t .register) i noHolder)) (let m : f % 254 ≡ f = omega arith in m)
-    go false e = let h = ltb-false f 254 e in rw (List·getD-eq-default (t .register) noHolder {n = f} (rw long (omega arith)))
+        ap (λ (i : ℕ). cond (getD (t .retired) i false) Retired (named (getD (t .register) i noHolder))) (let m : f % 254 ≡ f = omega arith in m)
+    go false e =
+        let h = ltb-false f 254 e in
+        rw (
+          List·getD-eq-default (t .register) noHolder {n = f} (rw long (omega arith)),
+          List·getD-eq-default (t .retired) false {n = f} (rw marks (omega arith)),
+        )
 
 -- and is below 512 where it names a copy
 pub entry-low : (h : Holder) → Low 64 h → isFree h ≡ false → entryOf h < 512
 entry-low (At p k) low e = omega (arith, low .0, low .1)
 entry-low Free low e = absurd (true≢false e)
+entry-low Retired low e = absurd low
 
 -- ---- the register of sound tables
 
 module _ (t : Tables) (s : Sound t) where
-  holder-low : (f : ℕ) → Low 64 (holderOf t f)
-  holder-low f =
+  searched-low : (f : ℕ) → Low 64 (searched t f)
+  searched-low f =
       low-pages f 0 64 (t .pages) (let l = s .pages-long in omega arith)
       (λ i l. eight (frames t) (getD (t .pages) i noPageRecord) (s .page-ok i (rw (s .pages-long) at l)))
 
   -- each entry is a number of two bytes
   pub register-fits : (f : ℕ) → f < 254 → getD (t .register) f noHolder < 65536
-  register-fits f h = rw (s .register-ok f h) (fits (holderOf t f) (holder-low f))
+  register-fits f h = rw (s .register-ok f h) (fits (searched t f) (searched-low f))
     where
       fits : (h : Holder) → Low 64 h → entryOf h < 65536
       fits (At p k) low = omega (arith, low .0, low .1)
       fits Free low = omega arith
+      fits Retired low = absurd low
 
   -- where the record of a page stays as it is, the register does
   pub register-same : (p : ℕ) → cond (ltb p 64) (registerAfter p (pageAt t p) (pageAt t p) (t .register)) (t .register) ≡ t .register
@@ -232,7 +243,16 @@ module _ (t : Tables) (s : Sound t) where
 pub registered-is : (t : Tables) (f : ℕ) → sound t ≡ true → f < frames t → registered t f ≡ holderOf t f
 registered-is t f ok h =
     let s = sound-of t ok in
-    ap named (s .register-ok f (omega (arith, s .fast-ok, s .slow-ok))) ∙ named-entry (holderOf t f) (holder-low t s f)
+    ap (cond (retiredAt t f) Retired)
+    (ap named (s .register-ok f (omega (arith, s .fast-ok, s .slow-ok))) ∙ named-entry (searched t f) (searched-low t s f))
+
+-- an entry names a copy or nothing, so what is read shows as retired just where the frame is marked
+pub registered-retired : (t : Tables) (f : ℕ) → isRetired (registered t f) ≡ retiredAt t f
+registered-retired t f = retired-shown (retiredAt t f) (named (getD (t .register) f noHolder)) (by (ltb (getD (t .register) f noHolder) 512))
+  where
+    by : (b : Bool) → isRetired (cond b (At (getD (t .register) f noHolder / 8) (getD (t .register) f noHolder % 8)) Free) ≡ false
+    by true = refl
+    by false = refl
 
 -- so the holder that it reads is none just where the frame is free
 pub registered-free : (t : Tables) (f : ℕ) → sound t ≡ true → f < frames t → free t f ≡ isFree (registered t f)

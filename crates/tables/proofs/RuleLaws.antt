@@ -1,20 +1,20 @@
 -- What the table rules say, part by part, and back: of a copy, of a page, of the tables.
-use Prim.Native.Nat.{ℕ, _≤_, _<_}
+use Prim.Native.Nat.{ℕ, _+_, _-_, _≤_, _<_}
 use mathlib.Core.Bool.{Bool, true, false, not, _&&_, _||_, cond, true≢false}
 use mathlib.Core.List.{List, [], _∷_}
 use mathlib.Core.Path.{_≡_, refl, sym, ap, _∙_}
 use native.Mathlib.Omega.{arith}
 use lib.Dec.{leb, ltb, eqb}
-use lib.ListN.{length, getD, take, drop, length-take}
-use lib.Seq.{length-take-le, getD-take}
+use lib.ListN.{length, getD, take, drop, length-take, length-drop}
+use lib.Seq.{length-take-le, getD-take, getD-drop}
 use borrow.Author.Tests.{ltb-true, ltb-false, leb-true, eqb-true, eqb-false, not-true, lt-ltb, le-leb, eq-eqb, ne-eqb}
 use Rattle.tables.specs.declared.Copy.{Copy}
 use Rattle.tables.specs.declared.Page.{Page}
 use Rattle.tables.specs.declared.Tables.{Tables}
 use Rattle.tables.specs.Lists.{all, count, allBelow}
-use Rattle.tables.specs.Model.{frames, noHolder, isNull, inUse, absent, onFrame, freshCopy, freshPage, noCopyEntry, noPageRecord, pageAt}
-use Rattle.tables.specs.Rules.{uses, isFresh, copyRule, isRecent, atMost, standingRule, absentRule, shaped, pageRule, alone, sound}
-use Rattle.tables.specs.Search.{holderOf}
+use Rattle.tables.specs.Model.{frames, noHolder, isNull, retiredAt, inUse, absent, onFrame, freshCopy, freshPage, noCopyEntry, noPageRecord, pageAt}
+use Rattle.tables.specs.Rules.{uses, isFresh, copyRule, isRecent, atMost, standingRule, absentRule, shaped, pageRule, alone, rightMarks, sound}
+use Rattle.tables.specs.Search.{searched}
 use Rattle.tables.specs.Register.{entryOf, rightRegister}
 use Rattle.tables.proofs.ListLaws.{and-left, and-right, and-intro, or-left, or-right, not-so, all-first, all-rest, all-at, all-of, below-at, below-of}
 
@@ -204,17 +204,25 @@ pub record Sound (t : Tables) : Type 0 where
   pub page-ok : (p : ℕ) → p < 64 → pageRule (frames t) (pageAt t p) ≡ true
   pub once : (f : ℕ) → f < frames t → uses f (t .pages) ≤ 1
   pub register-long : length (t .register) ≡ 254
-  pub register-ok : (f : ℕ) → f < 254 → getD (t .register) f noHolder ≡ entryOf (holderOf t f)
+  pub register-ok : (f : ℕ) → f < 254 → getD (t .register) f noHolder ≡ entryOf (searched t f)
+  pub marks-long : length (t .retired) ≡ 254
+  pub marks-past : (f : ℕ) → frames t ≤ f → f < 254 → retiredAt t f ≡ false
+  pub marks-free : (f : ℕ) → f < 254 → retiredAt t f ≡ true → uses f (t .pages) ≡ 0
 
 -- the parts of the table rules
 pub sound-of : (t : Tables) → sound t ≡ true → Sound t
-unfolding sound alone rightRegister
+unfolding sound alone rightRegister rightMarks
 sound-of t e =
     let e₁ = and-right (leb (t .shared .p) 127) _ e in
     let e₂ = and-right (leb (t .shared .s) 127) _ e₁ in
     let e₃ = and-right (eqb (length (t .pages)) 64) _ e₂ in
     let e₄ = and-right (all (pageRule (frames t)) (t .pages)) _ e₃ in
     let e₅ = and-right (allBelow (frames t) (λ f. leb (uses f (t .pages)) 1)) _ e₄ in
+    let register = and-left (rightRegister (t .pages) (t .register)) _ e₅ in
+    let marks = and-right (rightRegister (t .pages) (t .register)) _ e₅ in
+    let e₆ = and-right (eqb (length (t .retired)) 254) _ marks in
+    let m : length (t .retired) ≡ 254 = eqb-true _ 254 (and-left (eqb (length (t .retired)) 254) _ marks) in
+    let past = and-left (all not (drop (frames t) (t .retired))) _ e₆ in
     let l : length (t .pages) ≡ 64 = eqb-true _ 64 (and-left (eqb (length (t .pages)) 64) _ e₂) in
     record {
       fast-ok = leb-true (t .shared .p) 127 (and-left (leb (t .shared .p) 127) _ e);
@@ -225,21 +233,44 @@ sound-of t e =
       once = λ f h.
           leb-true (uses f (t .pages)) 1
           (below-at (frames t) (λ f. leb (uses f (t .pages)) 1) f (and-left (allBelow (frames t) (λ f. leb (uses f (t .pages)) 1)) _ e₄) h);
-      register-long = eqb-true _ 254 (and-left (eqb (length (t .register)) 254) _ e₅);
+      register-long = eqb-true _ 254 (and-left (eqb (length (t .register)) 254) _ register);
       register-ok = λ f h.
           eqb-true _ _
-          (below-at 254 (λ f. eqb (getD (t .register) f noHolder) (entryOf (holderOf t f))) f (and-right (eqb (length (t .register)) 254) _ e₅) h);
+          (below-at 254 (λ f. eqb (getD (t .register) f noHolder) (entryOf (searched t f))) f (and-right (eqb (length (t .register)) 254) _ register) h);
+      marks-long = m;
+      marks-past = λ f h near.
+          let at : frames t + (f - frames t) ≡ f = omega arith in
+          let in-rest : f - frames t < length (drop (frames t) (t .retired)) = rw (length-drop (frames t) (t .retired), m) (omega arith) in
+          not-true (retiredAt t f)
+          (rw (getD-drop (frames t) (t .retired) (f - frames t) false, at) at
+          (all-at not (drop (frames t) (t .retired)) (f - frames t) false past in-rest));
+      marks-free = λ f h is.
+          eqb-true (uses f (t .pages)) 0
+          (rw is at (below-at 254 (λ f. not (retiredAt t f) || eqb (uses f (t .pages)) 0) f (and-right (all not (drop (frames t) (t .retired))) _ e₆) h));
     }
 
 -- and the rules from their parts
 pub of-sound : (t : Tables) → Sound t → sound t ≡ true
-unfolding sound alone rightRegister
+unfolding sound alone rightRegister rightMarks
 of-sound t s =
     and-intro (le-leb _ _ (s .fast-ok)) (and-intro (le-leb _ _ (s .slow-ok)) (and-intro (eq-eqb _ _ (s .pages-long))
     (and-intro (all-of (pageRule (frames t)) (t .pages) noPageRecord (λ p h. s .page-ok p (rw (s .pages-long) at h)))
     (and-intro (below-of (frames t) (λ f. leb (uses f (t .pages)) 1) (λ f h. le-leb _ _ (s .once f h)))
-    (and-intro (eq-eqb _ _ (s .register-long))
-    (below-of 254 (λ f. eqb (getD (t .register) f noHolder) (entryOf (holderOf t f))) (λ f h. eq-eqb _ _ (s .register-ok f h))))))))
+    (and-intro (and-intro (eq-eqb _ _ (s .register-long))
+    (below-of 254 (λ f. eqb (getD (t .register) f noHolder) (entryOf (searched t f))) (λ f h. eq-eqb _ _ (s .register-ok f h))))
+    (and-intro (eq-eqb _ _ (s .marks-long)) (and-intro past
+    (below-of 254 (λ f. not (retiredAt t f) || eqb (uses f (t .pages)) 0) (λ f h. clear f h (retiredAt t f) refl)))))))))
+  where
+    past : all not (drop (frames t) (t .retired)) ≡ true
+    past =
+        all-of not (drop (frames t) (t .retired)) false (λ i h.
+        let near : i < length (t .retired) - frames t = rw (length-drop (frames t) (t .retired)) at h in
+        let m = s .marks-long in
+        rw (getD-drop (frames t) (t .retired) i false) (ap not (s .marks-past (frames t + i) (omega arith) (omega arith))))
+
+    clear : (f : ℕ) → f < 254 → (b : Bool) → retiredAt t f ≡ b → (not b || eqb (uses f (t .pages)) 0) ≡ true
+    clear f h true e = eq-eqb _ 0 (s .marks-free f h e)
+    clear f h false e = refl
 
 -- all pages of sound tables
 pub pages-ruled : (t : Tables) → Sound t → all (pageRule (frames t)) (t .pages) ≡ true

@@ -1,11 +1,11 @@
 -- The one pass over the pages and the register answers what the table rules say.
 use Prim.Native.Nat.{ℕ, zero, suc, _+_, _≤_, _<_}
 use mathlib.Core.Path.{_≡_, refl, sym, ap, _∙_}
-use mathlib.Core.Bool.{Bool, true, false, not, _&&_, cond}
+use mathlib.Core.Bool.{Bool, true, false, not, _&&_, _||_, cond}
 use mathlib.Core.List.{List, [], _∷_}
 use native.Mathlib.Decide.{ℕ-discrete}
 use native.Mathlib.Omega.{arith}
-use lib.ListN.{length, getD}
+use lib.ListN.{length, getD, drop}
 use lib.Dec.{leb, ltb, eqb}
 use borrow.Author.Tests.{eqb-true, eq-eqb, ne-eqb, leb-true, le-leb, lt-ltb, ltb-true}
 use Rattle.tables.specs.declared.Copy.{Copy}
@@ -14,10 +14,10 @@ use Rattle.tables.specs.declared.Holder.{Holder}
 use Rattle.tables.specs.Lists.{all, count}
 use Rattle.tables.specs.Model.{noHolder, onFrame, inUse, noPageRecord}
 use Rattle.tables.specs.Search.{inCopies, inPages}
-use Rattle.tables.specs.Rules.{uses, pageRule, alone}
+use Rattle.tables.specs.Rules.{uses, pageRule, alone, rightMarks}
 use Rattle.tables.specs.Register.{entry, entryOf, rightRegister}
-use Rattle.tables.specs.PrivatePass.{names, namesAll, scanPages, framesOfAll, taken}
-use Rattle.tables.proofs.ListLaws.{and-left, and-right, and-intro, iff-eq, all-at, all-first, all-rest, below-at, below-of}
+use Rattle.tables.specs.PrivatePass.{names, namesAll, scanPages, framesOfAll, taken, noneOn}
+use Rattle.tables.proofs.ListLaws.{and-left, and-right, and-intro, iff-eq, all-at, all-first, all-rest, below-at, below-of, below-same}
 use Rattle.tables.proofs.RuleLaws.{eight, few-uses}
 use Rattle.tables.proofs.HolderLaws.{skip, nobody, free-pages}
 use Rattle.tables.proofs.RegisterLaws.{low-pages, entry-low}
@@ -172,7 +172,19 @@ module _ (limit : ℕ) (low : limit ≤ 254) (gs : List Page) (r : List ℕ) (ma
       by true e q = eqb-true (getD r f noHolder) noHolder e
       by false e q = absurd (omega arith)
 
-  pub scan-rules : (scanPages limit r 0 gs && eqb (framesOfAll gs) (taken r)) ≡ (all (pageRule limit) gs && (alone limit gs && rightRegister gs r))
+  -- the rules on frames and on the register, frame by frame
+  ruled : (all (pageRule limit) gs && (alone limit gs && rightRegister gs r)) ≡ true
+      → ((f : ℕ) → f < 254 → uses f gs ≤ 1) × ((f : ℕ) → f < 254 → getD r f noHolder ≡ entryOf (inPages f 0 gs))
+  unfolding alone rightRegister
+  ruled e =
+      let ok = and-left (all (pageRule limit) gs) _ e in
+      let once = and-left (alone limit gs) _ (and-right (all (pageRule limit) gs) _ e) in
+      let right = and-right (alone limit gs) _ (and-right (all (pageRule limit) gs) _ e) in (
+        few-uses limit gs ok (λ f l. leb-true (uses f gs) 1 (below-at limit (λ f. leb (uses f gs) 1) f once l)),
+        λ f l. eqb-true _ _ (below-at 254 (λ f. eqb (getD r f noHolder) (entryOf (inPages f 0 gs))) f (and-right (eqb (length r) 254) _ right) l),
+      )
+
+  scan-rules : (scanPages limit r 0 gs && eqb (framesOfAll gs) (taken r)) ≡ (all (pageRule limit) gs && (alone limit gs && rightRegister gs r))
   unfolding alone rightRegister
   scan-rules =
       iff-eq (scanPages limit r 0 gs && eqb (framesOfAll gs) (taken r)) (all (pageRule limit) gs && (alone limit gs && rightRegister gs r))
@@ -188,15 +200,10 @@ module _ (limit : ℕ) (low : limit ≤ 254) (gs : List Page) (r : List ℕ) (ma
       (λ f l. eq-eqb (getD r f noHolder) (entryOf (inPages f 0 gs)) (told-at ok points same f l))))))
       (λ e.
       let ok = and-left (all (pageRule limit) gs) _ e in
-      let once = and-left (alone limit gs) _ (and-right (all (pageRule limit) gs) _ e) in
-      let right = and-right (alone limit gs) _ (and-right (all (pageRule limit) gs) _ e) in
-      let few : (f : ℕ) → f < 254 → uses f gs ≤ 1 =
-      few-uses limit gs ok (λ f l. leb-true (uses f gs) 1 (below-at limit (λ f. leb (uses f gs) 1) f once l)) in
-      let told : (f : ℕ) → f < 254 → getD r f noHolder ≡ entryOf (inPages f 0 gs) =
-      λ f l. eqb-true _ _ (below-at 254 (λ f. eqb (getD r f noHolder) (entryOf (inPages f 0 gs))) f (and-right (eqb (length r) 254) _ right) l) in
-      and-intro (scan-of limit r 0 gs ok (λ f l. record { once = few f l; tells = λ z. told f l }))
+      let w = ruled e in
+      and-intro (scan-of limit r 0 gs ok (λ f l. record { once = w .0 f l; tells = λ z. w .1 f l }))
       (eq-eqb (framesOfAll gs) (taken r)
-      (sums ok ∙ sum-same 254 (λ f. uses f gs) named-at (λ f l. held-at ok f (few f l) (told f l)) ∙ sym entries)))
+      (sums ok ∙ sum-same 254 (λ f. uses f gs) named-at (λ f l. held-at ok f (w .0 f l) (w .1 f l)) ∙ sym entries)))
     where
       told-at : all (pageRule limit) gs ≡ true → ((f : ℕ) → f < 254 → Points r 0 gs f) → framesOfAll gs ≡ taken r
           → (f : ℕ) → f < 254 → getD r f noHolder ≡ entryOf (inPages f 0 gs)
@@ -205,3 +212,41 @@ module _ (limit : ℕ) (low : limit ≤ 254) (gs : List Page) (r : List ℕ) (ma
           go : Dec (uses f gs ≡ 0) → getD r f noHolder ≡ entryOf (inPages f 0 gs)
           go (yes z) = free-entry ok points same f l z ∙ ap entryOf (sym (nobody f 0 gs z))
           go (no d) = points f l .tells (omega (arith, d))
+
+  -- ---- the marks of retired frames
+  module _ (marks : List Bool) (wide : length marks ≡ 254) where
+    -- a right register tells of each whether a copy is on the frame
+    marks-same : (all (pageRule limit) gs && (alone limit gs && rightRegister gs r)) ≡ true
+        → (all not (drop limit marks) && noneOn r marks) ≡ rightMarks limit gs marks
+    unfolding rightMarks
+    marks-same e =
+        rw (eq-eqb (length marks) 254 wide)
+        (ap (λ (b : Bool). all not (drop limit marks) && b)
+        (below-same 254 (λ f. not (getD marks f false) || eqb (getD r f noHolder) noHolder) (λ f. not (getD marks f false) || eqb (uses f gs) 0)
+        (λ f l. ap (λ (b : Bool). not (getD marks f false) || b) (free-told f l))))
+      where
+        free-told : (f : ℕ) → f < 254 → eqb (getD r f noHolder) noHolder ≡ eqb (uses f gs) 0
+        free-told f l =
+            let w = ruled e in
+            by (eqb (getD r f noHolder) noHolder) (held-at (and-left (all (pageRule limit) gs) _ e) f (w .0 f l) (w .1 f l))
+          where
+            by : (b : Bool) → uses f gs ≡ cond (not b) 1 0 → b ≡ eqb (uses f gs) 0
+            by true q = rw q
+            by false q = rw q
+
+    regroup : (a b c d : Bool) → (a && (b && (c && d))) ≡ ((a && (b && c)) && d)
+    regroup true true c d = refl
+    regroup true false c d = refl
+    regroup false b c d = refl
+
+    pub scan-rules-marked : ((scanPages limit r 0 gs && eqb (framesOfAll gs) (taken r)) && (all not (drop limit marks) && noneOn r marks))
+        ≡ (all (pageRule limit) gs && (alone limit gs && (rightRegister gs r && rightMarks limit gs marks)))
+    scan-rules-marked =
+        ap (λ (b : Bool). b && (all not (drop limit marks) && noneOn r marks)) scan-rules
+        ∙ by (all (pageRule limit) gs && (alone limit gs && rightRegister gs r)) refl
+        ∙ sym (regroup (all (pageRule limit) gs) (alone limit gs) (rightRegister gs r) (rightMarks limit gs marks))
+      where
+        by : (b : Bool) → (all (pageRule limit) gs && (alone limit gs && rightRegister gs r)) ≡ b
+            → (b && (all not (drop limit marks) && noneOn r marks)) ≡ (b && rightMarks limit gs marks)
+        by true e = marks-same e
+        by false e = refl

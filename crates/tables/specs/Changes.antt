@@ -9,7 +9,7 @@ use Rattle.tables.specs.declared.Page.{Page}
 use Rattle.tables.specs.declared.Tables.{Tables}
 use Rattle.tables.specs.declared.Change.{Change}
 use Rattle.tables.specs.declared.Edit.{Edit}
-use Rattle.tables.specs.declared.Edit.the-variants.{Kept, Created, Deleted, Granted, Staled, Placed, Added, Removed, Marked}
+use Rattle.tables.specs.declared.Edit.the-variants.{Kept, Created, Deleted, Granted, Staled, Placed, Added, Removed, Marked, Retired}
 use Rattle.tables.specs.Model.{freshCopy, freshPage, noCopyEntry, pageAt}
 use Rattle.tables.specs.Register.{registerAfter}
 
@@ -65,10 +65,24 @@ changed g (Placed frame) = withCopies g (g .n) (set (g .copies) 0 (newCopy frame
 changed g (Added frame recent) = withCopy g (newCopy frame recent)
 changed g (Removed k) = withCopies g (g .n - 1) (closeGap (g .copies) k)
 changed g (Marked k current) = withCopies g (g .n) (set (g .copies) k (markedCopy (getD (g .copies) k noCopyEntry) current))
+changed g (Retired frame) = g
 
--- a change of the tables: the record of page p edited
+-- document 02, request [5]: the frame that an edit retires; 255 for none
+abbrev pub retiredBy : Edit → ℕ
+retiredBy Kept = 255
+retiredBy (Created station) = 255
+retiredBy Deleted = 255
+retiredBy (Granted station right) = 255
+retiredBy Staled = 255
+retiredBy (Placed frame) = 255
+retiredBy (Added frame recent) = 255
+retiredBy (Removed k) = 255
+retiredBy (Marked k current) = 255
+retiredBy (Retired frame) = frame
+
+-- a change of the tables: the record of page p edited, and the frame that is retired
 abbrev pub edited : Tables → ℕ → Edit → Change
-edited t p e = record { page = p; becomes = changed (pageAt t p) e }
+edited t p e = record { page = p; becomes = changed (pageAt t p) e; retires = retiredBy e }
 
 -- the tables with g as the record of page p, and the register as that leaves it
 abbrev pub withPage : Tables → ℕ → Page → Tables
@@ -77,8 +91,13 @@ withPage t p g =
       shared = t .shared;
       pages = set (t .pages) p g;
       register = cond (ltb p 64) (registerAfter p (pageAt t p) g (t .register)) (t .register);
+      retired = t .retired;
     }
+
+-- document 02, request [5]: the tables with frame f marked as retired; 255 is no frame
+abbrev pub withMark : Tables → ℕ → Tables
+withMark t f = record { shared = t .shared; pages = t .pages; register = t .register; retired = set (t .retired) f true }
 
 -- "Each change of the tables takes them and gives back the new ones."
 unfoldable pub after : Tables → Change → Tables
-after t change = withPage t (change .page) (change .becomes)
+after t change = withMark (withPage t (change .page) (change .becomes)) (change .retires)

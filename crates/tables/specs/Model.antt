@@ -23,6 +23,10 @@ isNull c = eqb (c .frame) 255
 abbrev pub onFrame : ℕ → Copy → Bool
 onFrame f c = eqb (c .frame) f
 
+-- document 02, request [5]: whether frame f is marked as retired
+abbrev pub retiredAt : Tables → ℕ → Bool
+retiredAt t f = getD (t .retired) f false
+
 -- "eight copy entries, of which the first n are in use": the page's copies, numbered from 0
 abbrev pub inUse : Page → List Copy
 inUse g = take (g .n) (g .copies)
@@ -50,7 +54,8 @@ abbrev pub sized : ℕ → ℕ → Shared
 sized p s = record { p = p; s = s }
 
 unfoldable pub freshTables : ℕ → ℕ → Tables
-freshTables p s = record { shared = sized p s; pages = replicate 64 freshPage; register = replicate 254 noHolder }
+freshTables p s =
+    record { shared = sized p s; pages = replicate 64 freshPage; register = replicate 254 noHolder; retired = replicate 254 false }
 
 -- 19: "fresh with P or S above 127; returns fresh tables with P = S = 0"
 abbrev pub made : ℕ → ℕ → Made

@@ -14,7 +14,7 @@ cutShort = 1
 abbrev pub foreignVersion : ℕ
 foreignVersion = 2
 
--- L is 1, or kind not 1 to 11
+-- L is 1, or kind not 1 to 12
 abbrev pub unknownKind : ℕ
 unknownKind = 3
 
@@ -54,7 +54,7 @@ nothingCurrent = 11
 abbrev pub noCopy : ℕ
 noCopy = 12
 
--- make copy on a frame not free
+-- make copy to a held frame, or retire of one
 abbrev pub frameHeld : ℕ
 frameHeld = 13
 
@@ -82,11 +82,15 @@ shortSlip = 18
 abbrev pub tooManyFrames : ℕ
 tooManyFrames = 19
 
--- The rows that a message can be turned back with, in the paper's order: 19 is for making tables alone.
+-- document 02, request [5], "retired": make copy to a retired frame
+abbrev pub retired : ℕ
+retired = 20
+
+-- The rows that a message can be turned back with, in the papers' order: 19 is for making tables alone.
 abbrev pub table : List ℕ
 table =
     cutShort ∷ foreignVersion ∷ unknownKind ∷ wrongLength ∷ brokenTables ∷ misfitStore ∷ outOfRange ∷ pageStands ∷ noPage ∷
-    noRight ∷ nothingCurrent ∷ noCopy ∷ frameHeld ∷ eightCopies ∷ lastRecent ∷ stale ∷ noFrame ∷ shortSlip ∷ []
+    noRight ∷ nothingCurrent ∷ noCopy ∷ frameHeld ∷ eightCopies ∷ lastRecent ∷ stale ∷ noFrame ∷ shortSlip ∷ retired ∷ []
 
 -- all rows
 abbrev pub rows : List ℕ

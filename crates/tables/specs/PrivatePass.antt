@@ -1,13 +1,13 @@
 -- How the test of the table rules goes in one pass over the pages: that each copy's entry names it, and that no more entries name
 -- anything than copies are on frames, take the place of counting. For the proofs alone: the contract of the test speaks of `sound`.
 use Prim.Native.Nat.{ℕ, _+_}
-use mathlib.Core.Bool.{Bool, true, not, _&&_, _||_, cond}
+use mathlib.Core.Bool.{Bool, true, false, not, _&&_, _||_, cond}
 use mathlib.Core.List.{List, [], _∷_}
 use lib.ListN.{getD}
 use lib.Dec.{ltb, eqb}
 use Rattle.tables.specs.declared.Copy.{Copy}
 use Rattle.tables.specs.declared.Page.{Page}
-use Rattle.tables.specs.Lists.{count}
+use Rattle.tables.specs.Lists.{count, allBelow}
 use Rattle.tables.specs.Model.{noHolder, isNull, inUse, noCopyEntry}
 use Rattle.tables.specs.Rules.{copyRule, pageRule}
 use Rattle.tables.specs.Register.{entry}
@@ -46,3 +46,7 @@ framesOfAll (g ∷ gs) = framesOf g + framesOfAll gs
 -- how many entries name a copy
 abbrev pub taken : List ℕ → ℕ
 taken r = count (λ e. not (eqb e noHolder)) r
+
+-- by its entry, nobody is on a retired frame
+abbrev pub noneOn : List ℕ → List Bool → Bool
+noneOn r marks = allBelow 254 (λ f. not (getD marks f false) || eqb (getD r f noHolder) noHolder)

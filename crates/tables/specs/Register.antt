@@ -8,9 +8,9 @@ use Rattle.tables.specs.declared.Copy.{Copy}
 use Rattle.tables.specs.declared.Page.{Page}
 use Rattle.tables.specs.declared.Tables.{Tables}
 use Rattle.tables.specs.declared.Holder.{Holder}
-use Rattle.tables.specs.declared.Holder.the-variants.{At, Free}
+use Rattle.tables.specs.declared.Holder.the-variants.{At, Free, Retired}
 use Rattle.tables.specs.Lists.{allBelow}
-use Rattle.tables.specs.Model.{noHolder, inUse}
+use Rattle.tables.specs.Model.{noHolder, retiredAt, inUse}
 use Rattle.tables.specs.Search.{inPages}
 
 -- ---- an entry
@@ -23,15 +23,16 @@ entry p c = 8 * p + c
 abbrev pub entryOf : Holder → ℕ
 entryOf (At p c) = entry p c
 entryOf Free = noHolder
+entryOf Retired = noHolder
 
 -- the holder that an entry names: 64 pages of eight copies, and from 512 on none
 abbrev pub named : ℕ → Holder
 named e = cond (ltb e 512) (At (e / 8) (e % 8)) Free
 
 -- "Looking at a frame then reads the register, and gives for every frame what the search gives": `registered-is` proves that of every sound
--- table
+-- table. The marks of retired frames stand beside the register, whose entry for such a frame is none.
 abbrev pub registered : Tables → ℕ → Holder
-registered t f = named (getD (t .register) f noHolder)
+registered t f = cond (retiredAt t f) Retired (named (getD (t .register) f noHolder))
 
 -- ---- "Table rules gain that the register is right"
 

@@ -1,14 +1,14 @@
 -- Document 01, "Table rules", as tests, for any tables whatever.
 use Prim.Native.Nat.{ℕ, _+_}
-use mathlib.Core.Bool.{Bool, not, _&&_, _||_, cond}
+use mathlib.Core.Bool.{Bool, false, not, _&&_, _||_, cond}
 use mathlib.Core.List.{List, [], _∷_}
-use lib.ListN.{length, drop}
+use lib.ListN.{length, getD, drop}
 use lib.Dec.{leb, ltb, eqb}
 use Rattle.tables.specs.declared.Copy.{Copy}
 use Rattle.tables.specs.declared.Page.{Page}
 use Rattle.tables.specs.declared.Tables.{Tables}
 use Rattle.tables.specs.Lists.{all, count, allBelow}
-use Rattle.tables.specs.Model.{frames, isNull, inUse, absent, onFrame}
+use Rattle.tables.specs.Model.{frames, isNull, retiredAt, inUse, absent, onFrame}
 use Rattle.tables.specs.Register.{rightRegister}
 
 -- how many copies are on frame f
@@ -16,9 +16,9 @@ unfoldable pub uses : ℕ → List Page → ℕ
 uses f [] = 0
 uses f (g ∷ gs) = count (onFrame f) (inUse g) + uses f gs
 
--- "A frame is free if no copy has it."
+-- "A frame is free if no copy has it", and document 02, request [5], if it is not retired
 unfoldable pub free : Tables → ℕ → Bool
-free t f = eqb (uses f (t .pages)) 0
+free t f = not (retiredAt t f) && eqb (uses f (t .pages)) 0
 
 -- "unused entries .. are as in fresh tables"
 abbrev pub isFresh : Copy → Bool
@@ -60,8 +60,15 @@ pageRule limit g = shaped g && cond (absent g) (absentRule g) (standingRule limi
 unfoldable pub alone : ℕ → List Page → Bool
 alone limit gs = allBelow limit (λ f. leb (uses f gs) 1)
 
--- the table rules: "P and S in range", "Pages 0 to 63", each page's, those on frames, and that "the register is right"
+-- document 02, request [5]: "A copy on a retired frame, or a mark past the last frame, breaks the table rules": no mark past the last of so many
+-- frames, and no copy on a frame with one
+unfoldable pub rightMarks : ℕ → List Page → List Bool → Bool
+rightMarks limit gs marks =
+    eqb (length marks) 254 && (all not (drop limit marks) && allBelow 254 (λ f. not (getD marks f false) || eqb (uses f gs) 0))
+
+-- the table rules: "P and S in range", "Pages 0 to 63", each page's, those on frames, that "the register is right", and those on marks
 unfoldable pub sound : Tables → Bool
 sound t =
     leb (t .shared .p) 127 && (leb (t .shared .s) 127 && (eqb (length (t .pages)) 64
-    && (all (pageRule (frames t)) (t .pages) && (alone (frames t) (t .pages) && rightRegister (t .pages) (t .register)))))
+    && (all (pageRule (frames t)) (t .pages) && (alone (frames t) (t .pages)
+    && (rightRegister (t .pages) (t .register) && rightMarks (frames t) (t .pages) (t .retired))))))

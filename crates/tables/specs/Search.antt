@@ -8,8 +8,8 @@ use Rattle.tables.specs.declared.Copy.{Copy}
 use Rattle.tables.specs.declared.Page.{Page}
 use Rattle.tables.specs.declared.Tables.{Tables}
 use Rattle.tables.specs.declared.Holder.{Holder}
-use Rattle.tables.specs.declared.Holder.the-variants.{At, Free}
-use Rattle.tables.specs.Model.{inUse, onFrame}
+use Rattle.tables.specs.declared.Holder.the-variants.{At, Free, Retired}
+use Rattle.tables.specs.Model.{retiredAt, inUse, onFrame}
 
 -- among the copies of page p, numbered from c on; `later` is what the pages after p give
 unfoldable pub inCopies : ℕ → ℕ → ℕ → List Copy → Holder → Holder
@@ -22,14 +22,23 @@ inPages f p [] = Free
 inPages f p (g ∷ gs) = inCopies f p 0 (inUse g) (inPages f (p + 1) gs)
 
 -- the copy that is on frame f
-abbrev pub holderOf : Tables → ℕ → Holder
-holderOf t f = inPages f 0 (t .pages)
+abbrev pub searched : Tables → ℕ → Holder
+searched t f = inPages f 0 (t .pages)
 
--- "1, page, copy. Free: 0, 255, 255": document 01's number and values for each case of a holder, the number first
+-- Document 02, request [5]: "A frame is from now on free, held or retired". A retired frame has no copy where the table rules are kept.
+abbrev pub holderOf : Tables → ℕ → Holder
+holderOf t f = cond (retiredAt t f) Retired (searched t f)
+
+-- "1, page, copy. Free: 0, 255, 255", and request [5]: "2, 255, 255": the papers' number and values for each case, the number first
 abbrev pub shown : Holder → List ℕ
 shown (At p c) = 1 ∷ p ∷ c ∷ []
 shown Free = 0 ∷ 255 ∷ 255 ∷ []
+shown Retired = 2 ∷ 255 ∷ 255 ∷ []
 
--- whether that number is 0; `free-holder` says that this is so exactly where "no copy has it"
+-- whether that number is 0; `free-holder` says that this is so exactly where "no copy has it" and it is not retired
 abbrev pub isFree : Holder → Bool
 isFree h = eqb (getD (shown h) 0 0) 0
+
+-- whether it is 2
+abbrev pub isRetired : Holder → Bool
+isRetired h = eqb (getD (shown h) 0 0) 2

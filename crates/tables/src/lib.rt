@@ -1,11 +1,12 @@
-// The tables layer of document 01: the page records, the register of frames, the table rules, the search for
-// a frame's holder, and every change of the tables. It needs no store.
+// The tables layer of document 01: the page records, the register of frames and the marks of retired ones, the table rules, the
+// search for a frame's holder, and every change of the tables. It needs no store.
 mod record;
 mod register;
 mod rules;
 mod search;
 
 use record::fresh_page;
+use register::mark;
 use register::occupy;
 use register::vacate;
 ghost use mathlib.Core.Path.{_≡_};
@@ -42,11 +43,13 @@ pub struct Shared {
     pub s: u8,
 }
 
-// The tables: what is shared, the 64 pages, and the register: for each frame the copy on it, as 8 × page + copy.
+// The tables: what is shared, the 64 pages, the register: for each frame the copy on it, as 8 × page + copy; and for each frame
+// whether it is retired.
 pub struct Tables {
     pub shared: Shared,
     pub pages: [Page; 64],
     pub register: [u16; 254],
+    pub retired: [bool; 254],
 }
 
 // What making tables answers: 0 or 19, and the tables.
@@ -55,13 +58,14 @@ pub struct Made {
     pub tables: Tables,
 }
 
-// The copy that is on a frame, if any is.
+// A frame is held by the copy that is on it, free, or retired.
 pub enum Holder {
     At { page: u8, copy: u8 },
     Free,
+    Retired,
 }
 
-// What a step changes in a page's record.
+// What a step changes in a page's record, or that it retires a frame.
 pub enum Edit {
     Kept,
     Created { station: u8 },
@@ -77,12 +81,15 @@ pub enum Edit {
     Removed { copy: u8 },
     // A copy's CURRENT mark.
     Marked { copy: u8, current: bool },
+    // A frame retired; the record stays.
+    Retired { frame: u8 },
 }
 
-// A change of the tables: what the record of a page becomes.
+// A change of the tables: what the record of a page becomes, and the frame that is retired, 255 for none.
 pub struct Change {
     pub page: u8,
     pub becomes: Page,
+    pub retires: u8,
 }
 
 impl Tables {
@@ -97,6 +104,7 @@ impl Tables {
                     shared: Shared { p, s },
                     pages: [g; 64],
                     register: [NO_HOLDER; 254],
+                    retired: [false; 254],
                 },
             };
         }
@@ -106,16 +114,18 @@ impl Tables {
                 shared: Shared { p: 0, s: 0 },
                 pages: [g; 64],
                 register: [NO_HOLDER; 254],
+                retired: [false; 254],
             },
         }
     }
 
-    // The tables after a change; a page number above 63 changes nothing.
+    // The tables after a change; a page number above 63 changes no page, and a frame number above 253 no mark.
     pub fn after(mut self, change: Change) -> Tables
         ensures { λ r. ⌜ r ≡ after self change ⌝ }
     {
         let p = change.page as usize;
         let g = change.becomes;
+        mark(&mut self.retired, change.retires);
         if p < 64 {
             let old = self.pages[p];
             self.pages[p] = g;

@@ -10,7 +10,7 @@ ghost use Prim.Native.Nat.{_-_, _≤_};
 ghost use lib.ListN.{length, set, getD};
 ghost use Rattle.tables.specs.Lists.{all};
 ghost use Rattle.tables.specs.Model.{freshCopy, freshPage, noCopyEntry, inUse};
-ghost use Rattle.tables.specs.Changes.{created, staleCopy, newCopy, withCopy, withCopies, closeGap, markedCopy, changed};
+ghost use Rattle.tables.specs.Changes.{created, staleCopy, newCopy, withCopy, withCopies, closeGap, markedCopy, changed, retiredBy};
 ghost use Rattle.tables.specs.Keep.{unchanged, staysRecent, isMarked};
 
 fn fresh_copy() -> Copy
@@ -235,11 +235,13 @@ impl Page {
             Edit::Marked { copy, current } => {
                 self = self.marked(copy, current);
             }
+            Edit::Retired { frame: _ } => {}
         }
         self
     }
 
-    // Whether the edit is seen at a glance to leave the record as it is: the tables then need not be moved.
+    // Whether the edit is seen at a glance to leave the record as it is and to retire no frame: the tables then need not be
+    // moved.
     pub fn keeps(self, edit: Edit) -> bool
         ensures { λ r. ⌜ r ≡ unchanged self edit ⌝ }
     {
@@ -260,6 +262,37 @@ impl Page {
             } => false,
             Edit::Removed { copy: _ } => false,
             Edit::Marked { copy, current } => is_marked(copies, copy, current),
+            Edit::Retired { frame: _ } => false,
+        }
+    }
+}
+
+impl Edit {
+    // The frame that the edit retires; 255 for none.
+    pub fn retires(self) -> u8
+        ensures { λ r. ⌜ r ≡ retiredBy self ⌝ }
+    {
+        let edit = self;
+        match edit {
+            Edit::Kept => NULL_FRAME,
+            Edit::Created { station: _ } => NULL_FRAME,
+            Edit::Deleted => NULL_FRAME,
+            Edit::Granted {
+                station: _,
+                right: _,
+            } => NULL_FRAME,
+            Edit::Staled => NULL_FRAME,
+            Edit::Placed { frame: _ } => NULL_FRAME,
+            Edit::Added {
+                frame: _,
+                recent: _,
+            } => NULL_FRAME,
+            Edit::Removed { copy: _ } => NULL_FRAME,
+            Edit::Marked {
+                copy: _,
+                current: _,
+            } => NULL_FRAME,
+            Edit::Retired { frame } => frame,
         }
     }
 }

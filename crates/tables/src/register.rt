@@ -1,13 +1,13 @@
-// The register: for each frame the copy on it.
+// The register: for each frame the copy on it; beside it the marks of retired frames.
 use crate::Holder;
 use crate::NO_HOLDER;
 use crate::Page;
 use crate::Tables;
 ghost use mathlib.Core.Path.{_≡_};
-ghost use mathlib.Core.Bool.{cond};
+ghost use mathlib.Core.Bool.{true, cond};
 ghost use lib.Dec.{ltb};
 ghost use lib.ListN.{length, set};
-ghost use Rattle.tables.specs.declared.Holder.the-variants.{Free};
+ghost use Rattle.tables.specs.declared.Holder.the-variants.{Free, Retired};
 ghost use Rattle.tables.specs.Model.{inUse};
 ghost use Rattle.tables.specs.Register.{entry, named, registered, vacated, occupied};
 
@@ -55,23 +55,39 @@ pub(crate) fn occupy(register: &mut [u16; 254], p: u8, page: Page)
     }
 }
 
-// The holder of a frame by its entry; a number past the register has none.
-fn holder_by(entry: u16, frame: u8) -> Holder
-    ensures { λ r. ⌜ r ≡ cond (ltb frame 254) (named entry) Free ⌝ }
+// Marks a frame as retired; 255 is no frame.
+pub(crate) fn mark(retired: &mut [bool; 254], frame: u8)
+    requires { ⌜ length (now retired) ≡ 254 ⌝ }
+    ensures { λ _. ⌜ now (retired .exit) ≡ set (now (retired .entry)) frame true ⌝ }
 {
-    if frame < 254 {
-        return Holder::named(entry);
+    let f = frame as usize;
+    if f < 254 {
+        retired[f] = true;
     }
-    Holder::Free
+}
+
+// The holder of a frame by its entry and its mark; a number past the register has none.
+fn holder_by(entry: u16, retired: bool, frame: u8) -> Holder
+    ensures { λ r. ⌜ r ≡ cond (ltb frame 254) (cond retired Retired (named entry)) Free ⌝ }
+{
+    if frame >= 254 {
+        return Holder::Free;
+    }
+    if retired {
+        return Holder::Retired;
+    }
+    Holder::named(entry)
 }
 
 impl Tables {
-    // The copy on a frame, by the register. Behind a reference, so that the tables are not copied.
+    // The copy on a frame, by the register, or that it is retired. Behind a reference, so that the tables are not copied.
     pub fn registered(&self, frame: u8) -> Holder
         ensures { λ r. ⌜ r ≡ registered (now (self .entry)) frame ⌝ }
     {
-        let entry = self.register[(frame % 254) as usize];
-        holder_by(entry, frame)
+        let i = (frame % 254) as usize;
+        let entry = self.register[i];
+        let retired = self.retired[i];
+        holder_by(entry, retired, frame)
     }
 }
 

@@ -6,13 +6,14 @@ use crate::Page;
 use crate::Tables;
 use crate::register::entry;
 ghost use mathlib.Core.Path.{_≡_};
-ghost use mathlib.Core.Bool.{false, _&&_};
+ghost use mathlib.Core.Bool.{false, not, _&&_};
 ghost use Prim.Native.Nat.{_≤_};
+ghost use lib.Dec.{eqb};
 ghost use lib.ListN.{length, take, drop};
 ghost use Rattle.tables.specs.Lists.{all};
 ghost use Rattle.tables.specs.Model.{inUse};
 ghost use Rattle.tables.specs.Rules.{isFresh, copyRule, atMost, absentRule, standingRule, sound};
-ghost use Rattle.tables.specs.PrivatePass.{names, namesAll, scanCopies, scanPage, framesOf, taken};
+ghost use Rattle.tables.specs.PrivatePass.{names, namesAll, scanCopies, scanPage, framesOf, taken, noneOn};
 
 fn is_fresh(c: Copy) -> bool
     ensures { λ r. ⌜ r ≡ isFresh c ⌝ }
@@ -166,6 +167,48 @@ fn taken(register: &[u16; 254]) -> u16
     k
 }
 
+// No frame from the limit on is marked as retired.
+fn none_past(retired: &[bool; 254], limit: u8) -> bool
+    requires { ⌜ length (now retired) ≡ 254 ⌝ }
+    ensures { λ r. ⌜ r ≡ all not (drop limit (now (retired .entry))) ⌝ }
+{
+    let mut ok = true;
+    let mut f = limit as usize;
+    while f < 254 {
+        ok = ok & !retired[f];
+        f += 1;
+    }
+    ok
+}
+
+// Nobody is on a retired frame. Branch-free, in vectors.
+fn none_on(register: &[u16; 254], retired: &[bool; 254]) -> bool
+    requires { ⌜ (length (now register) ≡ 254) × (length (now retired) ≡ 254) ⌝ }
+    ensures { λ r. ⌜ r ≡ noneOn (now (register .entry)) (now (retired .entry)) ⌝ }
+{
+    let mut ok = true;
+    let mut f: usize = 0;
+    while f < 254 {
+        ok = (!retired[f] | (register[f] == NO_HOLDER)) & ok;
+        f += 1;
+    }
+    ok
+}
+
+// Of pages whose copies are on so many frames and are named: no entry names anything else, and the marks keep their rules.
+fn frames_ok(register: &[u16; 254], retired: &[bool; 254], held: usize, limit: u8) -> bool
+    requires { ⌜ (length (now register) ≡ 254) × (length (now retired) ≡ 254) ⌝ }
+    ensures { λ r. ⌜ r ≡ (eqb held (taken (now (register .entry))) && (all not (drop limit (now (retired .entry))) && noneOn (now (register .entry)) (now (retired .entry)))) ⌝ }
+{
+    if held != taken(register) as usize {
+        return false;
+    }
+    if !none_past(retired, limit) {
+        return false;
+    }
+    none_on(register, retired)
+}
+
 impl Tables {
     // All table rules, for any tables, in one pass over the pages and the register.
     pub fn sound(self) -> bool
@@ -190,6 +233,8 @@ impl Tables {
             held += frames_of(g);
             i += 1;
         }
-        held == taken(&self.register) as usize
+        // A copy: two fields of one local cannot be lent at once.
+        let retired = self.retired;
+        frames_ok(&self.register, &retired, held, limit)
     }
 }

@@ -2,8 +2,9 @@
 use crate::Holder;
 use crate::Tables;
 ghost use mathlib.Core.Path.{_≡_};
+ghost use Rattle.tables.specs.Model.{retiredAt};
 ghost use Rattle.tables.specs.Rules.{free};
-ghost use Rattle.tables.specs.Search.{holderOf, shown, isFree};
+ghost use Rattle.tables.specs.Search.{searched, holderOf, shown, isFree, isRetired};
 
 impl Holder {
     // The three bytes that looking at a frame shows.
@@ -14,6 +15,7 @@ impl Holder {
         match h {
             Holder::At { page, copy } => [1, page, copy],
             Holder::Free => [0, 255, 255],
+            Holder::Retired => [2, 255, 255],
         }
     }
 
@@ -24,15 +26,26 @@ impl Holder {
         match h {
             Holder::At { page: _, copy: _ } => false,
             Holder::Free => true,
+            Holder::Retired => false,
+        }
+    }
+
+    pub fn is_retired(self) -> bool
+        ensures { λ r. ⌜ r ≡ isRetired self ⌝ }
+    {
+        let h = self;
+        match h {
+            Holder::At { page: _, copy: _ } => false,
+            Holder::Free => false,
+            Holder::Retired => true,
         }
     }
 }
 
 impl Tables {
     // The first copy, page by page, that is on the frame.
-    pub fn holder(self, frame: u8) -> Holder
-        ensures { λ r. ⌜ r ≡ holderOf self frame ⌝ }
-        ensures { λ r. ⌜ isFree r ≡ free self frame ⌝ }
+    pub fn search(self, frame: u8) -> Holder
+        ensures { λ r. ⌜ r ≡ searched self frame ⌝ }
     {
         let mut i: usize = 0;
         'pages: loop {
@@ -53,6 +66,25 @@ impl Tables {
             }
             i += 1;
         }
+    }
+
+    // Whether the frame is marked as retired; a number past the marks is not.
+    fn retired_at(self, frame: u8) -> bool
+        ensures { λ r. ⌜ r ≡ retiredAt self frame ⌝ }
+    {
+        let f = frame as usize;
+        if f < 254 { self.retired[f] } else { false }
+    }
+
+    // The copy on the frame by the search, or that the frame is retired.
+    pub fn holder(self, frame: u8) -> Holder
+        ensures { λ r. ⌜ r ≡ holderOf self frame ⌝ }
+        ensures { λ r. ⌜ isFree r ≡ free self frame ⌝ }
+    {
+        if self.retired_at(frame) {
+            return Holder::Retired;
+        }
+        self.search(frame)
     }
 
     pub fn free(self, frame: u8) -> bool

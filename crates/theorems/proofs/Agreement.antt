@@ -10,7 +10,7 @@ use lib.Seq.{getD-set-same, getD-set-other, set-getD}
 use lib.Dec.{eqb}
 use Rattle.tables.specs.declared.Page.{Page}
 use Rattle.tables.specs.declared.Edit.{Edit}
-use Rattle.tables.specs.declared.Edit.the-variants.{Kept}
+use Rattle.tables.specs.declared.Edit.the-variants.{Kept, Retired}
 use Rattle.tables.specs.Lists.{count}
 use Rattle.tables.specs.Numbers.{noPage, nothingCurrent}
 use Rattle.tables.specs.Model.{frames, inUse, absent, pageAt, onFrame}
@@ -187,6 +187,11 @@ module _ (s : State) (f : Flat) (i : Inv s f) where
   pub page-kept : (p : ℕ) → p < 64 → Same (applied s p Kept (joined s)) f
   unfolding changed
   page-kept p near = page-moved p near Kept (joined s) (i .same .alike p near) (stores-kept s p)
+
+  -- but for the mark of a frame
+  pub page-retired : (p : ℕ) → p < 64 → (x : ℕ) → Same (applied s p (Retired x) (joined s)) f
+  unfolding changed
+  page-retired p near x = page-moved p near (Retired x) (joined s) (i .same .alike p near) (stores-kept s p)
 
 -- ---- a call, from number 7 on
 

@@ -11,7 +11,7 @@ use borrow.Author.Tests.{eqb-true, not-false}
 use Rattle.tables.specs.declared.Shared.{Shared}
 use Rattle.tables.specs.Model.{frames, freshTables, pageAt}
 use Rattle.tables.specs.Rules.{uses}
-use Rattle.tables.specs.Changes.{changed, after}
+use Rattle.tables.specs.Changes.{changed, retiredBy, after}
 use Rattle.tables.proofs.ListLaws.{or-left}
 use Rattle.tables.proofs.RuleLaws.{sound-of}
 use Rattle.tables.proofs.UsesLaws.{uses-set, uses-at}
@@ -47,7 +47,7 @@ module _ (s : State) (f : ℕ) (low : f < frames (s .tables)) where
           let t = s .tables in
           let g = pageAt t (c .page) in
           let ok = u .plan-ok in
-          let gone : uses f (after t (record { page = c .page; becomes = changed g (plan .edit) }) .pages) ≡ 0 = eqb-true _ 0 (not-false _ none) in
+          let gone : uses f (after t (record { page = c .page; becomes = changed g (plan .edit); retires = retiredBy (plan .edit) }) .pages) ≡ 0 = eqb-true _ 0 (not-false _ none) in
           let pages : c .page < length (t .pages) = rw (sound-of t (u .good .tables-sound) .pages-long) (ok .near) in
           let moved = uses-set f (t .pages) (c .page) (changed g (plan .edit)) pages in
           let own = uses-at f (t .pages) (c .page) in
@@ -70,7 +70,7 @@ module _ (room f : ℕ) where
   never [] s end none = end
   never (x ∷ xs) s end none = or-left (isHeld (s .tables) f) _ none
 
-  messages-clean : (xs : List Sent) (s : State) → f < frames (s .tables) → isHeld (endOf room s xs .tables) f ≡ false
+  pub messages-clean : (xs : List Sent) (s : State) → f < frames (s .tables) → isHeld (endOf room s xs .tables) f ≡ false
       → block (joined (endOf room s xs)) f ≡ cond (everHeld (turnsOf room s xs) f) zeros (block (joined s) f)
   unfolding turnsOf endOf
   messages-clean [] s low end = refl

@@ -10,6 +10,7 @@ pub mod Caller
 pub mod Refusals
 pub mod Searched
 pub mod Clean
+pub mod Retired
 pub mod Written
 pub mod Told
 pub mod Stations

@@ -12,27 +12,28 @@ use borrow.Author.Tests.{leb-false, eqb-true, eqb-false, eq-eqb, ne-eqb, not-fal
 use Rattle.tables.specs.declared.Copy.{Copy}
 use Rattle.tables.specs.declared.Page.{Page}
 use Rattle.tables.specs.declared.Edit.{Edit}
-use Rattle.tables.specs.declared.Edit.the-variants.{Placed, Added, Removed, Marked}
+use Rattle.tables.specs.declared.Edit.the-variants.{Kept, Placed, Added, Removed, Marked, Retired}
 use Rattle.tables.specs.Lists.{count}
-use Rattle.tables.specs.Numbers.{outOfRange, noPage, noCopy, frameHeld, eightCopies, lastRecent, stale, noFrame}
+use Rattle.tables.specs.Numbers.{outOfRange, noPage, noCopy, frameHeld, eightCopies, lastRecent, stale, noFrame, retired}
 use Rattle.tables.specs.Model.{frames, isNull, inUse, absent, pageAt, noCopyEntry, onFrame}
-use Rattle.tables.specs.Rules.{uses, free, copyRule}
-use Rattle.tables.specs.Search.{isFree}
+use Rattle.tables.specs.Rules.{uses, copyRule}
+use Rattle.tables.specs.Search.{isFree, isRetired}
 use Rattle.tables.specs.Register.{registered}
 use Rattle.tables.specs.Changes.{withCopies, newCopy, markedCopy, changed}
 use Rattle.tables.proofs.RuleLaws.{StandingPage, not-absent, length-in-use, copy-at, Sound, sound-of}
 use Rattle.tables.proofs.UsesLaws.{uses-at, uses-two, other-frame}
+use Rattle.tables.proofs.HolderLaws.{free-nobody}
 use Rattle.tables.proofs.RegisterLaws.{registered-free}
 use Rattle.tables.proofs.ChangeLaws.{without, all-without, in-use-marked, in-use-placed, added, in-use-added, in-use-removed}
 use Rattle.tables.proofs.Allowed.{RemoveOk}
 use Rattle.tables.proofs.PageChanges.{removed-ok, removed-on}
-use Rattle.steps.specs.declared.Kind.the-variants.{MakeCopy, DeleteCopy, SetCurrent, RemoveCurrent, LookPage, LookFrame}
+use Rattle.steps.specs.declared.Kind.the-variants.{MakeCopy, DeleteCopy, SetCurrent, RemoveCurrent, LookPage, LookFrame, Retire}
 use Rattle.steps.specs.declared.Call.{Call}
 use Rattle.steps.specs.declared.Work.the-variants.{Clear, Duplicate}
 use Rattle.steps.specs.Kinds.{names, code, among}
 use Rattle.steps.specs.Calls.{nameOutside}
 use Rattle.steps.specs.Stores.{block, lay, held, zeros}
-use Rattle.steps.specs.Steps.{Outcome, Plan, laying, numbered, copyAt, recents, copying, perform, decideOn}
+use Rattle.steps.specs.Steps.{Outcome, Plan, test, editing, laying, numbered, copyAt, recents, copying, perform, decideOn}
 use Rattle.steps.specs.Effects.{laidIn, State, joined, carriedOut}
 use Rattle.steps.proofs.Blocks.{block-lay-whole, block-lay-other}
 use Rattle.steps.proofs.ClearLaws.{on}
@@ -41,7 +42,7 @@ use Rattle.steps.proofs.StepLaws.{joined-long, page-stands, length-held}
 use Rattle.theorems.specs.Flat.{Flat, Slot, gone, here, slotAt, silent, reactAs}
 use Rattle.theorems.specs.Demand3.{Holds}
 use Rattle.theorems.proofs.Holding.{HoldsOne, held-framed, holds-at, holds-set, holds-last, holds-without, holds-kept}
-use Rattle.theorems.proofs.Agreement.{AlikeSlot, Same, Inv, Agree, passed-over, alone, applied, page-moved, ofKind, CallAgrees, stores-kept, page-kept}
+use Rattle.theorems.proofs.Agreement.{AlikeSlot, Same, Inv, Agree, passed-over, alone, applied, page-moved, ofKind, CallAgrees, stores-kept, page-kept, page-retired}
 
 -- a page that stands, with other copies
 recopied-alike : (st st′ : List ℕ) (g : Page) (n : ℕ) (cs : List Copy) (x : Slot) → absent g ≡ false → eqb n 0 ≡ false
@@ -140,6 +141,19 @@ module _ (s : State) (f : Flat) (i : Inv s f) (c : Call) (bs : List ℕ) where
   look-frame-agrees =
       alone (nameOutside c) outOfRange refl (λ e. alone (leb (frames (s .tables)) (c .frame)) outOfRange refl (λ _.
       passed-over (page-kept s f i (c .page) (page-near c e))))
+
+  pub retire-agrees : CallAgrees s f (ofKind Retire c) bs
+  unfolding decideOn perform reactAs names code among laidIn
+  retire-agrees =
+      alone (nameOutside c) outOfRange refl (λ e. alone (leb (frames (s .tables)) (c .frame)) outOfRange refl (λ _.
+      by (page-near c e) (isRetired (registered (s .tables) (c .frame)))))
+    where
+      by : c .page < 64 → (b : Bool)
+          → Agree (λ (plan : Plan). Same (carriedOut s (ofKind Retire c) bs plan .state)) (λ (plan : Plan). carriedOut s (ofKind Retire c) bs plan .data-out) f
+          false false (cond b (editing Kept) (test (not (isFree (registered (s .tables) (c .frame)))) frameHeld (editing (Retired (c .frame))))) silent
+      by near true = passed-over (page-kept s f i (c .page) near)
+      by near false =
+          alone (not (isFree (registered (s .tables) (c .frame)))) frameHeld refl (λ _. passed-over (page-retired s f i (c .page) near (c .frame)))
 
   pub set-current-agrees : CallAgrees s f (ofKind SetCurrent c) bs
   unfolding decideOn perform reactAs names code among laidIn
@@ -242,13 +256,14 @@ module _ (s : State) (f : Flat) (i : Inv s f) (c : Call) (bs : List ℕ) where
             (added-alike small d (joined s) long (c .copy) less (c .frame) in-range spare (omega (arith, d .most)) (slotAt f (c .page)) alike))
 
   pub make-copy-agrees : CallAgrees s f (ofKind MakeCopy c) bs
-  unfolding decideOn perform reactAs names code among free
+  unfolding decideOn perform reactAs names code among
   make-copy-agrees =
       alone (nameOutside c) outOfRange refl (λ e. alone (leb (frames (s .tables)) (c .frame)) outOfRange refl (λ e′.
       alone-numbered page (c .copy) (λ some less.
+      alone (isRetired (registered (s .tables) (c .frame))) retired refl (λ _.
       alone (not (isFree (registered (s .tables) (c .frame)))) frameHeld refl (λ is. alone (eqb (page .n) 8) eightCopies refl (λ room.
       let low = leb-false (frames (s .tables)) (c .frame) e′ in
       copying-agrees (page-near c e) some less low
-      (eqb-true (uses (c .frame) (s .tables .pages)) 0
+      (free-nobody (s .tables) (c .frame)
       (registered-free (s .tables) (c .frame) (i .good .tables-sound) low ∙ not-false (isFree (registered (s .tables) (c .frame))) is))
-      (eqb-false (page .n) 8 room))))))
+      (eqb-false (page .n) 8 room)))))))

@@ -15,7 +15,7 @@ use Rattle.tables.specs.Search.{holderOf}
 use Rattle.tables.specs.Register.{registered}
 use Rattle.tables.proofs.RegisterLaws.{registered-is}
 use Rattle.steps.specs.declared.Kind.{Kind}
-use Rattle.steps.specs.declared.Kind.the-variants.{Create, DeletePage, Grant, Read, Write, MakeCopy, DeleteCopy, SetCurrent, RemoveCurrent, LookPage, LookFrame}
+use Rattle.steps.specs.declared.Kind.the-variants.{Create, DeletePage, Grant, Read, Write, MakeCopy, DeleteCopy, SetCurrent, RemoveCurrent, LookPage, LookFrame, Retire}
 use Rattle.steps.specs.declared.Call.{Call}
 use Rattle.steps.specs.Kinds.{frame, names, code, among, has}
 use Rattle.steps.specs.Calls.{nameOutside, spanOutside}
@@ -40,6 +40,7 @@ no-frame t c size h h′ SetCurrent e = refl
 no-frame t c size h h′ RemoveCurrent e = refl
 no-frame t c size h h′ LookPage e = refl
 no-frame t c size h h′ LookFrame e = absurd (true≢false e)
+no-frame t c size h h′ Retire e = absurd (true≢false e)
 
 -- nor does one whose frame is out of range, which is turned back with 7
 unless-far : (n names far span : Bool) (o o′ : Outcome Plan) → (names ≡ false → o ≡ o′) → (far ≡ false → o ≡ o′)

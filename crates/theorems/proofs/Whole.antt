@@ -14,7 +14,7 @@ use Rattle.tables.specs.Model.{freshPage, freshTables, noPageRecord, pageAt}
 use Rattle.tables.proofs.ListLaws.{and-intro, all-listed}
 use Rattle.tables.proofs.FreshLaws.{fresh-sound}
 use Rattle.steps.specs.declared.Kind.{Kind}
-use Rattle.steps.specs.declared.Kind.the-variants.{Create, DeletePage, Grant, Read, Write, MakeCopy, DeleteCopy, SetCurrent, RemoveCurrent, LookPage, LookFrame}
+use Rattle.steps.specs.declared.Kind.the-variants.{Create, DeletePage, Grant, Read, Write, MakeCopy, DeleteCopy, SetCurrent, RemoveCurrent, LookPage, LookFrame, Retire}
 use Rattle.steps.specs.declared.Call.{Call}
 use Rattle.steps.specs.Stores.{fits}
 use Rattle.steps.specs.Effects.{State, joined, step, left}
@@ -28,7 +28,7 @@ use Rattle.messages.proofs.ParseLaws.{ownNumbers, Known, bad, asked-known}
 use Rattle.theorems.proofs.Agreement.{AlikeSlot, turned-back, ResultAgrees, says, eleven, leaves, ofKind, CallAgrees, carried-agrees, Inv}
 use Rattle.theorems.proofs.Owners.{create-agrees, delete-agrees, grant-agrees}
 use Rattle.theorems.proofs.Access.{read-agrees, write-agrees}
-use Rattle.theorems.proofs.Moves.{make-copy-agrees, delete-copy-agrees, set-current-agrees, remove-current-agrees, look-page-agrees, look-frame-agrees}
+use Rattle.theorems.proofs.Moves.{make-copy-agrees, delete-copy-agrees, set-current-agrees, remove-current-agrees, look-page-agrees, look-frame-agrees, retire-agrees}
 use Rattle.theorems.proofs.Frames.{end-frames}
 use Rattle.theorems.proofs.Induction.{TurnAgrees, run-agrees}
 
@@ -47,6 +47,7 @@ module _ (s : State) (f : Flat) (i : Inv s f) where
   kind-agrees RemoveCurrent = remove-current-agrees s f i
   kind-agrees LookPage = look-page-agrees s f i
   kind-agrees LookFrame = look-frame-agrees s f i
+  kind-agrees Retire = retire-agrees s f i
 
   -- 5 and 6 do not come up
   step-agrees : (c : Call) (bs : List ℕ) → ResultAgrees f (flatKind c) (lacks (s .tables) c) (step s c bs) (react f c bs)

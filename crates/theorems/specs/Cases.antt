@@ -1,14 +1,15 @@
 -- Document 01, "Cases": the worked example and the starred cases, computed from the definitions.
 use Prim.Native.Nat.{ℕ}
 use mathlib.Core.Path.{_≡_, refl}
+use mathlib.Core.Bool.{true, false}
 use mathlib.Core.List.{List, [], _∷_, _++_, map, flatten}
-use lib.ListN.{replicate}
+use lib.ListN.{replicate, set}
 use Rattle.tables.specs.Lists.{all, count, allBelow}
 use Rattle.tables.specs.Model.{freshPage, freshTables}
-use Rattle.tables.specs.Rules.{uses, standingRule, absentRule, pageRule, alone, sound}
+use Rattle.tables.specs.Rules.{uses, standingRule, absentRule, pageRule, alone, rightMarks, sound}
 use Rattle.tables.specs.Search.{inCopies, inPages}
 use Rattle.tables.specs.Register.{rightRegister, vacated, occupied}
-use Rattle.tables.specs.Changes.{created, closeGap, changed, after}
+use Rattle.tables.specs.Changes.{created, closeGap, changed, withMark, after}
 use Rattle.steps.specs.Stores.{part, splice, zeros, fits, layEach}
 use Rattle.steps.specs.Kinds.{names, kinds, code, among, leastLength, mostLength, argument, callOf}
 use Rattle.steps.specs.Steps.{Outcome, firstCurrent, perform, decideOn}
@@ -19,13 +20,13 @@ use Rattle.messages.specs.Run.{Sent, split, messagesOf, turnsOf, endOf, answer,
 use Rattle.theorems.specs.Flat.{none, reactAs, reactTo, Answer}
 use Rattle.theorems.specs.Demand3.{elevens, flatAfter, flatAnswers, runAnswers}
 
--- ---- "So L is 4, 4, 6, 6, 6 to 69, 5, 4, 4, 4, 3, 3"
+-- ---- "So L is 4, 4, 6, 6, 6 to 69, 5, 4, 4, 4, 3, 3", and 3 for kind 12 of document 02
 
-pub least-lengths : map leastLength kinds ≡ (4 ∷ 4 ∷ 6 ∷ 6 ∷ 6 ∷ 5 ∷ 4 ∷ 4 ∷ 4 ∷ 3 ∷ 3 ∷ [])
+pub least-lengths : map leastLength kinds ≡ (4 ∷ 4 ∷ 6 ∷ 6 ∷ 6 ∷ 5 ∷ 4 ∷ 4 ∷ 4 ∷ 3 ∷ 3 ∷ 3 ∷ [])
 unfolding kinds names
 least-lengths = refl
 
-pub most-lengths : map mostLength kinds ≡ (4 ∷ 4 ∷ 6 ∷ 6 ∷ 69 ∷ 5 ∷ 4 ∷ 4 ∷ 4 ∷ 3 ∷ 3 ∷ [])
+pub most-lengths : map mostLength kinds ≡ (4 ∷ 4 ∷ 6 ∷ 6 ∷ 69 ∷ 5 ∷ 4 ∷ 4 ∷ 4 ∷ 3 ∷ 3 ∷ 3 ∷ [])
 unfolding kinds names code among
 most-lengths = refl
 
@@ -42,12 +43,12 @@ file₁ =
 
 -- the run with the least reply buffer; to open it is to open all that it computes by
 unfoldable pub runOn : State → List ℕ → Run
-unfolding messagesOf split turnsOf endOf answer parse names kinds code among argument callOf step decideOn laidIn shownOf sound alone allBelow all count uses pageRule standingRule absentRule fits freshTables freshPage after changed created closeGap inPages inCopies rightRegister vacated occupied perform firstCurrent entries layEach splice part reply
+unfolding messagesOf split turnsOf endOf answer parse names kinds code among argument callOf step decideOn laidIn shownOf sound alone rightMarks allBelow all count uses pageRule standingRule absentRule fits freshTables freshPage after changed created closeGap inPages inCopies rightRegister vacated occupied perform firstCurrent entries layEach splice part reply
 runOn s file = run 70 file s
 
 -- one turn of it
 unfoldable pub rightTurn : State → Sent → Outcome Result
-unfolding answer parse names kinds code among argument callOf step decideOn laidIn shownOf sound alone allBelow all count uses pageRule standingRule absentRule fits freshTables freshPage after changed created closeGap inPages inCopies rightRegister vacated occupied perform firstCurrent entries layEach splice part reply
+unfolding answer parse names kinds code among argument callOf step decideOn laidIn shownOf sound alone rightMarks allBelow all count uses pageRule standingRule absentRule fits freshTables freshPage after changed created closeGap inPages inCopies rightRegister vacated occupied perform firstCurrent entries layEach splice part reply
 rightTurn s x = answer 70 s x
 
 abbrev pub repliesOf : State → List ℕ → List (List ℕ)
@@ -132,16 +133,62 @@ pub deleting-stores : joined (runOn state₀ (fileOf deleting) .final)
 unfolding runOn flatten
 deleting-stores = refl
 
+-- copies on frames 1 to 7
+abbrev pub eightMade : List (List ℕ)
+eightMade =
+    (0 ∷ 5 ∷ 1 ∷ 6 ∷ 5 ∷ 0 ∷ 1 ∷ []) ∷ (0 ∷ 5 ∷ 1 ∷ 6 ∷ 5 ∷ 0 ∷ 2 ∷ []) ∷ (0 ∷ 5 ∷ 1 ∷ 6 ∷ 5 ∷ 0 ∷ 3 ∷ []) ∷ (0 ∷ 5 ∷ 1 ∷ 6 ∷ 5 ∷ 0 ∷ 4 ∷ [])
+    ∷ (0 ∷ 5 ∷ 1 ∷ 6 ∷ 5 ∷ 0 ∷ 5 ∷ []) ∷ (0 ∷ 5 ∷ 1 ∷ 6 ∷ 5 ∷ 0 ∷ 6 ∷ []) ∷ (0 ∷ 5 ∷ 1 ∷ 6 ∷ 5 ∷ 0 ∷ 7 ∷ []) ∷ []
+
 -- a page with eight copies: 512 bytes laid
 abbrev pub deletingEight : Case
 deletingEight =
-    ((0 ∷ 5 ∷ 1 ∷ 6 ∷ 5 ∷ 0 ∷ 1 ∷ []) ∷ (0 ∷ 5 ∷ 1 ∷ 6 ∷ 5 ∷ 0 ∷ 2 ∷ []) ∷ (0 ∷ 5 ∷ 1 ∷ 6 ∷ 5 ∷ 0 ∷ 3 ∷ []) ∷ (0 ∷ 5 ∷ 1 ∷ 6 ∷ 5 ∷ 0 ∷ 4 ∷ [])
-    ∷ (0 ∷ 5 ∷ 1 ∷ 6 ∷ 5 ∷ 0 ∷ 5 ∷ []) ∷ (0 ∷ 5 ∷ 1 ∷ 6 ∷ 5 ∷ 0 ∷ 6 ∷ []) ∷ (0 ∷ 5 ∷ 1 ∷ 6 ∷ 5 ∷ 0 ∷ 7 ∷ []) ∷ (0 ∷ 4 ∷ 1 ∷ 2 ∷ 3 ∷ 5 ∷ []) ∷ [])
-    ↝ (laying 64 ∷ laying 64 ∷ laying 64 ∷ laying 64 ∷ laying 64 ∷ laying 64 ∷ laying 64 ∷ (0 ∷ 4 ∷ 1 ∷ 0 ∷ 2 ∷ 0 ∷ []) ∷ [])
+    (eightMade ++ ((0 ∷ 4 ∷ 1 ∷ 2 ∷ 3 ∷ 5 ∷ []) ∷ [])) ↝ (replicate 7 (laying 64) ++ ((0 ∷ 4 ∷ 1 ∷ 0 ∷ 2 ∷ 0 ∷ []) ∷ []))
 
 pub eight-replies : repliesOf state₀ (fileOf deletingEight) ≡ replies₁ ++ deletingEight .answers
 unfolding runOn flatten
 eight-replies = refl
+
+-- ---- document 02, request [5]: retired frames
+
+-- Frame 7, the last one, is retired and looked at; a copy is made on it, of copy 0 and of a copy that the page does not have; it is retired again;
+-- frame 0, which is held, and frame 8 are to be retired; page 6 is created and its null copy brought to frame 7; page 5 is deleted, and frames 7
+-- and 0 are looked at; a retire that is too long, and kind 13.
+abbrev pub retiring : Case
+retiring =
+    ((0 ∷ 3 ∷ 1 ∷ 0xC ∷ 7 ∷ []) ∷ (0 ∷ 3 ∷ 1 ∷ 0xB ∷ 7 ∷ []) ∷ (0 ∷ 5 ∷ 1 ∷ 6 ∷ 5 ∷ 0 ∷ 7 ∷ []) ∷ (0 ∷ 5 ∷ 1 ∷ 6 ∷ 5 ∷ 1 ∷ 7 ∷ [])
+    ∷ (0 ∷ 3 ∷ 1 ∷ 0xC ∷ 7 ∷ []) ∷ (0 ∷ 3 ∷ 1 ∷ 0xC ∷ 0 ∷ []) ∷ (0 ∷ 3 ∷ 1 ∷ 0xC ∷ 8 ∷ []) ∷ (0 ∷ 4 ∷ 1 ∷ 1 ∷ 3 ∷ 6 ∷ [])
+    ∷ (0 ∷ 5 ∷ 1 ∷ 6 ∷ 6 ∷ 0 ∷ 7 ∷ []) ∷ (0 ∷ 4 ∷ 1 ∷ 2 ∷ 3 ∷ 5 ∷ []) ∷ (0 ∷ 3 ∷ 1 ∷ 0xB ∷ 7 ∷ []) ∷ (0 ∷ 3 ∷ 1 ∷ 0xB ∷ 0 ∷ [])
+    ∷ (0 ∷ 4 ∷ 1 ∷ 0xC ∷ 1 ∷ 1 ∷ []) ∷ (0 ∷ 3 ∷ 1 ∷ 0xD ∷ 1 ∷ []) ∷ [])
+    ↝ (laying 0 ∷ (0 ∷ 7 ∷ 1 ∷ 0 ∷ 0 ∷ 0 ∷ 2 ∷ 255 ∷ 255 ∷ []) ∷ refused 20 ∷ refused 12 ∷ laying 0 ∷ refused 13 ∷ refused 7 ∷ laying 0
+    ∷ refused 20 ∷ laying 64 ∷ (0 ∷ 7 ∷ 1 ∷ 0 ∷ 0 ∷ 0 ∷ 2 ∷ 255 ∷ 255 ∷ []) ∷ (0 ∷ 7 ∷ 1 ∷ 0 ∷ 0 ∷ 0 ∷ 0 ∷ 255 ∷ 255 ∷ []) ∷ refused 4 ∷ refused 3 ∷ [])
+
+pub retiring-replies : repliesOf state₀ (fileOf retiring) ≡ replies₁ ++ retiring .answers
+unfolding runOn flatten
+retiring-replies = refl
+
+-- one mark, and of the stores only frame 0 is other than at the start: the delete cleared it
+pub retiring-leaves : (runOn state₀ (fileOf retiring) .final .tables .retired ≡ set (replicate 254 false) 7 true)
+    × (joined (runOn state₀ (fileOf retiring) .final) ≡ (zeros ++ replicate 192 0xEE) ++ replicate 256 0xDD)
+unfolding runOn flatten
+retiring-leaves = (refl, refl)
+
+-- a page with eight copies, of nine frames: 20 before 14 on a retired frame, and 14 on a free one
+abbrev pub stateNine : State
+stateNine = record { tables = freshTables 5 4; fast = replicate 320 0xEE; slow = replicate 256 0xDD }
+
+abbrev pub retiringNinth : Case
+retiringNinth =
+    (eightMade ++ ((0 ∷ 5 ∷ 1 ∷ 6 ∷ 5 ∷ 0 ∷ 8 ∷ []) ∷ (0 ∷ 3 ∷ 1 ∷ 0xC ∷ 8 ∷ []) ∷ (0 ∷ 5 ∷ 1 ∷ 6 ∷ 5 ∷ 0 ∷ 8 ∷ []) ∷ []))
+    ↝ (replicate 7 (laying 64) ++ (refused 14 ∷ laying 0 ∷ refused 20 ∷ []))
+
+pub ninth-replies : repliesOf stateNine (fileOf retiringNinth) ≡ replies₁ ++ retiringNinth .answers
+unfolding runOn flatten
+ninth-replies = refl
+
+-- of the tables that the worked example leaves: a mark on the last frame, past it, and on the frame of the copy
+pub marks-tested : map (λ (f : ℕ). sound (withMark (runOn state₀ file₁ .final .tables) f)) (7 ∷ 8 ∷ 253 ∷ 0 ∷ []) ≡ (true ∷ false ∷ false ∷ false ∷ [])
+unfolding runOn sound alone rightMarks allBelow all count uses pageRule standingRule absentRule rightRegister inPages inCopies
+marks-tested = refl
 
 -- ---- the flat memory beside the worked example, a read answered 11 after it and a delete by another station
 

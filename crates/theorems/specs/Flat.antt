@@ -5,7 +5,7 @@ use mathlib.Core.List.{List, [], _∷_, _++_}
 use lib.ListN.{length, take, drop, getD, set, replicate}
 use lib.Dec.{ltb, eqb}
 use Rattle.steps.specs.declared.Kind.{Kind}
-use Rattle.steps.specs.declared.Kind.the-variants.{Create, DeletePage, Grant, Read, Write, MakeCopy, DeleteCopy, SetCurrent, RemoveCurrent, LookPage, LookFrame}
+use Rattle.steps.specs.declared.Kind.the-variants.{Create, DeletePage, Grant, Read, Write, MakeCopy, DeleteCopy, SetCurrent, RemoveCurrent, LookPage, LookFrame, Retire}
 use Rattle.steps.specs.declared.Call.{Call}
 use Rattle.steps.specs.Kinds.{station, has}
 use Rattle.messages.specs.declared.Parsed.{Parsed}
@@ -89,8 +89,9 @@ reactAs SetCurrent f c bs = silent
 reactAs RemoveCurrent f c bs = silent
 reactAs LookPage f c bs = silent
 reactAs LookFrame f c bs = silent
+reactAs Retire f c bs = silent
 
--- "It passes over kinds 6 to 11": it answers the kinds that name a station
+-- "It passes over kinds 6 to 11", and "over kind 12": it answers the kinds that name a station
 abbrev pub flatKind : Call → Bool
 flatKind c = has station (c .kind)
 

@@ -6,8 +6,10 @@ use mathlib.Core.Bool.{Bool, true, false, _&&_, cond, false≢true}
 use mathlib.Core.List.{List, [], _∷_, _++_, map, dropLast}
 use lib.ListN.{length, take, drop, getD, replicate}
 use lib.Dec.{eqb}
+use Rattle.tables.specs.Lists.{count, countBelow}
 use Rattle.tables.specs.Numbers.{noPage, nothingCurrent}
-use Rattle.tables.specs.Model.{absent, inUse, pageAt, freshTables}
+use Rattle.tables.specs.Model.{retiredAt, absent, inUse, pageAt, freshTables}
+use Rattle.tables.specs.Rules.{uses, free}
 use Rattle.steps.specs.declared.Call.{Call}
 use Rattle.steps.specs.Kinds.{offset, bytes, copy, frame, names, kinds, code, among, has, argument, callOf}
 use Rattle.steps.specs.Stores.{part, splice, block, lay, zeros}
@@ -20,6 +22,7 @@ use Rattle.messages.specs.Replies.{reply}
 use Rattle.messages.specs.Run.{Sent, cut, whole, split, messagesOf, asked, Turn, bytesOf}
 use Rattle.theorems.specs.Flat.{none, reactAs, reactTo, Answer}
 use Rattle.theorems.specs.Demand3.{sentIn, elevens, flatAfter, flatAnswers, runAnswers, dues}
+use Rattle.theorems.specs.Retired.{threeNumbers, everRetired, onlyMarked}
 use Rattle.theorems.specs.Cases.{state₀, file₁, replies₁, rightTurn}
 
 -- what answers a message
@@ -236,13 +239,14 @@ unfoldable pub endBy : Kernel → State → List Sent → State
 endBy k s [] = s
 endBy k s (x ∷ xs) = endBy k (left s (k s x)) xs
 
+-- a message of this kind
+abbrev pub sends : ℕ → Sent → Bool
+sends kind cut = false
+sends kind (whole m) = eqb (getD m 1 0) kind
+
 -- the right kernel, but for the stores that an accepted delete page leaves
 abbrev pub deletingTo : (State → Outcome Result → List ℕ) → Kernel
-deletingTo stores s x = cond (deletes x) (withStores (rightTurn s x) (stores s (rightTurn s x)) (length (s .fast))) (rightTurn s x)
-  where
-    deletes : Sent → Bool
-    deletes cut = false
-    deletes (whole m) = eqb (getD m 1 0) 2
+deletingTo stores s x = cond (sends 2 x) (withStores (rightTurn s x) (stores s (rightTurn s x)) (length (s .fast))) (rightTurn s x)
 
 -- With P = 2 and S = 1, page 5 is made, copied to frame 0, set current and written, so that its bytes begin with 9; it is copied to frame 2, and
 -- deleted.
@@ -299,3 +303,62 @@ pub remaining-unseen : flatAnswers none (messagesOf file₄) (elevens 70 (turnsB
     ≡ runAnswers 70 (turnsBy remaining state₄ (messagesOf file₄))
 unfolding turnsBy messagesOf split rightTurn parse names kinds code among argument callOf flatAnswers flatAfter reactAs reactTo runAnswers
 remaining-unseen = refl
+
+-- ---- document 02, request [5]: wrong retires
+
+-- Page 5 is made and copied to frame 0; frame 1 is retired, and frame 0, which is held, is to be; then the page is deleted.
+abbrev pub retiring : List Sent
+retiring =
+    whole (1 ∷ 1 ∷ 3 ∷ 5 ∷ []) ∷ whole (1 ∷ 6 ∷ 5 ∷ 0 ∷ 0 ∷ []) ∷ whole (1 ∷ 0xC ∷ 1 ∷ []) ∷ whole (1 ∷ 0xC ∷ 0 ∷ []) ∷ []
+
+abbrev pub retiringAll : List Sent
+retiringAll = retiring ++ (whole (1 ∷ 2 ∷ 3 ∷ 5 ∷ []) ∷ [])
+
+-- which frames are retired at the end, and which `marks-told` says
+abbrev pub marksBy : Kernel → List Bool
+marksBy k = map (λ f. retiredAt (endBy k state₄ retiringAll .tables) f) (0 ∷ 1 ∷ 2 ∷ [])
+
+abbrev pub toldBy : Kernel → List Bool
+toldBy k = map (λ f. everRetired (turnsBy k state₄ retiringAll) f) (0 ∷ 1 ∷ 2 ∷ [])
+
+pub right-marks : (marksBy rightTurn ≡ (false ∷ true ∷ false ∷ [])) × (toldBy rightTurn ≡ (false ∷ true ∷ false ∷ []))
+unfolding endBy turnsBy rightTurn parse names kinds code among argument callOf
+right-marks = (refl, refl)
+
+pub right-numbers : threeNumbers (endBy rightTurn state₄ retiring .tables) ≡ 3
+unfolding endBy rightTurn free countBelow count uses
+right-numbers = refl
+
+-- "the mark lost when a page is deleted"
+abbrev pub forgetting : Kernel
+forgetting s x = cond (sends 2 x) (forget (rightTurn s x)) (rightTurn s x)
+  where
+    forget : Outcome Result → Outcome Result
+    forget (refuse n) = refuse n
+    forget (accept r) =
+        let t = r .state .tables in
+        accept (record {
+          state = record {
+            tables = record { shared = t .shared; pages = t .pages; register = t .register; retired = replicate 254 false };
+            fast = r .state .fast;
+            slow = r .state .slow;
+          };
+          laid = r .laid;
+          data-out = r .data-out;
+        })
+
+pub forgetting-marks : (marksBy forgetting ≡ (false ∷ false ∷ false ∷ [])) × (toldBy forgetting ≡ (false ∷ true ∷ false ∷ []))
+unfolding endBy turnsBy rightTurn parse names kinds code among argument callOf
+forgetting-marks = (refl, refl)
+
+-- "a held frame retired": of three frames one is free, one held and two are retired
+abbrev pub greedy : Kernel
+greedy s x = cond (sends 0xC x) (mark x) (rightTurn s x)
+  where
+    mark : Sent → Outcome Result
+    mark cut = refuse 1
+    mark (whole m) = accept (onlyMarked s (getD m 2 0))
+
+pub greedy-numbers : threeNumbers (endBy greedy state₄ retiring .tables) ≡ 4
+unfolding endBy rightTurn free countBelow count uses
+greedy-numbers = refl

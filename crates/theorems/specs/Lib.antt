@@ -4,6 +4,7 @@ pub mod Demand3
 pub mod Held
 pub mod Clean
 pub mod Searched
+pub mod Retired
 pub mod Stations
 pub mod Cases
 pub mod StationCases

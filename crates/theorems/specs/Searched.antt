@@ -11,7 +11,7 @@ use Rattle.steps.specs.Stores.{fits}
 use Rattle.steps.specs.Steps.{Outcome, test, mapped, viewBy, decideOn}
 use Rattle.steps.specs.Effects.{State, Result, carriedOut}
 
--- a step with document 01's search for the holder of a frame in place of the register, in step 11 and in number 13
+-- a step with document 01's search for the holder of a frame in place of the register, in step 11, in numbers 13 and 20, and in kind 12
 abbrev pub stepSearched : State → Call → List ℕ → Outcome Result
 stepSearched s c bs =
     mapped (carriedOut s c bs)

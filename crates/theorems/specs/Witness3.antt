@@ -185,6 +185,7 @@ with56 a g g′ fast slow =
         shared = a;
         pages = set (set (replicate 64 freshPage) 5 g) 6 g′;
         register = registerAfter 6 freshPage g′ (registerAfter 5 freshPage g (replicate 254 noHolder));
+        retired = replicate 254 false;
       };
       fast = fast;
       slow = slow;

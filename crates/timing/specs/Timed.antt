@@ -27,7 +27,7 @@ withOwner g s = record { rights = g .rights; copies = g .copies; owner = s; n = 
 
 -- the tables with another record of page 0, which has the same copies
 abbrev pub withFirst : Tables → Page → Tables
-withFirst t g = record { shared = t .shared; pages = set (t .pages) 0 g; register = t .register }
+withFirst t g = record { shared = t .shared; pages = set (t .pages) 0 g; register = t .register; retired = t .retired }
 
 -- the tables with another owner of page 0
 abbrev pub owned : Tables → ℕ → Tables

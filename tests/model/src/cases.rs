@@ -1,8 +1,9 @@
 //! The cases of document 01 as call files, each with the whole list of its replies: the worked
 //! example, the starred cases on its end state, and for each trap and impostor a file whose replies
-//! it gets wrong. Then the pairs of right and act of request [3] of document 02, and the deletes of
-//! its request [2], each also with the bytes that it leaves in the stores. Last the calls and the
-//! replies of its request [4]: the worked example's, and such as are refused or just not.
+//! it gets wrong. Then the pairs of right and act of request [3] of document 02, the deletes of its
+//! request [2] and the retired frames of its request [5], each also with the bytes that it leaves in
+//! the stores. Last the calls and the replies of its request [4]: the worked example's, and such as
+//! are refused or just not.
 
 use crate::kernel::Kernel;
 use crate::model::{frame_bytes, Lent, Reader, Tables, Tally, FRAME, PROGRAM_FRAMES, SLIP};
@@ -243,8 +244,8 @@ pub const PAIRS: [Case; 6] = [
     },
 ];
 
-/// A case of deletes, and what it leaves in the stores.
-pub struct Deletes {
+/// A case, and what it leaves in the stores.
+pub struct StoreCase {
     pub case: Case,
     /// Of each of the program's eight frames `FIRST`, or the bytes at its front, in hexadecimal; all
     /// behind these are zeros.
@@ -257,8 +258,8 @@ const ZEROS: &str = "";
 /// The worked example's page 5.
 const PAGE: &str = "41 37";
 
-pub const DELETES: [Deletes; 13] = [
-    Deletes {
+pub const DELETES: [StoreCase; 13] = [
+    StoreCase {
         case: Case {
             name: "delete copy, fast: 64 zeros, 64 laid",
             calls: &["copy 5 0 6", "delete-copy 5 0"],
@@ -266,7 +267,7 @@ pub const DELETES: [Deletes; 13] = [
         },
         frames: [ZEROS, FIRST, FIRST, FIRST, FIRST, FIRST, PAGE, FIRST],
     },
-    Deletes {
+    StoreCase {
         case: Case {
             name: "delete copy, slow: 64 zeros, 64 laid",
             calls: &["copy 5 0 6", "delete-copy 5 1"],
@@ -274,7 +275,7 @@ pub const DELETES: [Deletes; 13] = [
         },
         frames: [PAGE, FIRST, FIRST, FIRST, FIRST, FIRST, ZEROS, FIRST],
     },
-    Deletes {
+    StoreCase {
         case: Case {
             name: "delete copy of a stale copy: the copy that closes the gap keeps its bytes",
             calls: &[
@@ -294,7 +295,7 @@ pub const DELETES: [Deletes; 13] = [
         },
         frames: ["55 37", FIRST, "55 37", FIRST, FIRST, FIRST, ZEROS, FIRST],
     },
-    Deletes {
+    StoreCase {
         case: Case {
             name: "delete copy of a frame that is all zeros already: 64 laid",
             calls: &["create 3 6", "copy 6 0 1", "copy 6 0 5", "delete-copy 6 0"],
@@ -302,7 +303,7 @@ pub const DELETES: [Deletes; 13] = [
         },
         frames: [PAGE, ZEROS, FIRST, FIRST, FIRST, ZEROS, FIRST, FIRST],
     },
-    Deletes {
+    StoreCase {
         case: Case {
             name: "delete page with one copy: 64 zeros, 64 laid",
             calls: &["delete-page 3 5"],
@@ -310,7 +311,7 @@ pub const DELETES: [Deletes; 13] = [
         },
         frames: [ZEROS, FIRST, FIRST, FIRST, FIRST, FIRST, FIRST, FIRST],
     },
-    Deletes {
+    StoreCase {
         case: Case {
             name: "delete page with three copies, one stale, in both stores: 192 laid",
             calls: &[
@@ -328,7 +329,7 @@ pub const DELETES: [Deletes; 13] = [
         },
         frames: [ZEROS, ZEROS, FIRST, FIRST, FIRST, FIRST, ZEROS, FIRST],
     },
-    Deletes {
+    StoreCase {
         case: Case {
             name: "delete page with eight copies: 512 laid, in two bytes",
             calls: &[
@@ -354,7 +355,7 @@ pub const DELETES: [Deletes; 13] = [
         },
         frames: [ZEROS; 8],
     },
-    Deletes {
+    StoreCase {
         case: Case {
             name: "delete page with a null copy: nothing laid",
             calls: &["create 2 9", "delete-page 2 9"],
@@ -362,7 +363,7 @@ pub const DELETES: [Deletes; 13] = [
         },
         frames: [PAGE, FIRST, FIRST, FIRST, FIRST, FIRST, FIRST, FIRST],
     },
-    Deletes {
+    StoreCase {
         case: Case {
             name: "a freed frame used anew and freed again",
             calls: &[
@@ -388,7 +389,7 @@ pub const DELETES: [Deletes; 13] = [
         },
         frames: [PAGE, FIRST, FIRST, FIRST, FIRST, FIRST, ZEROS, FIRST],
     },
-    Deletes {
+    StoreCase {
         case: Case {
             name: "delete copy refused 15: no zeros",
             calls: &["delete-copy 5 0"],
@@ -396,7 +397,7 @@ pub const DELETES: [Deletes; 13] = [
         },
         frames: [PAGE, FIRST, FIRST, FIRST, FIRST, FIRST, FIRST, FIRST],
     },
-    Deletes {
+    StoreCase {
         case: Case {
             name: "delete copy of a null copy refused 15: no zeros",
             calls: &["create 2 9", "delete-copy 9 0"],
@@ -404,7 +405,7 @@ pub const DELETES: [Deletes; 13] = [
         },
         frames: [PAGE, FIRST, FIRST, FIRST, FIRST, FIRST, FIRST, FIRST],
     },
-    Deletes {
+    StoreCase {
         case: Case {
             name: "delete page refused 10: no zeros",
             calls: &["copy 5 0 6", "delete-page 4 5"],
@@ -412,7 +413,7 @@ pub const DELETES: [Deletes; 13] = [
         },
         frames: [PAGE, FIRST, FIRST, FIRST, FIRST, FIRST, PAGE, FIRST],
     },
-    Deletes {
+    StoreCase {
         case: Case {
             name: "deletes refused 7, 9 and 12: no zeros",
             calls: &[
@@ -434,6 +435,254 @@ pub const DELETES: [Deletes; 13] = [
         },
         frames: [PAGE, FIRST, FIRST, FIRST, FIRST, FIRST, FIRST, FIRST],
     },
+];
+
+/// A look at a free frame, and one at a retired frame.
+const FREE: &str = "00 07 01 00 00 00 00 FF FF";
+const WORN: &str = "00 07 01 00 00 00 02 FF FF";
+const OUTSIDE: &str = "00 04 01 07 00 00";
+const HELD: &str = "00 04 01 0D 00 00";
+const RETIRED: &str = "00 04 01 14 00 00";
+
+pub const RETIRES: [StoreCase; 12] = [
+    StoreCase {
+        case: Case {
+            name: "a free frame, fast or slow: nothing laid, shown as 2, 255, 255, its bytes stay",
+            calls: &[
+                "retire 1",
+                "retire 6",
+                "look-frame 1",
+                "look-frame 6",
+                "look-frame 2",
+            ],
+            replies: &[DONE, DONE, WORN, WORN, FREE],
+        },
+        frames: [PAGE, FIRST, FIRST, FIRST, FIRST, FIRST, FIRST, FIRST],
+    },
+    StoreCase {
+        case: Case {
+            name: "the last frame retired; the next one, 253, 254 and 255: 7",
+            calls: &[
+                "retire 7",
+                "retire 8",
+                "retire 253",
+                "retire 254",
+                "retire 255",
+                "look-frame 7",
+            ],
+            replies: &[DONE, OUTSIDE, OUTSIDE, OUTSIDE, OUTSIDE, WORN],
+        },
+        frames: [PAGE, FIRST, FIRST, FIRST, FIRST, FIRST, FIRST, FIRST],
+    },
+    StoreCase {
+        case: Case {
+            name: "a held frame: 13",
+            calls: &["retire 0", "look-frame 0", "copy 5 0 6", "retire 6"],
+            replies: &[HELD, "00 07 01 00 00 00 01 05 00", ONE_FRAME, HELD],
+        },
+        frames: [PAGE, FIRST, FIRST, FIRST, FIRST, FIRST, PAGE, FIRST],
+    },
+    StoreCase {
+        case: Case {
+            name: "a retired frame again: accepted without change",
+            calls: &[
+                "retire 3",
+                "retire 3",
+                "look-frame 3",
+                "retire 3",
+                "look-frame 3",
+            ],
+            replies: &[DONE, DONE, WORN, DONE, WORN],
+        },
+        frames: [PAGE, FIRST, FIRST, FIRST, FIRST, FIRST, FIRST, FIRST],
+    },
+    StoreCase {
+        case: Case {
+            name: "a copy to a retired frame: 20; to the next one: accepted",
+            calls: &[
+                "retire 5",
+                "copy 5 0 5",
+                "look-page 5",
+                "look-frame 5",
+                "copy 5 0 6",
+            ],
+            replies: &[
+                DONE,
+                RETIRED,
+                "00 08 01 00 00 00 01 00 01 01",
+                WORN,
+                ONE_FRAME,
+            ],
+        },
+        frames: [PAGE, FIRST, FIRST, FIRST, FIRST, FIRST, PAGE, FIRST],
+    },
+    StoreCase {
+        case: Case {
+            name: "a null copy to a retired frame: 20",
+            calls: &[
+                "create 2 9",
+                "retire 1",
+                "copy 9 0 1",
+                "look-page 9",
+                "copy 9 0 2",
+            ],
+            replies: &[
+                DONE,
+                DONE,
+                RETIRED,
+                "00 08 01 00 00 00 01 FF 00 01",
+                ONE_FRAME,
+            ],
+        },
+        frames: [PAGE, FIRST, ZEROS, FIRST, FIRST, FIRST, FIRST, FIRST],
+    },
+    StoreCase {
+        case: Case {
+            name: "a copy to a retired frame: 7, 9 and 12 before 20",
+            calls: &[
+                "retire 1",
+                "copy 64 0 1",
+                "copy 9 0 1",
+                "copy 5 1 1",
+                "copy 5 0 1",
+            ],
+            replies: &[
+                DONE,
+                OUTSIDE,
+                "00 04 01 09 00 00",
+                "00 04 01 0C 00 00",
+                RETIRED,
+            ],
+        },
+        frames: [PAGE, FIRST, FIRST, FIRST, FIRST, FIRST, FIRST, FIRST],
+    },
+    StoreCase {
+        case: Case {
+            name: "the page deleted: the marks stay",
+            calls: &[
+                "copy 5 0 6",
+                "retire 1",
+                "delete-page 3 5",
+                "look-frame 1",
+                "look-frame 6",
+                "create 3 5",
+                "copy 5 0 1",
+            ],
+            replies: &[
+                ONE_FRAME,
+                DONE,
+                "00 04 01 00 00 80",
+                WORN,
+                FREE,
+                DONE,
+                RETIRED,
+            ],
+        },
+        frames: [ZEROS, FIRST, FIRST, FIRST, FIRST, FIRST, ZEROS, FIRST],
+    },
+    StoreCase {
+        case: Case {
+            name: "a copy deleted: the marks stay",
+            calls: &[
+                "retire 1",
+                "copy 5 0 6",
+                "delete-copy 5 1",
+                "look-frame 1",
+                "copy 5 0 1",
+            ],
+            replies: &[DONE, ONE_FRAME, ONE_FRAME, WORN, RETIRED],
+        },
+        frames: [PAGE, FIRST, FIRST, FIRST, FIRST, FIRST, ZEROS, FIRST],
+    },
+    StoreCase {
+        case: Case {
+            name: "a freed frame retired: its zeros stay",
+            calls: &[
+                "copy 5 0 6",
+                "delete-copy 5 1",
+                "retire 6",
+                "look-frame 6",
+                "copy 5 0 6",
+            ],
+            replies: &[ONE_FRAME, ONE_FRAME, DONE, WORN, RETIRED],
+        },
+        frames: [PAGE, FIRST, FIRST, FIRST, FIRST, FIRST, ZEROS, FIRST],
+    },
+    StoreCase {
+        case: Case {
+            name: "all frames held or retired: reads and writes go on",
+            calls: &[
+                "retire 1",
+                "retire 2",
+                "retire 3",
+                "retire 4",
+                "retire 5",
+                "retire 6",
+                "retire 7",
+                "copy 5 0 0",
+                "copy 5 0 7",
+                "write 3 5 0 55",
+                "read 3 5 0 2",
+                "delete-page 3 5",
+                "retire 0",
+                "look-frame 0",
+            ],
+            replies: &[
+                DONE,
+                DONE,
+                DONE,
+                DONE,
+                DONE,
+                DONE,
+                DONE,
+                HELD,
+                RETIRED,
+                "00 04 01 00 00 01",
+                "00 06 01 00 00 00 55 37",
+                ONE_FRAME,
+                DONE,
+                WORN,
+            ],
+        },
+        frames: [ZEROS, FIRST, FIRST, FIRST, FIRST, FIRST, FIRST, FIRST],
+    },
+    StoreCase {
+        case: Case {
+            name: "L of 2 or 4: 4; kind 13: 3",
+            calls: &[
+                "raw 00 02 01 0C",
+                "raw 00 04 01 0C 01 00",
+                "raw 00 03 01 0D 01",
+                "look-frame 1",
+            ],
+            replies: &[
+                "00 04 01 04 00 00",
+                "00 04 01 04 00 00",
+                "00 04 01 03 00 00",
+                FREE,
+            ],
+        },
+        frames: [PAGE, FIRST, FIRST, FIRST, FIRST, FIRST, FIRST, FIRST],
+    },
+];
+
+/// Calls on the tables of `gen::shaped`, where frame 14 is retired and page 2 has eight copies: each
+/// with its reply to that state. More frames are needed than the program's unit has.
+pub const RETIRES_ON_SHAPED: [(&str, &str); 14] = [
+    ("retire 12", DONE),
+    ("retire 14", DONE),
+    ("retire 15", HELD),
+    ("retire 0", HELD),
+    ("retire 16", OUTSIDE),
+    ("look-frame 14", WORN),
+    ("look-frame 13", FREE),
+    ("copy 3 0 14", "00 04 01 09 00 00"),
+    ("copy 2 8 14", "00 04 01 0C 00 00"),
+    ("copy 2 7 14", RETIRED),
+    ("copy 1 0 14", RETIRED),
+    ("copy 0 0 14", RETIRED),
+    ("copy 2 0 10", HELD),
+    ("copy 2 0 13", "00 04 01 0E 00 00"),
 ];
 
 /// A call for the writer.
@@ -468,7 +717,7 @@ const fn written(
 /// "The writer gives 18 for a buffer below 71 bytes, then 7 as document 01 does, with frames up to
 /// 253 in range"; 3 for an unknown kind comes between.
 #[rustfmt::skip]
-pub const WRITTEN: [Written; 36] = [
+pub const WRITTEN: [Written; 40] = [
     written("the example's creation", (1, [3, 5, 0, 0]), &[], 71, Ok("create 3 5")),
     written("the example's copy", (6, [5, 0, 0, 0]), &[], 72, Ok("copy 5 0 0")),
     written("the example's set current", (8, [5, 0, 0, 0]), &[], 80, Ok("current 5 0")),
@@ -481,6 +730,8 @@ pub const WRITTEN: [Written; 36] = [
     written("a copy number past the last", (9, [0, 8, 0, 0]), &[], 71, Ok("remove-current 0 8")),
     written("a copy to the last frame", (6, [0, 255, 253, 0]), &[], 71, Ok("copy 0 255 253")),
     written("a look at the last frame", (11, [253, 0, 0, 0]), &[], 71, Ok("look-frame 253")),
+    written("a retire of the first frame", (12, [0, 0, 0, 0]), &[], 71, Ok("retire 0")),
+    written("a retire of the last frame", (12, [253, 255, 255, 255]), &[7; 65], 71, Ok("retire 253")),
     written("the last byte of a page", (4, [0, 0, 63, 1]), &[], 71, Ok("read 0 0 63 1")),
     written("what plays no part", (1, [3, 5, 255, 255]), &[7; 65], 71, Ok("create 3 5")),
     // 7.
@@ -490,6 +741,8 @@ pub const WRITTEN: [Written; 36] = [
     written("right 3", (3, [0, 0, 0, 3]), &[], 71, Err(7)),
     written("frame 254", (6, [0, 0, 254, 0]), &[], 71, Err(7)),
     written("frame 255, a look", (11, [255, 0, 0, 0]), &[], 71, Err(7)),
+    written("frame 254, a retire", (12, [254, 0, 0, 0]), &[], 71, Err(7)),
+    written("frame 255, a retire", (12, [255, 0, 0, 0]), &[], 71, Err(7)),
     written("count 0", (4, [0, 0, 0, 0]), &[], 71, Err(7)),
     written("count 65", (4, [0, 0, 0, 65]), &[], 71, Err(7)),
     written("offset 63, count 2", (4, [0, 0, 63, 2]), &[], 71, Err(7)),
@@ -501,12 +754,12 @@ pub const WRITTEN: [Written; 36] = [
     written("a write of 257 bytes: 1 in one byte", (5, [0, 0, 0, 0]), &[7; 257], 71, Err(7)),
     // 3.
     written("kind 0", (0, [0; 4]), &[], 71, Err(3)),
-    written("kind 12", (12, [255; 4]), &[], 71, Err(3)),
+    written("kind 13", (13, [255; 4]), &[], 71, Err(3)),
     written("kind 255", (255, [0; 4]), &[], 71, Err(3)),
     // 18.
     written("70 bytes, whatever the message", (10, [5, 0, 0, 0]), &[], 70, Err(18)),
     written("70 bytes, out of range", (10, [64, 0, 0, 0]), &[], 70, Err(18)),
-    written("70 bytes, an unknown kind", (12, [0; 4]), &[], 70, Err(18)),
+    written("70 bytes, an unknown kind", (13, [0; 4]), &[], 70, Err(18)),
     written("no byte", (11, [0; 4]), &[], 0, Err(18)),
 ];
 
@@ -536,14 +789,17 @@ const fn read(
 }
 
 #[rustfmt::skip]
-pub const READ: [Read; 51] = [
+pub const READ: [Read; 57] = [
     read("the example's creation", 1, DONE, Ok((0, 0, ""))),
     read("the example's copy", 6, ONE_FRAME, Ok((0, 64, ""))),
     read("the example's set current", 8, DONE, Ok((0, 0, ""))),
     read("the example's write", 5, "00 04 01 00 00 02", Ok((0, 2, ""))),
     read("the example's read", 4, "00 07 01 00 00 00 41 37 00", Ok((0, 0, "41 37 00"))),
     read("the example's look", 10, "00 08 01 00 00 00 01 00 01 01", Ok((0, 0, "01 00 01 01"))),
-    read("a free frame", 11, "00 07 01 00 00 00 00 FF FF", Ok((0, 0, "00 FF FF"))),
+    read("a free frame", 11, FREE, Ok((0, 0, "00 FF FF"))),
+    read("a retired frame", 11, WORN, Ok((0, 0, "02 FF FF"))),
+    read("a retire", 12, DONE, Ok((0, 0, ""))),
+    read("any bytes laid by a retire", 12, ONE_FRAME, Ok((0, 64, ""))),
     read("any three bytes of a frame look", 11, "00 07 01 00 00 00 09 40 08", Ok((0, 0, "09 40 08"))),
     read("a null copy", 10, "00 08 01 00 00 00 01 FF 00 01", Ok((0, 0, "01 FF 00 01"))),
     read("any frame of a page look", 10, "00 08 01 00 00 00 01 FE 01 00", Ok((0, 0, "01 FE 01 00"))),
@@ -552,6 +808,7 @@ pub const READ: [Read; 51] = [
     read("a number that the kind never gets", 4, "00 04 01 08 00 00", Ok((8, 0, ""))),
     read("number 18", 1, "00 04 01 12 00 00", Ok((18, 0, ""))),
     read("number 19", 1, "00 04 01 13 00 00", Ok((19, 0, ""))),
+    read("number 20", 6, RETIRED, Ok((20, 0, ""))),
     read("a reply that carries 1", 1, "00 04 01 01 00 00", Ok((1, 0, ""))),
     read("bytes after the reply", 1, "00 04 01 00 00 00 00 04 02", Ok((0, 0, ""))),
     read("a read, bytes after it", 4, "00 05 01 00 00 00 41 37 00", Ok((0, 0, "41"))),
@@ -562,20 +819,21 @@ pub const READ: [Read; 51] = [
     read("the last byte missing", 1, "00 04 01 00 00", Err(1)),
     read("the last byte of a read missing", 4, "00 07 01 00 00 00 41 37", Err(1)),
     read("cut short before a foreign version", 1, "00 04 02 00 00", Err(1)),
-    read("cut short before an unknown kind", 12, "00 04 01 00 00", Err(1)),
+    read("cut short before an unknown kind", 13, "00 04 01 00 00", Err(1)),
     // 2.
     read("L of 0", 1, "00 00 01 00 00 00", Err(2)),
     read("version 2", 1, "00 04 02 00 00 00", Err(2)),
-    read("a foreign version before an unknown kind", 12, "00 04 00 00 00 00", Err(2)),
+    read("a foreign version before an unknown kind", 13, "00 04 00 00 00 00", Err(2)),
     read("a foreign version before a wrong length", 1, "00 01 02", Err(2)),
     // 3.
     read("kind 0", 0, DONE, Err(3)),
-    read("kind 12", 12, DONE, Err(3)),
-    read("an unknown kind before a wrong length", 12, "00 01 01", Err(3)),
+    read("kind 13", 13, DONE, Err(3)),
+    read("an unknown kind before a wrong length", 13, "00 01 01", Err(3)),
     // 4.
     read("L of 1", 1, "00 01 01", Err(4)),
     read("L of 3", 1, "00 03 01 00 00", Err(4)),
     read("data for a kind that has none", 1, "00 05 01 00 00 00 00", Err(4)),
+    read("a retire with the data of a frame look", 12, WORN, Err(4)),
     read("a read of no byte", 4, DONE, Err(4)),
     read("a page look of no byte", 10, DONE, Err(4)),
     read("a frame look of two bytes", 11, "00 06 01 00 00 00 00 FF", Err(4)),
@@ -587,7 +845,8 @@ pub const READ: [Read; 51] = [
     read("a CURRENT byte of 2", 10, "00 08 01 00 00 00 01 00 02 01", Err(4)),
     read("a MOST RECENT byte of 2", 10, "00 08 01 00 00 00 01 00 01 02", Err(4)),
     read("the second copy's CURRENT byte 2", 10, "00 0B 01 00 00 00 02 00 01 01 06 02 01", Err(4)),
-    read("number 20", 1, "00 04 01 14 00 00", Err(4)),
+    read("number 21", 1, "00 04 01 15 00 00", Err(4)),
+    read("number 20 with bytes laid", 6, "00 04 01 14 00 40", Err(4)),
     read("number 255", 1, "00 04 01 FF 00 00", Err(4)),
     read("a refusal with bytes laid", 1, "00 04 01 08 00 40", Err(4)),
     read("a refusal with bytes laid, in the high byte", 2, "00 04 01 0A 02 00", Err(4)),
@@ -659,7 +918,7 @@ impl Case {
     }
 }
 
-impl Deletes {
+impl StoreCase {
     /// The stores that it leaves, fast and slow.
     pub fn stores(&self) -> [Vec<u8>; 2] {
         let first = unit(SLIP);

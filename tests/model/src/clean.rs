@@ -32,7 +32,7 @@ impl Clean {
     /// The end, with the tables and stores that the run left. Of the frames that no copy has, each
     /// that was held at any time holds 64 zeros, and each that was never held its first bytes.
     pub fn end(&self, tables: &Tables, fast: &[u8], slow: &[u8]) -> Result<(), String> {
-        for frame in (0..tables.frames() as u8).filter(|&frame| tables.is_free(frame)) {
+        for frame in (0..tables.frames() as u8).filter(|&frame| !tables.is_held(frame)) {
             let (due, word) = match self.held[usize::from(frame)] {
                 true => (&[0; FRAME][..], "was freed and is not all zeros"),
                 false => {

@@ -3,11 +3,12 @@
 use crate::clean::Clean;
 use crate::exchange::Turns;
 use crate::flat::Demand3;
+use crate::frames::Frames;
 use crate::gen::{self, Moves, Rng, DAMAGES, SHORT_SLIPS, SLIPS};
 use crate::kernel::{packed, Kernel, Modelled};
 use crate::model::{
     self, frame_bytes, Call, Lent, PageCopy, Reached, Reader, Refusal, Tables, ENTRIES, FRAME, RAW,
-    RECORD, REGISTER, SLIP,
+    RECORD, REGISTER, RETIRED, SLIP,
 };
 use reel::words::{self, hex, WORDS};
 
@@ -15,7 +16,7 @@ use reel::words::{self, hex, WORDS};
 pub const LEAST: u64 = 100;
 
 /// States and events that a run should reach, counted message by message.
-pub const DEPTHS: [&str; 15] = [
+pub const DEPTHS: [&str; 26] = [
     "eight copies",
     "stale copies",
     "several current copies",
@@ -31,17 +32,30 @@ pub const DEPTHS: [&str; 15] = [
     "a null copy's page deleted",
     "a frame of zeros freed",
     "a delete refused",
+    "a free fast frame retired",
+    "a free slow frame retired",
+    "a frame that was held retired",
+    "a retired frame retired again",
+    "a retire of a held frame refused",
+    "a look at a retired frame",
+    "a copy to a retired frame refused",
+    "a null copy to one refused",
+    "a ninth copy to one refused",
+    "a page deleted beside one",
+    "no frame free, some retired",
 ];
 
 #[derive(Default)]
 pub struct Counts {
     pub messages: u64,
-    /// How often each number was given: 0 to 18 by answers, 19 by fresh tables.
+    /// How often each number was given: 19 by fresh tables, the others by answers.
     pub numbers: [u64; WORDS.len()],
     pub depths: [u64; DEPTHS.len()],
-    /// Whole files run, and those of them on which demand 3 and the clean cards were checked.
+    /// Whole files run, those of them on which demand 3 and the clean cards were checked, and those on
+    /// which the three sorts of frames were.
     pub runs: u64,
     pub runs_from_fresh: u64,
+    pub runs_from_sound: u64,
     /// Calls that keep the replies of a part of a file.
     pub parts: u64,
     /// Messages written again, and replies read back.
@@ -93,7 +107,7 @@ impl Compare<'_> {
             let length = match self.rng.below(64) {
                 0 => self
                     .rng
-                    .pick(&[0, 1, 2, REGISTER, RAW - 1, RAW + 1, 2 * RAW]),
+                    .pick(&[0, 1, 2, REGISTER, RETIRED, RAW - 1, RAW + 1, 2 * RAW]),
                 _ => RAW,
             };
             let mut by_kernel = self.rng.bytes(length);
@@ -418,6 +432,10 @@ impl Compare<'_> {
             trial.lent = self.answer(&lent, &bytes)?;
             trial.file.extend(message);
             trial.replies.extend(reply_in(&trial.lent.out));
+            if let Some(frames) = &mut trial.frames {
+                let checked = frames.turn(&lent, &trial.lent);
+                checked.map_err(|error| format!("{}\n  {error}", words::message(message)))?;
+            }
             let after = trial.tables();
             if let Some((demand3, clean)) = &mut trial.promises {
                 let reply = reply_in(&trial.lent.out);
@@ -451,6 +469,7 @@ impl Compare<'_> {
             return Err("a run came to another end than its messages one by one".into());
         }
         self.whole_replies(trial)?;
+        self.counts.runs_from_sound += u64::from(trial.frames.is_some());
         if let Some((demand3, clean)) = &trial.promises {
             self.counts.runs_from_fresh += 1;
             let tables = Tables::from_raw(&end.tables).ok_or("a run left broken tables")?;
@@ -505,6 +524,8 @@ struct Trial {
     replies: Vec<u8>,
     /// For a run from fresh tables.
     promises: Option<(Demand3, Clean)>,
+    /// For a run on sound tables.
+    frames: Option<Frames>,
     frames_used: [bool; 256],
     pages_used: [bool; 256],
 }
@@ -513,6 +534,7 @@ impl Trial {
     fn new(start: Lent) -> Trial {
         Trial {
             lent: start.clone(),
+            frames: Tables::from_raw(&start.tables).map(|_| Frames::start(&start)),
             start,
             file: Vec::new(),
             replies: Vec::new(),
@@ -555,8 +577,8 @@ impl Trial {
         };
         let is_delete = matches!(call, Ok(Call::DeletePage { .. } | Call::DeleteCopy { .. }));
         let by_copy = matches!(call, Ok(Call::DeleteCopy { .. }));
-        let gone = match call {
-            Ok(call) if accepted => deleted(before, &call),
+        let gone = match &call {
+            Ok(call) if accepted => deleted(before, call),
             _ => Vec::new(),
         };
         let freed: Vec<u8> = gone.iter().filter_map(|copy| copy.frame).collect();
@@ -567,11 +589,26 @@ impl Trial {
             held.iter().all(|&byte| byte == 0)
         };
         let held = before.copies().filter(|(_, _, copy)| copy.frame.is_some());
+        let held = held.count();
+        let retired = before.retired_frames().count();
+        let (retires, looks_at, copies_to) = match call {
+            Ok(Call::Retire { frame }) => (Some(frame), None, None),
+            Ok(Call::LookFrame { frame }) => (None, Some(frame), None),
+            Ok(Call::MakeCopy { page, copy, frame }) => (None, None, Some((page, copy, frame))),
+            _ => (None, None, None),
+        };
+        let newly = retires.filter(|&frame| accepted && before.is_free(frame));
+        let worn = |frame: u8| before.is_retired(frame);
+        // The source page of a copy to a retired frame that is refused for the frame.
+        let source = copies_to.and_then(|(page, copy, frame)| {
+            let page = before.pages.get(usize::from(page))?.as_ref()?;
+            (worn(frame) && usize::from(copy) < page.copies.len()).then_some(page)
+        });
         let reached = [
             pages().any(|page| page.copies.len() == ENTRIES),
             pages().any(|page| page.copies.iter().any(|copy| !copy.recent)),
             pages().any(|page| page.current_frames().len() > 1),
-            before.frames() > 0 && held.count() == before.frames(),
+            before.frames() > 0 && held == before.frames(),
             pages().any(|page| page.rights[usize::from(page.owner)] < 2),
             frame_anew,
             page_anew,
@@ -583,6 +620,17 @@ impl Trial {
             gone.len() > freed.len(),
             freed.iter().any(is_zeros),
             is_delete && !accepted,
+            newly.is_some_and(|frame| frame < before.fast),
+            newly.is_some_and(|frame| frame >= before.fast),
+            newly.is_some_and(|frame| self.frames_used[usize::from(frame)]),
+            accepted && retires.is_some_and(worn),
+            retires.is_some_and(|frame| before.is_held(frame)),
+            looks_at.is_some_and(worn),
+            source.is_some(),
+            source.is_some_and(|page| page.copies[0].frame.is_none()),
+            source.is_some_and(|page| page.copies.len() == ENTRIES),
+            retired > 0 && !freed.is_empty() && !by_copy,
+            retired > 0 && held + retired == before.frames(),
         ];
         for (count, reached) in counts.depths.iter_mut().zip(reached) {
             *count += u64::from(reached);
@@ -628,6 +676,7 @@ fn first_difference(name: &str, kernel: &[u8], model: &[u8]) -> Option<String> {
     }
     let at = kernel.iter().zip(model).position(|(k, m)| k != m)?;
     let place = match name {
+        "tables" if at >= RETIRED => format!("byte {at} (the mark of frame {})", at - RETIRED),
         "tables" if at >= REGISTER => {
             let (frame, byte) = ((at - REGISTER) / 2, (at - REGISTER) % 2);
             format!("byte {at} (the register, frame {frame}, byte {byte} of its entry)")
@@ -700,6 +749,8 @@ fn lent_in_words(lent: &Lent) -> String {
                     words.push_str(&format!("\n  page {number}: {page:?}"));
                 }
             }
+            let retired: Vec<u8> = tables.retired_frames().collect();
+            words.push_str(&format!("\n  retired frames: {retired:?}"));
         }
     }
     words

@@ -441,7 +441,7 @@ impl Exchange<'_> {
             let mut damaged = out.to_vec();
             damaged[at] ^= 1 << self.rng.below(8);
             self.read(kind, &damaged)?;
-            damaged[at] = self.rng.pick(&[0, 1, 2, 4, 19, 20, 255]);
+            damaged[at] = self.rng.pick(&[0, 1, 2, 4, 20, 21, 255]);
             self.read(kind, &damaged)?;
             damaged[self.rng.below(length)] = self.rng.byte();
             self.read(kind, &damaged)?;
@@ -540,7 +540,7 @@ impl Exchange<'_> {
                     let length = 256 * high + low;
                     let mut data = self.look((low / 3) as u8);
                     data.resize(length, 0);
-                    let number = self.rng.pick(&[0, 0, 9, 19, 20]);
+                    let number = self.rng.pick(&[0, 0, 9, 20, 21]);
                     let whole = reply(length, VERSION, number, [0, 0], &data);
                     for lent in [low + 2, 255, length + 1, length + 2, length + 3] {
                         self.read(kind, &whole[..lent])?;

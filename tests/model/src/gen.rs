@@ -2,7 +2,8 @@
 
 use crate::model::{
     frame_bytes, message, Call, Lent, Page, PageCopy, Tables, ENTRIES, FRAME, KINDS, MOST_FRAMES,
-    NO_FRAME, NO_HOLDER, PAGES, RAW, RECORD, REGISTER, REGISTERED, SLIP, STATIONS, VERSION,
+    NO_FRAME, NO_HOLDER, PAGES, RAW, RECORD, REGISTER, REGISTERED, RETIRED, SLIP, STATIONS,
+    VERSION,
 };
 use crate::stations::{arguments, Sent};
 
@@ -108,6 +109,10 @@ pub fn lawful(rng: &mut Rng) -> Lent {
             *page = Some(lawful_page(rng, &frames));
         }
     }
+    let worn = rng.below(5);
+    for frame in free {
+        tables.retired[usize::from(frame)] = rng.below(4) < worn;
+    }
     lend(rng, &tables)
 }
 
@@ -140,7 +145,8 @@ fn lawful_page(rng: &mut Rng, frames: &[u8]) -> Page {
 
 /// Lawful tables with every shape of page, for the sweeps: page 0 with two CURRENT copies and a
 /// stale one, page 1 with a null copy, page 2 with eight copies, page 5 with one CURRENT copy,
-/// page 63 with a MOST RECENT one that is not CURRENT; frames 12 to 14 free, the rest absent.
+/// page 63 with a MOST RECENT one that is not CURRENT, the rest absent; frames 12 and 13 free, frame
+/// 14 retired.
 pub fn shaped(rng: &mut Rng) -> Lent {
     let copy = |frame, current, recent| PageCopy {
         frame,
@@ -172,6 +178,7 @@ pub fn shaped(rng: &mut Rng) -> Lent {
     );
     tables.pages[5] = page(0, vec![copy(Some(11), true, true)]);
     tables.pages[63] = page(3, vec![copy(Some(15), false, true)]);
+    tables.retired[usize::from(WORN)] = true;
     lend(rng, &tables)
 }
 
@@ -187,6 +194,11 @@ fn entry(page: usize, copy: usize) -> usize {
 
 fn owner(page: usize) -> usize {
     record(page) + RECORD - 2
+}
+
+/// The mark of a retired frame.
+fn retired(frame: u8) -> usize {
+    RETIRED + usize::from(frame)
 }
 
 fn n(page: usize) -> usize {
@@ -213,7 +225,7 @@ fn exchange_holders(tables: &mut [u8], one: u8, other: u8) {
 /// Makes the register right for the page records as they are, sound or not: for each frame the
 /// first copy on it.
 pub fn register_anew(tables: &mut [u8]) {
-    tables[REGISTER..].fill(255);
+    tables[REGISTER..RETIRED].fill(255);
     for page in (0..PAGES).rev() {
         for copy in (0..ENTRIES.min(tables[n(page)].into())).rev() {
             let frame = tables[entry(page, copy)];
@@ -222,6 +234,23 @@ pub fn register_anew(tables: &mut [u8]) {
             }
         }
     }
+}
+
+/// How many copies the page records have on each frame.
+pub(crate) fn copies_on(tables: &[u8]) -> [usize; 256] {
+    let mut on = [0; 256];
+    for page in 0..PAGES {
+        for copy in 0..ENTRIES.min(tables[n(page)].into()) {
+            on[usize::from(tables[entry(page, copy)])] += 1;
+        }
+    }
+    on[usize::from(NO_FRAME)] = 0;
+    on
+}
+
+/// Whether a frame has the mark of a retired one.
+pub(crate) fn is_marked(tables: &[u8], frame: usize) -> bool {
+    tables[RETIRED + frame] != 0
 }
 
 /// A number above `limit` up to `most`, often the next one.
@@ -235,13 +264,15 @@ fn above(rng: &mut Rng, limit: u8, most: u8) -> u8 {
 /// A way to break one table rule of `shaped` tables.
 pub type Damage = (&'static str, fn(&mut Rng, &mut Lent));
 
-/// Frames of `shaped` tables: those of page 2's copies, those of all copies, and the free ones.
+/// Frames of `shaped` tables: those of page 2's copies, those of all copies, the free ones, and the
+/// retired one.
 const EIGHT: [u8; 8] = [1, 2, 4, 5, 6, 7, 9, 10];
 const HELD: [u8; 13] = [0, 1, 2, 3, 4, 5, 6, 7, 8, 9, 10, 11, 15];
-const FREE: [u8; 3] = [12, 13, 14];
+const FREE: [u8; 2] = [12, 13];
+const WORN: u8 = 14;
 
 /// Every table rule broken in turn, and no other: where frames or n change, the register follows.
-pub const DAMAGES: [Damage; 49] = [
+pub const DAMAGES: [Damage; 59] = [
     ("P above 127", |rng, lent| {
         lent.tables[0] = above(rng, MOST_FRAMES, 255);
         lent.fast = rng.bytes(FRAME * usize::from(lent.tables[0]));
@@ -407,14 +438,45 @@ pub const DAMAGES: [Damage; 49] = [
         set_holder(&mut lent.tables, frame, turned);
     }),
     ("a bit of the register flipped", |rng, lent| {
-        let at = REGISTER + rng.below(RAW - REGISTER);
+        let at = REGISTER + rng.below(RETIRED - REGISTER);
         lent.tables[at] ^= 1 << rng.below(8);
     }),
     ("a register of zeros", |_, lent| {
-        lent.tables[REGISTER..].fill(0);
+        lent.tables[REGISTER..RETIRED].fill(0);
     }),
     ("a fresh register", |_, lent| {
-        lent.tables[REGISTER..].fill(255);
+        lent.tables[REGISTER..RETIRED].fill(255);
+    }),
+    ("a retired frame's entry set", |rng, lent| {
+        set_holder(&mut lent.tables, WORN, any_holder(rng));
+    }),
+    ("an entry moved to a retired frame", |rng, lent| {
+        exchange_holders(&mut lent.tables, rng.pick(&HELD), WORN);
+    }),
+    ("a copy on a retired frame", |_, lent| {
+        lent.tables[entry(5, 0)] = WORN;
+        register_anew(&mut lent.tables);
+    }),
+    ("a held frame marked as retired", |rng, lent| {
+        lent.tables[retired(rng.pick(&HELD))] = 1;
+    }),
+    ("a mark past the last frame", |rng, lent| {
+        lent.tables[retired(above(rng, 15, 253))] = 1;
+    }),
+    ("the last mark set", |_, lent| {
+        lent.tables[retired(253)] = 1;
+    }),
+    ("a retired frame's mark neither 0 nor 1", |rng, lent| {
+        lent.tables[retired(WORN)] = above(rng, 1, 255);
+    }),
+    ("a free frame's mark neither 0 nor 1", |rng, lent| {
+        lent.tables[retired(rng.pick(&FREE))] = above(rng, 1, 255);
+    }),
+    ("a held frame's mark neither 0 nor 1", |rng, lent| {
+        lent.tables[retired(rng.pick(&HELD))] = above(rng, 1, 255);
+    }),
+    ("every frame marked", |_, lent| {
+        lent.tables[RETIRED..].fill(1);
     }),
 ];
 
@@ -468,11 +530,16 @@ pub fn damage_register(rng: &mut Rng, lent: &mut Lent) {
     }
 }
 
-/// Lent tables with each bit of each mark of every entry flipped, one at a time.
-pub fn flipped_marks(lent: &Lent) -> impl Iterator<Item = Lent> + '_ {
+/// Where the marks of every entry stand, and those of retired frames.
+fn marks() -> impl Iterator<Item = usize> {
     let entries = (0..PAGES).flat_map(|page| (0..ENTRIES).map(move |copy| entry(page, copy)));
-    let marks = entries.flat_map(|entry| [entry + 1, entry + 2]);
-    let bits = marks.flat_map(|mark| (0..8).map(move |bit| (mark, bit)));
+    let of_copies = entries.flat_map(|entry| [entry + 1, entry + 2]);
+    of_copies.chain(RETIRED..RAW)
+}
+
+/// Lent tables with each bit of each mark flipped, one at a time.
+pub fn flipped_marks(lent: &Lent) -> impl Iterator<Item = Lent> + '_ {
+    let bits = marks().flat_map(|mark| (0..8).map(move |bit| (mark, bit)));
     bits.map(|(mark, bit)| {
         let mut flipped = lent.clone();
         flipped.tables[mark] ^= 1 << bit;
@@ -480,17 +547,27 @@ pub fn flipped_marks(lent: &Lent) -> impl Iterator<Item = Lent> + '_ {
     })
 }
 
-/// Marks of copies that stand as other bytes than 0 and 1, as many as come.
+/// Marks of 1 as other bytes than 0 and 1, as many as come.
 pub fn odd_marks(rng: &mut Rng, lent: &mut Lent) {
-    for page in 0..PAGES {
-        for copy in 0..ENTRIES {
-            for mark in &mut lent.tables[entry(page, copy) + 1..][..2] {
-                if *mark != 0 && rng.once_in(2) {
-                    *mark = rng.within(1, 255);
-                }
-            }
+    for at in marks() {
+        if lent.tables[at] != 0 && rng.once_in(2) {
+            lent.tables[at] = rng.within(1, 255);
         }
     }
+}
+
+/// A frame's mark set, of the frames of the tables or past the last one; rather to 1.
+pub fn damage_retired(rng: &mut Rng, lent: &mut Lent) {
+    let frames = usize::from(lent.tables[0]) + usize::from(lent.tables[1]);
+    let frame = match rng.below(3) {
+        0 => rng.below(REGISTERED),
+        1 => frames.min(REGISTERED - 1),
+        _ => rng.below(frames.clamp(1, REGISTERED)),
+    };
+    lent.tables[RETIRED + frame] = match rng.below(4) {
+        0 => above(rng, 1, 255),
+        _ => 1,
+    };
 }
 
 /// A store of a wrong length, or the two stores exchanged.
@@ -518,6 +595,7 @@ pub fn misfit_tables(rng: &mut Rng, lent: &mut Lent) {
         1,
         2,
         REGISTER,
+        RETIRED,
         RAW - RECORD,
         RAW - 1,
         RAW + 1,
@@ -533,15 +611,16 @@ pub fn hinder(rng: &mut Rng, lent: &mut Lent) {
     if lent.tables.len() != RAW {
         return;
     }
-    match rng.below(10) {
+    match rng.below(12) {
         0 | 1 => {
             let slip = rng.pick(&SHORT_SLIPS);
             lent.out = rng.bytes(slip);
         }
         2..=4 => damage_byte(rng, lent),
         5 | 6 => damage_register(rng, lent),
-        7 => odd_marks(rng, lent),
-        8 => misfit(rng, lent),
+        7 | 8 => damage_retired(rng, lent),
+        9 => odd_marks(rng, lent),
+        10 => misfit(rng, lent),
         _ => misfit_tables(rng, lent),
     }
 }
@@ -549,7 +628,7 @@ pub fn hinder(rng: &mut Rng, lent: &mut Lent) {
 // ---- Messages ----
 
 /// How much each kind of message is wanted, before a phase sets its own weights.
-const WEIGHTS: [usize; KINDS] = [1, 2, 6, 12, 16, 20, 6, 20, 5, 4, 4];
+const WEIGHTS: [usize; KINDS] = [1, 2, 6, 12, 16, 20, 6, 20, 5, 4, 4, 3];
 
 /// The moves of one run, in phases that each have pages, stations and kinds of their own.
 pub struct Moves {
@@ -557,6 +636,8 @@ pub struct Moves {
     stations: Vec<u8>,
     weights: [usize; KINDS],
     left: usize,
+    /// So many quarters of the frames may be retired.
+    worn: usize,
 }
 
 impl Moves {
@@ -566,6 +647,7 @@ impl Moves {
             stations: Vec::new(),
             weights: WEIGHTS,
             left: 0,
+            worn: rng.pick(&[0, 1, 1, 2, 4]),
         };
         moves.new_phase(rng);
         moves
@@ -592,6 +674,7 @@ impl Moves {
             0 => any_call(rng),
             _ => self.sensible(rng, tables, lent),
         };
+        let call = self.spared(tables, call);
         if last && rng.once_in(2) {
             return cut(rng, &call.encode());
         }
@@ -660,11 +743,15 @@ impl Moves {
                     bytes: written(rng, tables, lent, record, offset.into(), count.into()),
                 }
             }
+            // Of a ninth copy only the refusals and their order are left to see.
+            5 if record.copies.len() == ENTRIES => Call::MakeCopy {
+                page,
+                copy,
+                frame: any_frame(rng, tables),
+            },
             5 => match frame(rng, tables) {
                 // In full stores a copy rather makes room.
-                frame if !tables.is_free(frame) && rng.once_in(2) => {
-                    Call::DeleteCopy { page, copy }
-                }
+                frame if tables.is_held(frame) && rng.once_in(2) => Call::DeleteCopy { page, copy },
                 frame => Call::MakeCopy { page, copy, frame },
             },
             6 => Call::DeleteCopy { page, copy },
@@ -674,9 +761,31 @@ impl Moves {
             },
             8 => Call::RemoveCurrent { page, copy },
             9 => Call::LookPage { page },
-            _ => Call::LookFrame {
-                frame: rng.below(tables.frames().max(1)) as u8,
+            10 => Call::LookFrame {
+                frame: any_frame(rng, tables),
             },
+            _ => Call::Retire {
+                frame: match rng.below(2) {
+                    0 => frame(rng, tables),
+                    _ => any_frame(rng, tables),
+                },
+            },
+        }
+    }
+
+    /// Retired frames never come back: a run that has retired its share of them looks at the next one
+    /// instead, so that it still has frames to copy to.
+    fn spared(&self, tables: &Tables, call: Call) -> Call {
+        let retired = tables.retired_frames().count();
+        match call {
+            Call::Retire { frame }
+                if usize::from(frame) < tables.frames()
+                    && tables.is_free(frame)
+                    && 4 * retired >= self.worn * tables.frames() =>
+            {
+                Call::LookFrame { frame }
+            }
+            call => call,
         }
     }
 
@@ -738,18 +847,31 @@ fn recent(rng: &mut Rng, page: &Page) -> Option<u8> {
 /// Mostly a free frame, and rather the lowest or the highest, so that frames are used anew and pages
 /// stand in both stores.
 fn frame(rng: &mut Rng, tables: &Tables) -> u8 {
-    let mut held = [false; 256];
+    let mut taken = [false; 256];
     for (_, _, copy) in tables.copies() {
-        held[usize::from(copy.frame.unwrap_or(NO_FRAME))] = true;
+        taken[usize::from(copy.frame.unwrap_or(NO_FRAME))] = true;
+    }
+    for frame in tables.retired_frames() {
+        taken[usize::from(frame)] = true;
     }
     let all = tables.frames().min(255) as u8;
-    let free: Vec<u8> = (0..all).filter(|&f| !held[usize::from(f)]).collect();
+    let free: Vec<u8> = (0..all).filter(|&f| !taken[usize::from(f)]).collect();
     match rng.below(12) {
-        0 => rng.below(usize::from(all).max(1)) as u8,
-        1..=4 if !free.is_empty() => free[0],
+        0 | 1 => any_frame(rng, tables),
+        2..=4 if !free.is_empty() => free[0],
         5 | 6 if !free.is_empty() => free[free.len() - 1],
         _ if !free.is_empty() => rng.pick(&free),
-        _ => rng.below(usize::from(all).max(1)) as u8,
+        _ => any_frame(rng, tables),
+    }
+}
+
+/// Any frame, now and then a retired one or the one past the last.
+fn any_frame(rng: &mut Rng, tables: &Tables) -> u8 {
+    let retired: Vec<u8> = tables.retired_frames().collect();
+    match rng.below(16) {
+        0 => tables.frames() as u8,
+        1..=6 if !retired.is_empty() => rng.pick(&retired),
+        _ => rng.below(tables.frames().max(1)) as u8,
     }
 }
 
@@ -812,7 +934,8 @@ fn any_call(rng: &mut Rng) -> Call {
         8 => Call::SetCurrent { page, copy },
         9 => Call::RemoveCurrent { page, copy },
         10 => Call::LookPage { page },
-        _ => Call::LookFrame { frame },
+        11 => Call::LookFrame { frame },
+        _ => Call::Retire { frame },
     }
 }
 
@@ -858,8 +981,8 @@ fn broken(rng: &mut Rng, call: &Call) -> Vec<u8> {
     let mut body = call.encode().split_off(2);
     match rng.below(8) {
         0 => body[0] = rng.byte(),
-        1 => body[1] = rng.pick(&[0, 12, 13, 128, 255, body[0].wrapping_add(11)]),
-        2 => body[1] = rng.within(0, 12),
+        1 => body[1] = rng.pick(&[0, 13, 14, 128, 255, body[0].wrapping_add(12)]),
+        2 => body[1] = rng.within(0, 13),
         3 => body.truncate(rng.below(body.len())),
         4 => {
             let more = rng.within(1, 70).into();
@@ -907,7 +1030,7 @@ pub fn cut(rng: &mut Rng, message: &[u8]) -> Vec<u8> {
 /// A file of no sense: small bytes at random, so that some pass for lengths.
 pub fn nonsense(rng: &mut Rng) -> Vec<u8> {
     let length = rng.pick(&[0, 1, 2, 3, 30, 300, 1000]);
-    let most = rng.pick(&[1, 6, 12, 70, 255]);
+    let most = rng.pick(&[1, 6, 13, 70, 255]);
     (0..length).map(|_| rng.within(0, most)).collect()
 }
 
@@ -927,6 +1050,7 @@ pub fn shaped_calls(rng: &mut Rng) -> [Call; KINDS] {
         Call::RemoveCurrent { page: 0, copy: 2 },
         Call::LookPage { page: 2 },
         Call::LookFrame { frame: 10 },
+        Call::Retire { frame: 12 },
     ];
     calls
 }

@@ -1,5 +1,6 @@
-//! The model of document 01, with the deletes of request [2] of document 02, in the order of the
-//! paper: tables and stores, steps, call files and replies, refusals, the run, the program.
+//! The model of document 01, with the deletes of request [2] and the retired frames of request [5] of
+//! document 02, in the order of the paper: tables and stores, steps, call files and replies, refusals,
+//! the run, the program.
 
 pub const PAGES: usize = 64;
 pub const STATIONS: usize = 16;
@@ -20,6 +21,8 @@ pub struct Tables {
     pub slow: u8,
     /// The 64 pages; an absent one is None.
     pub pages: Vec<Option<Page>>,
+    /// The marks of retired frames, one for each frame number whatever P and S are.
+    pub retired: [bool; REGISTERED],
 }
 
 #[derive(Clone, Debug, PartialEq, Eq)]
@@ -38,11 +41,13 @@ pub struct PageCopy {
     pub recent: bool,
 }
 
-/// The length of raw tables: P, S, 64 page records and the register.
-pub const RAW: usize = REGISTER + 2 * REGISTERED;
+/// The length of raw tables: P, S, 64 page records, the register and the marks of retired frames.
+pub const RAW: usize = RETIRED + REGISTERED;
+/// Where in raw tables the marks of retired frames begin.
+pub const RETIRED: usize = REGISTER + 2 * REGISTERED;
 /// Where in raw tables the register begins.
 pub const REGISTER: usize = 2 + PAGES * RECORD;
-/// So many frames have an entry in the register, whatever P and S are.
+/// So many frames have an entry in the register and a mark, whatever P and S are.
 pub const REGISTERED: usize = 2 * MOST_FRAMES as usize;
 /// The entry of a frame that no copy is on; of others it is 8 * page + copy.
 pub const NO_HOLDER: u16 = 65535;
@@ -61,13 +66,23 @@ fn fresh_record() -> [u8; RECORD] {
     record
 }
 
+/// The mark that a raw byte stands for; None if it is neither 0 nor 1.
+fn mark(byte: u8) -> Option<bool> {
+    match byte {
+        0 => Some(false),
+        1 => Some(true),
+        _ => None,
+    }
+}
+
 impl Tables {
-    /// Fresh tables: no pages.
+    /// Fresh tables: no pages, and no frame retired.
     pub fn fresh(fast: u8, slow: u8) -> Tables {
         Tables {
             fast,
             slow,
             pages: vec![None; PAGES],
+            retired: [false; REGISTERED],
         }
     }
 
@@ -84,9 +99,23 @@ impl Tables {
         })
     }
 
-    /// A frame is free if no copy has it.
+    /// A frame is held if a copy has it.
+    pub fn is_held(&self, frame: u8) -> bool {
+        self.holder(frame).is_some()
+    }
+
+    pub fn is_retired(&self, frame: u8) -> bool {
+        self.retired.get(usize::from(frame)) == Some(&true)
+    }
+
+    pub fn retired_frames(&self) -> impl Iterator<Item = u8> {
+        let marks = (0..).zip(self.retired);
+        marks.filter_map(|(frame, mark)| mark.then_some(frame))
+    }
+
+    /// A frame is free if it is neither held nor retired.
     pub fn is_free(&self, frame: u8) -> bool {
-        self.copies().all(|(_, _, copy)| copy.frame != Some(frame))
+        !self.is_held(frame) && !self.is_retired(frame)
     }
 
     /// The search: page and number of the copy on a frame.
@@ -115,11 +144,13 @@ impl Tables {
             return None;
         }
         let mut tables = Tables::fresh(raw[0], raw[1]);
-        let (front, register) = raw.split_at(REGISTER);
-        for (page, record) in front[2..].chunks(RECORD).enumerate() {
+        for (page, record) in raw[2..REGISTER].chunks(RECORD).enumerate() {
             tables.pages[page] = Page::from_raw(record)?;
         }
-        let is_sound = tables.keep_the_rules() && tables.register() == register;
+        for (retired, &byte) in tables.retired.iter_mut().zip(&raw[RETIRED..]) {
+            *retired = mark(byte)?;
+        }
+        let is_sound = tables.keep_the_rules() && tables.register() == raw[REGISTER..RETIRED];
         is_sound.then_some(tables)
     }
 
@@ -132,9 +163,15 @@ impl Tables {
             .filter_map(|(_, _, copy)| copy.frame)
             .all(|f| {
                 let frame = usize::from(f);
-                frame < self.frames() && !std::mem::replace(&mut held[frame], true)
+                frame < self.frames()
+                    && !std::mem::replace(&mut held[frame], true)
+                    && !self.is_retired(f)
             });
-        in_range && frames_kept && self.pages.iter().flatten().all(Page::keeps_the_rules)
+        let none_past = self.retired.iter().skip(self.frames()).all(|mark| !mark);
+        in_range
+            && frames_kept
+            && none_past
+            && self.pages.iter().flatten().all(Page::keeps_the_rules)
     }
 
     pub fn to_raw(&self) -> Vec<u8> {
@@ -153,6 +190,7 @@ impl Tables {
             raw.extend_from_slice(&record);
         }
         raw.extend(self.register());
+        raw.extend(self.retired.map(u8::from));
         raw
     }
 
@@ -226,11 +264,6 @@ impl PageCopy {
 
     /// The copy that a raw entry stands for; None if a mark is neither 0 nor 1.
     fn from_raw(entry: &[u8]) -> Option<PageCopy> {
-        let mark = |byte| match byte {
-            0 => Some(false),
-            1 => Some(true),
-            _ => None,
-        };
         Some(PageCopy {
             frame: (entry[0] != NO_FRAME).then_some(entry[0]),
             current: mark(entry[1])?,
@@ -413,6 +446,7 @@ impl Reel<'_> {
             Call::RemoveCurrent { page, copy } => self.remove_current(page, copy),
             Call::LookPage { page } => self.look_page(page),
             Call::LookFrame { frame } => self.look_frame(frame),
+            Call::Retire { frame } => self.retire(frame),
         }
     }
 
@@ -476,7 +510,8 @@ impl Reel<'_> {
         page_in_range(page)?;
         self.frame_in_range(frame)?;
         let source = *self.tables.page(page)?.copy(copy)?;
-        require(self.tables.is_free(frame), Refusal::FrameHeld)?;
+        require(!self.tables.is_retired(frame), Refusal::Retired)?;
+        require(!self.tables.is_held(frame), Refusal::FrameHeld)?;
         let copies = &mut self.tables.page_mut(page)?.copies;
         require(copies.len() < ENTRIES, Refusal::EightCopies)?;
         if source.frame.is_none() {
@@ -534,8 +569,16 @@ impl Reel<'_> {
         self.frame_in_range(frame)?;
         Ok(Done::told(match self.tables.holder(frame) {
             Some((page, copy)) => vec![1, page as u8, copy as u8],
+            None if self.tables.is_retired(frame) => vec![2, 255, 255],
             None => vec![0, 255, 255],
         }))
+    }
+
+    fn retire(&mut self, frame: u8) -> Result<Done, Refusal> {
+        self.frame_in_range(frame)?;
+        require(!self.tables.is_held(frame), Refusal::FrameHeld)?;
+        self.tables.retired[usize::from(frame)] = true;
+        Ok(Done::plain())
     }
 }
 
@@ -556,11 +599,12 @@ pub enum Call {
     RemoveCurrent { page: u8, copy: u8 },
     LookPage { page: u8 },
     LookFrame { frame: u8 },
+    Retire { frame: u8 },
 }
 
 pub const VERSION: u8 = 1;
-/// The kinds of message, numbered 1 to 11.
-pub const KINDS: usize = 11;
+/// The kinds of message, numbered 1 to 12.
+pub const KINDS: usize = 12;
 
 /// A message of this version, kind and arguments.
 pub fn message(version: u8, kind: u8, arguments: &[u8]) -> Vec<u8> {
@@ -607,6 +651,7 @@ impl Call {
             (9, &[page, copy]) => Call::RemoveCurrent { page, copy },
             (10, &[page]) => Call::LookPage { page },
             (11, &[frame]) => Call::LookFrame { frame },
+            (12, &[frame]) => Call::Retire { frame },
             _ => return None,
         })
     }
@@ -628,6 +673,7 @@ impl Call {
             Call::RemoveCurrent { page, copy } => (9, vec![page, copy]),
             Call::LookPage { page } => (10, vec![page]),
             Call::LookFrame { frame } => (11, vec![frame]),
+            Call::Retire { frame } => (12, vec![frame]),
         };
         message(VERSION, kind, &arguments)
     }
@@ -697,11 +743,12 @@ pub enum Refusal {
     NoFrame,
     ShortSlip,
     TooManyFrames,
+    Retired,
 }
 
 impl Refusal {
     /// The last number of the table, whose first is 1.
-    pub const LAST: u8 = Refusal::TooManyFrames as u8;
+    pub const LAST: u8 = Refusal::Retired as u8;
 
     pub fn number(self) -> u8 {
         self as u8

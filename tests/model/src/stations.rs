@@ -70,6 +70,7 @@ const FORMS: [Form; KINDS] = {
         form(&[Page, Copy], Nothing),
         form(&[Page], OfPageLook),
         form(&[Frame], OfFrameLook),
+        form(&[Frame], Nothing),
     ]
 };
 

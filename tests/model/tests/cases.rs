@@ -1,15 +1,16 @@
 //! The cases of document 01, on the kernel and on the model: the worked example, the starred cases,
 //! the traps, the impostors and the order of the refusals; and of document 02 the pairs of right and
-//! act of request [3] and the deletes of request [2].
+//! act of request [3], the deletes of request [2] and the retired frames of request [5].
 
 use ::model::cases::{
-    bytes, example, in_parts, one_by_one, unit, Case, Served, CALLS, DELETES, EXPOSING, PAIRS,
-    REPLIES, STARRED,
+    bytes, example, in_parts, one_by_one, unit, Case, Served, StoreCase, CALLS, DELETES, EXPOSING,
+    PAIRS, REPLIES, RETIRES, RETIRES_ON_SHAPED, STARRED,
 };
 use ::model::gen::{self, Rng, DAMAGES};
 use ::model::kernel::{Embedded, Kernel, Modelled};
 use ::model::model::{
-    self, frame_bytes, program, Lent, Reader, Tables, KINDS, NO_HOLDER, PROGRAM_INPUT, RAW, SLIP,
+    self, frame_bytes, program, Lent, Reader, Tables, FRAME, KINDS, MOST_FRAMES, NO_HOLDER,
+    PROGRAM_INPUT, RAW, SLIP,
 };
 use reel::words::hex;
 
@@ -26,6 +27,19 @@ struct Desk {
 impl Desk {
     fn fresh(kernel: &'static dyn Kernel) -> Desk {
         let lent = unit(SLIP);
+        Desk { kernel, lent }
+    }
+
+    /// Fresh tables of so many fast frames and as many slow ones, with random bytes in the stores.
+    fn of(kernel: &'static dyn Kernel, frames: u8) -> Desk {
+        let mut rng = Rng::new(1);
+        let mut store = || rng.bytes(FRAME * usize::from(frames));
+        let lent = Lent {
+            tables: Tables::fresh(frames, frames).to_raw(),
+            fast: store(),
+            slow: store(),
+            out: vec![0xAA; SLIP],
+        };
         Desk { kernel, lent }
     }
 
@@ -142,16 +156,98 @@ fn pairs_of_right_and_act() {
 /// and by `check` the same in a run and part by part.
 #[test]
 fn deletes_and_what_they_lay() {
+    BOTH.into_iter()
+        .for_each(|kernel| check_all(kernel, &DELETES));
+}
+
+fn check_all(kernel: &dyn Kernel, cases: &[StoreCase]) {
+    for store_case in cases {
+        let case = &store_case.case;
+        check(kernel, case);
+        let left = one_by_one(kernel, &case.file()).left;
+        let stores = [left.fast, left.slow];
+        assert_eq!(stores, store_case.stores(), "{}", case.name);
+    }
+}
+
+/// Each retire's reply and tally, what is refused since and what a look shows, and every byte that is
+/// left in the stores.
+#[test]
+fn retires_and_what_they_leave() {
+    BOTH.into_iter()
+        .for_each(|kernel| check_all(kernel, &RETIRES));
+}
+
+/// The same on tables with every shape of page, each call from the same state. An accepted one changes
+/// at most the mark of its frame.
+#[test]
+fn retires_on_shaped_tables() {
+    let lent = gen::shaped(&mut Rng::new(1));
     for kernel in BOTH {
-        for deletes in &DELETES {
-            check(kernel, &deletes.case);
-            let left = one_by_one(kernel, &deletes.case.file()).left;
+        for (line, reply) in RETIRES_ON_SHAPED {
+            let mut left = lent.clone();
+            let length = kernel.answer(&mut left, &bytes(line)) as usize / 256 % 256;
+            assert_eq!(hex(&left.out[..length]), reply, "{line}");
+            let mut due = lent.clone();
+            due.out = left.out.clone();
+            if line == "retire 12" {
+                due.tables[3198 + 12] = 1;
+            }
+            assert_eq!(left, due, "{line}");
+        }
+    }
+}
+
+/// In the largest unit every frame number but 254 and 255 is in range, in the smallest none.
+#[test]
+fn retires_at_the_borders_of_units() {
+    for kernel in BOTH {
+        let mut desk = Desk::of(kernel, MOST_FRAMES);
+        let mut due = desk.lent.clone();
+        assert_eq!(desk.lent.tables.len(), 3452);
+        for frame in [0, 126, 127, 253] {
             assert_eq!(
-                [left.fast, left.slow],
-                deletes.stores(),
-                "{}",
-                deletes.case.name
+                desk.give(&bytes(&format!("retire {frame}"))),
+                (0, 0, vec![])
             );
+            let told = desk.accept(&format!("look-frame {frame}"));
+            assert_eq!(told, [2, 255, 255]);
+            due.tables[3198 + frame] = 1;
+        }
+        for frame in [254, 255] {
+            assert_eq!(desk.refuse(&format!("retire {frame}")), 7);
+        }
+        due.out = desk.lent.out.clone();
+        assert_eq!(desk.lent, due);
+        desk.accept("create 0 0");
+        assert_eq!(desk.refuse("copy 0 0 253"), 20);
+        desk.accept("copy 0 0 252");
+        assert_eq!(desk.refuse("retire 252"), 13);
+
+        let mut none = Desk::of(kernel, 0);
+        for frame in [0, 1, 253, 254, 255] {
+            assert_eq!(none.refuse(&format!("retire {frame}")), 7);
+        }
+    }
+}
+
+/// Every frame retired, one after the other: none is free in the end, and nothing else has changed.
+#[test]
+fn every_frame_retired() {
+    for kernel in BOTH {
+        let mut desk = Desk::of(kernel, MOST_FRAMES);
+        let mut due = desk.lent.clone();
+        for _ in 0..2 {
+            for frame in 0..254 {
+                desk.accept(&format!("retire {frame}"));
+            }
+            due.tables[3198..].fill(1);
+            due.out = desk.lent.out.clone();
+            assert_eq!(desk.lent, due);
+        }
+        desk.accept("create 0 0");
+        for frame in 0..254 {
+            assert_eq!(desk.refuse(&format!("copy 0 0 {frame}")), 20);
         }
     }
 }
@@ -276,6 +372,7 @@ fn lengths_of_the_kinds() {
         &[4],
         &[3],
         &[3],
+        &[3],
     ];
     for (kind, due) in (1..).zip(lengths) {
         let (least, most) = (due[0], due[due.len() - 1]);
@@ -319,8 +416,10 @@ fn order_of_refusals(kernel: &dyn Kernel) {
     assert_eq!(number(&broken, &[0, 1, 2]), 2);
     assert_eq!(number(&broken, &[0, 2, 2, 0]), 2);
     assert_eq!(number(&broken, &[0, 1, 1]), 3);
-    assert_eq!(number(&broken, &[0, 2, 1, 12]), 3);
-    assert_eq!(number(&broken, &[0, 2, 1, 11]), 4);
+    assert_eq!(number(&broken, &[0, 2, 1, 13]), 3);
+    assert_eq!(number(&broken, &[0, 2, 1, 12]), 4);
+    assert_eq!(number(&broken, &bytes("retire 16")), 5);
+    assert_eq!(number(&misfit, &bytes("retire 16")), 6);
     assert_eq!(number(&broken, &bytes("look-page 64")), 5);
     assert_eq!(number(&misfit, &bytes("look-page 64")), 6);
     for (line, due) in [
@@ -375,13 +474,14 @@ fn every_damage_breaks_the_tables() {
 /// The register in bytes: the frames that are held after each call, with their entries.
 #[test]
 fn the_register_follows_every_step() {
-    let steps: [(&str, &[(usize, u8)]); 8] = [
+    let steps: [(&str, &[(usize, u8)]); 9] = [
         ("create 3 5", &[]),
         ("copy 5 0 0", &[(0, 40)]),
         ("copy 5 0 6", &[(0, 40), (6, 41)]),
         ("copy 5 0 2", &[(0, 40), (6, 41), (2, 42)]),
         ("create 3 1", &[(0, 40), (6, 41), (2, 42)]),
         ("copy 1 0 7", &[(0, 40), (6, 41), (2, 42), (7, 8)]),
+        ("retire 3", &[(0, 40), (6, 41), (2, 42), (7, 8)]),
         ("delete-copy 5 0", &[(6, 40), (2, 41), (7, 8)]),
         ("delete-page 3 5", &[(7, 8)]),
     ];
@@ -393,19 +493,47 @@ fn the_register_follows_every_step() {
             for &(frame, entry) in held {
                 due[2 * frame..][..2].copy_from_slice(&[0, entry]);
             }
-            assert_eq!(desk.lent.tables[2 + 64 * 42..], due, "{line}");
+            assert_eq!(desk.lent.tables[2690..3198], due, "{line}");
+        }
+    }
+}
+
+/// The marks in bytes: the frames that are retired after each call.
+#[test]
+fn the_marks_follow_every_step() {
+    let steps: [(&str, &[usize]); 9] = [
+        ("create 3 5", &[]),
+        ("retire 7", &[7]),
+        ("copy 5 0 0", &[7]),
+        ("retire 2", &[2, 7]),
+        ("copy 5 0 6", &[2, 7]),
+        ("retire 7", &[2, 7]),
+        ("delete-copy 5 0", &[2, 7]),
+        ("retire 0", &[0, 2, 7]),
+        ("delete-page 3 5", &[0, 2, 7]),
+    ];
+    for kernel in BOTH {
+        let mut desk = Desk::fresh(kernel);
+        for (line, retired) in steps {
+            desk.accept(line);
+            let mut due = vec![0; 254];
+            for &frame in retired {
+                due[frame] = 1;
+            }
+            assert_eq!(desk.lent.tables[3198..], due, "{line}");
         }
     }
 }
 
 #[test]
-fn the_register_has_what_looks_tell() {
+fn the_register_and_the_marks_have_what_looks_tell() {
     let mut rng = Rng::new(1);
     for _ in 0..100 {
         let lent = gen::lawful(&mut rng);
         let tables = Tables::from_raw(&lent.tables).expect("lawful tables");
         for frame in 0..tables.frames() as u8 {
             let due = match gen::holder(&lent.tables, frame) {
+                NO_HOLDER if lent.tables[3198 + usize::from(frame)] == 1 => [2, 255, 255],
                 NO_HOLDER => [0, 255, 255],
                 entry => [1, (entry / 8) as u8, (entry % 8) as u8],
             };

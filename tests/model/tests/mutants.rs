@@ -1,17 +1,21 @@
 //! The harness tried on itself: `compare` must catch every one of these wrong kernels, each the
 //! model with one flaw.
 
-use ::model::cases::{in_parts, DELETES, EXPOSING, PAIRS};
+use ::model::cases::{
+    bytes, in_parts, StoreCase, DELETES, EXPOSING, PAIRS, RETIRES, RETIRES_ON_SHAPED,
+};
 use ::model::clean::Clean;
 use ::model::compare::compare;
 use ::model::flat::Demand3;
+use ::model::frames::Frames;
 use ::model::gen::{self, Moves, Rng};
-use ::model::kernel::{packed, Kernel, Modelled, Stations};
+use ::model::kernel::{packed, Embedded, Kernel, Modelled, Stations};
 use ::model::model::{
     self, frame_bytes, Answer, Call, Lent, Page, PageCopy, Reached, Reader, Tables, ENTRIES, FRAME,
-    NO_FRAME, NO_HOLDER, RAW, RECORD, REGISTER, REGISTERED, SLIP, STATIONS,
+    NO_FRAME, NO_HOLDER, RAW, RECORD, REGISTER, REGISTERED, RETIRED, SLIP, STATIONS,
 };
 use ::model::stations::{Sent, Told};
+use reel::words::hex;
 
 /// One message answered by the model, to be spoiled.
 struct Turn<'a> {
@@ -192,7 +196,7 @@ impl Turn<'_> {
     /// The page of the call as it was before, if the call was accepted.
     fn accepted_page(&self) -> Option<(usize, Page)> {
         let page = match self.call.as_ref()? {
-            Call::Create { .. } | Call::LookFrame { .. } => return None,
+            Call::Create { .. } | Call::LookFrame { .. } | Call::Retire { .. } => return None,
             Call::DeletePage { page, .. }
             | Call::Grant { page, .. }
             | Call::Read { page, .. }
@@ -236,6 +240,64 @@ impl Turn<'_> {
         }
     }
 
+    /// The frame of a retire, by the number that it got.
+    fn retires(&self, number: u8) -> Option<u8> {
+        match self.call {
+            Some(Call::Retire { frame }) if self.answer.number == number => Some(frame),
+            _ => None,
+        }
+    }
+
+    /// The same of an accepted one that changed nothing, the frame being retired already.
+    fn retires_again(&self) -> Option<u8> {
+        let frame = self.retires(0)?;
+        (self.after.tables == self.before.tables).then_some(frame)
+    }
+
+    /// Accepts, and lays or takes away the mark of a frame; all else as before.
+    fn accept_with_mark(&mut self, frame: u8, mark: u8) {
+        self.refuse(0);
+        self.mark(frame, mark);
+    }
+
+    fn mark(&mut self, frame: u8, mark: u8) {
+        self.after.tables[RETIRED + usize::from(frame)] = mark;
+    }
+
+    /// Makes a copy to a retired frame, which is free for once; the frame where it does.
+    fn copy_as_if_free(&mut self) -> Option<u8> {
+        let (Some(Call::MakeCopy { frame, .. }), 20) = (&self.call, self.answer.number) else {
+            return None;
+        };
+        let (frame, call) = (*frame, self.call.as_ref()?.encode());
+        let mut lent = self.before.clone();
+        lent.tables[RETIRED + usize::from(frame)] = 0;
+        *self.answer = model::answer(&mut lent, &call);
+        if self.answer.number != 0 {
+            lent.tables = self.before.tables.clone();
+        }
+        *self.after = lent;
+        (self.answer.number == 0).then_some(frame)
+    }
+
+    /// The marks before an accepted delete are gone after it.
+    fn lose_marks(&mut self) {
+        if !self.gone().is_empty() {
+            self.after.tables[RETIRED..].fill(0);
+        }
+    }
+
+    /// Gives 20 in the place of a number where a copy would go to a retired frame.
+    fn retired_before(&mut self, number: u8) {
+        if let (Some(Call::MakeCopy { frame, .. }), true) =
+            (&self.call, self.answer.number == number)
+        {
+            if self.tables_before().is_retired(*frame) {
+                self.refuse(20);
+            }
+        }
+    }
+
     fn tables_before(&self) -> Tables {
         Tables::from_raw(&self.before.tables).expect("lawful tables")
     }
@@ -244,6 +306,12 @@ impl Turn<'_> {
         let mut tables = Tables::from_raw(&self.after.tables).expect("lawful tables");
         change(tables.pages[page].as_mut().expect("a page"));
         self.after.tables = tables.to_raw();
+    }
+
+    /// The register as it was before.
+    fn keep_register(&mut self) {
+        let register = REGISTER..RETIRED;
+        self.after.tables[register.clone()].copy_from_slice(&self.before.tables[register]);
     }
 
     /// Gives a number, with all as before.
@@ -657,7 +725,7 @@ const MUTANTS: [(&str, Flaw); 84] = [
                 (turn.call.clone(), turn.accepted_page())
             {
                 let freed = page.copies[usize::from(copy)].frame.expect("a frame");
-                turn.after.tables[REGISTER..].copy_from_slice(&turn.before.tables[REGISTER..]);
+                turn.keep_register();
                 gen::set_holder(&mut turn.after.tables, freed, NO_HOLDER);
             }
         }),
@@ -666,7 +734,7 @@ const MUTANTS: [(&str, Flaw); 84] = [
         "a deleted page's frames stay in the register",
         Flaw::Answer(|turn| {
             if let (Some(Call::DeletePage { .. }), Some(_)) = (&turn.call, turn.accepted_page()) {
-                turn.after.tables[REGISTER..].copy_from_slice(&turn.before.tables[REGISTER..]);
+                turn.keep_register();
             }
         }),
     ),
@@ -715,7 +783,7 @@ const MUTANTS: [(&str, Flaw); 84] = [
         Flaw::Answer(|turn| {
             if let (Some(Call::MakeCopy { frame, .. }), 12) = (&turn.call, turn.answer.number) {
                 let tables = Tables::from_raw(&turn.before.tables).expect("lawful tables");
-                if !tables.is_free(*frame) {
+                if tables.is_held(*frame) {
                     turn.refuse(13);
                 }
             }
@@ -1312,8 +1380,298 @@ const WRONG_DELETES: [(&str, Flaw); 21] = [
     ),
 ];
 
+/// Wrong retires: what a kernel does with kind 12, and with retired frames since, request [5] of
+/// document 02. That 13 is tested before 20 is none of these: no frame of sound tables is held and
+/// retired, so nothing shows it.
+const WRONG_RETIRES: [(&str, Flaw); 27] = [
+    (
+        "kind 12 unknown, as document 01 had it",
+        Flaw::Answer(|turn| {
+            if let Some(Call::Retire { .. }) = turn.call {
+                if !matches!(turn.answer.number, 5 | 6 | 18) {
+                    turn.refuse(3);
+                }
+            }
+        }),
+    ),
+    (
+        "a held frame retired",
+        Flaw::Answer(|turn| {
+            if let Some(frame) = turn.retires(13) {
+                turn.accept_with_mark(frame, 1);
+            }
+        }),
+    ),
+    (
+        "20 for a retire of a held frame",
+        Flaw::Answer(|turn| {
+            if turn.retires(13).is_some() {
+                turn.refuse(20);
+            }
+        }),
+    ),
+    (
+        "the frame past the last retired",
+        Flaw::Answer(|turn| {
+            if let Some(frame @ 0..=253) = turn.retires(7) {
+                if usize::from(frame) == turn.tables_before().frames() {
+                    turn.accept_with_mark(frame, 1);
+                }
+            }
+        }),
+    ),
+    (
+        "the last frame not retired",
+        Flaw::Answer(|turn| {
+            if let Some(frame) = turn.retires(0) {
+                if usize::from(frame) + 1 == turn.tables_before().frames() {
+                    turn.refuse(7);
+                }
+            }
+        }),
+    ),
+    (
+        "a retire only acknowledged",
+        Flaw::Answer(|turn| {
+            if turn.retires(0).is_some() {
+                turn.refuse(0);
+            }
+        }),
+    ),
+    (
+        "a retire of a slow frame marks the fast frame of its place",
+        Flaw::Answer(|turn| {
+            if let Some(frame) = turn.retires(0) {
+                let fast = turn.tables_before().fast;
+                if (fast..2 * fast).contains(&frame) {
+                    turn.accept_with_mark(frame - fast, 1);
+                }
+            }
+        }),
+    ),
+    (
+        "a frame retired again refused 20",
+        Flaw::Answer(|turn| {
+            if turn.retires_again().is_some() {
+                turn.refuse(20);
+            }
+        }),
+    ),
+    (
+        "a frame retired again refused 13",
+        Flaw::Answer(|turn| {
+            if turn.retires_again().is_some() {
+                turn.refuse(13);
+            }
+        }),
+    ),
+    (
+        "a frame retired again is free again",
+        Flaw::Answer(|turn| {
+            if let Some(frame) = turn.retires_again() {
+                turn.mark(frame, 0);
+            }
+        }),
+    ),
+    (
+        "a retired frame filled with zeros",
+        Flaw::Answer(|turn| {
+            if let Some(frame) = turn.retires(0) {
+                let tables = turn.tables_before();
+                turn.lay(&tables, frame, &[0; FRAME]);
+            }
+        }),
+    ),
+    (
+        "64 bytes laid stated by a retire",
+        Flaw::Answer(|turn| {
+            if turn.retires(0).is_some() {
+                turn.reply(&[0, 4, 1, 0, 0, 64]);
+                turn.answer.laid = 64;
+            }
+        }),
+    ),
+    (
+        "a retire tells what a look at the frame shows",
+        Flaw::Answer(|turn| {
+            if turn.retires(0).is_some() {
+                turn.reply(&[0, 7, 1, 0, 0, 0, 2, 255, 255]);
+            }
+        }),
+    ),
+    (
+        "a retired frame shown as free",
+        Flaw::Answer(|turn| {
+            if turn.after.out.get(3..9) == Some(&[0, 0, 0, 2, 255, 255]) && turn.answer.length == 9
+            {
+                turn.after.out[6] = 0;
+            }
+        }),
+    ),
+    (
+        "a retired frame shown as held",
+        Flaw::Answer(|turn| {
+            if turn.after.out.get(3..9) == Some(&[0, 0, 0, 2, 255, 255]) && turn.answer.length == 9
+            {
+                turn.after.out[6] = 1;
+            }
+        }),
+    ),
+    (
+        "a retired frame taken for a held one",
+        Flaw::Answer(|turn| turn.swap(20, 13)),
+    ),
+    (
+        "a retired frame takes a copy and stays marked",
+        Flaw::Answer(|turn| {
+            if let Some(frame) = turn.copy_as_if_free() {
+                turn.mark(frame, 1);
+            }
+        }),
+    ),
+    (
+        "a retired frame takes a copy and is retired no more",
+        Flaw::Answer(|turn| {
+            turn.copy_as_if_free();
+        }),
+    ),
+    (
+        "a retired frame takes a null copy",
+        Flaw::Answer(|turn| {
+            if let (Some(Call::MakeCopy { page, .. }), 20) = (&turn.call, turn.answer.number) {
+                let tables = turn.tables_before();
+                let page = tables.pages[usize::from(*page)].as_ref().expect("a page");
+                if page.copies[0].frame.is_none() {
+                    turn.copy_as_if_free();
+                }
+            }
+        }),
+    ),
+    (
+        "retired before no page",
+        Flaw::Answer(|turn| turn.retired_before(9)),
+    ),
+    (
+        "retired before no copy",
+        Flaw::Answer(|turn| turn.retired_before(12)),
+    ),
+    (
+        "eight copies before retired",
+        Flaw::Answer(|turn| {
+            if let (Some(Call::MakeCopy { page, .. }), 20) = (&turn.call, turn.answer.number) {
+                let tables = turn.tables_before();
+                let page = tables.pages[usize::from(*page)].as_ref().expect("a page");
+                if page.copies.len() == ENTRIES {
+                    turn.refuse(14);
+                }
+            }
+        }),
+    ),
+    (
+        "the marks lost when a page is deleted",
+        Flaw::Answer(|turn| {
+            if let Some(Call::DeletePage { .. }) = turn.call {
+                turn.lose_marks();
+            }
+        }),
+    ),
+    (
+        "the marks lost when a copy is deleted",
+        Flaw::Answer(|turn| {
+            if let Some(Call::DeleteCopy { .. }) = turn.call {
+                turn.lose_marks();
+            }
+        }),
+    ),
+    (
+        "frames freed by a delete are retired",
+        Flaw::Answer(|turn| {
+            for frame in turn.gone().into_iter().filter_map(|copy| copy.frame) {
+                turn.mark(frame, 1);
+            }
+        }),
+    ),
+    (
+        "a retired frame's bytes changed by a write",
+        Flaw::Answer(|turn| {
+            if let (Some(Call::Write { bytes, .. }), Some(_)) =
+                (turn.call.clone(), turn.accepted_page())
+            {
+                let tables = turn.tables_before();
+                if let Some(frame) = tables.retired_frames().next() {
+                    turn.lay(&tables, frame, &bytes);
+                }
+            }
+        }),
+    ),
+    (
+        "a retire enters the frame in the register",
+        Flaw::Answer(|turn| {
+            if let Some(frame) = turn.retires(0) {
+                gen::set_holder(&mut turn.after.tables, frame, 0);
+            }
+        }),
+    ),
+];
+
+/// Marks that break a table rule and are let pass, and fresh tables with marks.
+const WRONG_MARKS: [(&str, Flaw); 6] = [
+    (
+        "a mark past the last frame let pass",
+        Flaw::Mend(|tables| {
+            let frames = usize::from(tables[0]) + usize::from(tables[1]);
+            if let Some(past) = tables.get_mut(RETIRED + frames..) {
+                past.iter_mut().for_each(|mark| *mark &= 254);
+            }
+        }),
+    ),
+    (
+        "a copy on a retired frame let pass",
+        Flaw::Mend(|tables| {
+            for frame in 0..REGISTERED as u8 {
+                if gen::holder(tables, frame) != NO_HOLDER {
+                    tables[RETIRED + usize::from(frame)] &= 254;
+                }
+            }
+        }),
+    ),
+    (
+        "any mark of a retired frame but 0 let pass",
+        Flaw::Mend(|tables| {
+            for mark in &mut tables[RETIRED..] {
+                *mark = (*mark).min(1);
+            }
+        }),
+    ),
+    (
+        "any mark of a retired frame but 1 taken for 0",
+        Flaw::Mend(|tables| {
+            for mark in &mut tables[RETIRED..] {
+                *mark = u8::from(*mark == 1);
+            }
+        }),
+    ),
+    (
+        "a run leaves no mark behind the register",
+        Flaw::Run(|tables| {
+            if let Some(marks) = tables.get_mut(RETIRED..) {
+                marks.fill(0);
+            }
+        }),
+    ),
+    (
+        "tables of too many frames with every frame marked",
+        Flaw::Fresh(|tables| {
+            tables[RETIRED..].fill(1);
+            19
+        }),
+    ),
+];
+
 fn mutants() -> impl Iterator<Item = (&'static str, Flaw)> {
-    MUTANTS.into_iter().chain(WRONG_PAIRS).chain(WRONG_DELETES)
+    let of_document_2 = WRONG_PAIRS.into_iter().chain(WRONG_DELETES);
+    let of_document_2 = of_document_2.chain(WRONG_RETIRES).chain(WRONG_MARKS);
+    MUTANTS.into_iter().chain(of_document_2)
 }
 
 const SEED: u64 = 1;
@@ -1366,34 +1724,70 @@ fn traps_impostors_and_wrong_pairs_are_exposed() {
 #[test]
 fn wrong_deletes_are_exposed() {
     for (name, flaw) in WRONG_DELETES {
+        assert!(is_exposed(&Mutant(flaw), &DELETES), "{name}");
+    }
+}
+
+fn is_exposed(mutant: &Mutant, cases: &[StoreCase]) -> bool {
+    cases.iter().any(|store_case| {
+        let served = in_parts(mutant, &store_case.case.file(), 1000);
+        let stores = [served.left.fast, served.left.slow];
+        served.replies != store_case.case.replies() || stores != store_case.stores()
+    })
+}
+
+/// Each wrong retire too, in one of its own worked cases or of those on shaped tables.
+#[test]
+fn wrong_retires_are_exposed() {
+    let shaped = gen::shaped(&mut Rng::new(SEED));
+    for (name, flaw) in WRONG_RETIRES {
         let mutant = Mutant(flaw);
-        let exposed = DELETES.iter().any(|deletes| {
-            let served = in_parts(&mutant, &deletes.case.file(), 1000);
-            let stores = [served.left.fast, served.left.slow];
-            served.replies != deletes.case.replies() || stores != deletes.stores()
+        let mut on_shaped = RETIRES_ON_SHAPED.iter().filter(|(line, reply)| {
+            let mut left = shaped.clone();
+            let length = mutant.answer(&mut left, &bytes(line)) as usize / 256 % 256;
+            hex(&left.out[..length]) != *reply
         });
+        let exposed = is_exposed(&mutant, &RETIRES) || on_shaped.next().is_some();
         assert!(exposed, "{name}");
     }
 }
 
-/// Runs from fresh tables with what is looked at in them: before each message the tables, the
-/// message and the reply, and at the end what was left.
+/// One message of a run.
+struct Answered<'a> {
+    before: &'a Lent,
+    /// Those lent before.
+    tables: &'a Tables,
+    message: &'a [u8],
+    after: &'a Lent,
+    reply: &'a [u8],
+}
+
+/// Runs with what is looked at in them: message by message, and at the end what was left.
 fn runs<Looked>(
     kernel: &dyn Kernel,
+    lend: fn(&mut Rng) -> Lent,
     start: impl Fn(&Lent) -> Looked,
-    turn: impl Fn(&mut Looked, &Tables, &[u8], &[u8]) -> Result<(), String>,
+    turn: impl Fn(&mut Looked, &Answered) -> Result<(), String>,
     end: impl Fn(Looked, &Tables, &Lent) -> Result<(), String>,
 ) -> Result<(), String> {
     let mut rng = Rng::new(SEED);
     for _ in 0..100 {
-        let mut lent = gen::fresh(&mut rng);
+        let mut lent = lend(&mut rng);
         let mut looked = start(&lent);
         let mut moves = Moves::new(&mut rng);
         for _ in 0..300 {
             let tables = Tables::from_raw(&lent.tables).ok_or("broken tables")?;
             let message = moves.next(&mut rng, &tables, &lent, false);
+            let before = lent.clone();
             let length = kernel.answer(&mut lent, &message) as usize / 256 % 256;
-            turn(&mut looked, &tables, &message, &lent.out[..length])?;
+            let answered = Answered {
+                before: &before,
+                tables: &tables,
+                message: &message,
+                after: &lent,
+                reply: &lent.out[..length],
+            };
+            turn(&mut looked, &answered)?;
         }
         let tables = Tables::from_raw(&lent.tables).ok_or("broken tables")?;
         end(looked, &tables, &lent)?;
@@ -1405,8 +1799,9 @@ fn runs<Looked>(
 fn demand3(kernel: &dyn Kernel) -> Result<(), String> {
     runs(
         kernel,
+        gen::fresh,
         |_| Demand3::start(),
-        Demand3::turn,
+        |demand3, turn| demand3.turn(turn.tables, turn.message, turn.reply),
         |demand3, tables, lent| demand3.end(tables, &lent.fast, &lent.slow),
     )
 }
@@ -1415,15 +1810,27 @@ fn demand3(kernel: &dyn Kernel) -> Result<(), String> {
 fn clean(kernel: &dyn Kernel) -> Result<(), String> {
     runs(
         kernel,
+        gen::fresh,
         Clean::start,
-        |clean, tables, _, _| {
-            clean.turn(tables);
+        |clean, turn| {
+            clean.turn(turn.tables);
             Ok(())
         },
         |mut clean, tables, lent| {
             clean.turn(tables);
             clean.end(tables, &lent.fast, &lent.slow)
         },
+    )
+}
+
+/// Runs on sound tables on whose free, held and retired frames alone is looked.
+fn frames(kernel: &dyn Kernel) -> Result<(), String> {
+    runs(
+        kernel,
+        gen::lawful,
+        Frames::start,
+        |frames, turn| frames.turn(turn.before, turn.after),
+        |_, _, _| Ok(()),
     )
 }
 
@@ -1488,6 +1895,51 @@ const NOT_CLEAN: [&str; 12] = [
     "the frame of the copy that closed the gap filled",
 ];
 
+/// Those that leave a frame free, held or retired at once, a mark gone, or other bytes in a retired
+/// frame than it had.
+const NOT_ONE_STATE: [&str; 12] = [
+    "a held frame retired",
+    "the frame past the last retired",
+    "a retire of a slow frame marks the fast frame of its place",
+    "a frame retired again is free again",
+    "a retired frame filled with zeros",
+    "a retired frame takes a copy and stays marked",
+    "a retired frame takes a copy and is retired no more",
+    "a retired frame takes a null copy",
+    "the marks lost when a page is deleted",
+    "the marks lost when a copy is deleted",
+    "frames freed by a delete are retired",
+    "a retired frame's bytes changed by a write",
+];
+
+/// Numbers, their order, what a look shows and what is stated as laid say nothing of the three states:
+/// all of these are seen beside the model only.
+const ONE_STATE: [&str; 14] = [
+    "kind 12 unknown, as document 01 had it",
+    "20 for a retire of a held frame",
+    "the last frame not retired",
+    "a retire only acknowledged",
+    "a frame retired again refused 20",
+    "a frame retired again refused 13",
+    "64 bytes laid stated by a retire",
+    "a retire tells what a look at the frame shows",
+    "a retired frame shown as free",
+    "a retired frame shown as held",
+    "a retired frame taken for a held one",
+    "retired before no page",
+    "retired before no copy",
+    "eight copies before retired",
+];
+
+/// Those of the wrong retires that leave broken tables, which end a run.
+const BREAKING: [&str; 5] = [
+    "a held frame retired",
+    "the frame past the last retired",
+    "a retire of a slow frame marks the fast frame of its place",
+    "a retired frame takes a copy and stays marked",
+    "a retire enters the frame in the register",
+];
+
 /// Which of the mutants on a list a check does not catch; each on it is a mutant.
 fn missed_of(
     list: &[&str],
@@ -1506,6 +1958,32 @@ fn demand_3_catches_what_breaks_it() {
     assert_eq!(missed, Vec::<&str>::new());
     let missed = missed_of(&NOT_DEMAND_3, |mutant| demand3(mutant));
     assert_eq!(missed, NOT_DEMAND_3);
+}
+
+/// The flat memory passes over kind 12, and over the copies and looks that retired frames bear on:
+/// demand 3 sees no wrong retire that leaves the tables sound.
+#[test]
+fn demand_3_passes_over_retires() {
+    let names = WRONG_RETIRES.iter().map(|(name, _)| *name);
+    let sound: Vec<&str> = names.filter(|name| !BREAKING.contains(name)).collect();
+    assert_eq!(sound.len(), WRONG_RETIRES.len() - BREAKING.len());
+    let missed = missed_of(&sound, |mutant| demand3(mutant));
+    assert_eq!(missed, sound);
+}
+
+/// The check of the three states of a frame sees what the request promises of them alone.
+#[test]
+fn the_check_of_frames_catches_what_breaks_it() {
+    frames(&Modelled).expect("frames");
+    frames(&Embedded).expect("frames");
+    let by_the_check = |mutant: &Mutant| match frames(mutant) {
+        Err(error) if !error.starts_with("frames:") => panic!("{error}"),
+        checked => checked,
+    };
+    let missed = missed_of(&NOT_ONE_STATE, by_the_check);
+    assert_eq!(missed, Vec::<&str>::new());
+    let missed = missed_of(&ONE_STATE, by_the_check);
+    assert_eq!(missed, ONE_STATE);
 }
 
 /// The check of the free frames at a run's end sees what a delete leaves, and no count.

@@ -6,7 +6,7 @@ use ::model::cases::{bytes, one_by_one, CALLS, READ, REPLIES, WRITTEN};
 use ::model::exchange::{compare, promises, Check};
 use ::model::gen::{self, Rng};
 use ::model::kernel::{Embedded, Kernel, Modelled, Stations};
-use ::model::model::{Call, KINDS};
+use ::model::model::{Call, Refusal, KINDS};
 use ::model::stations::{Sent, Told, MESSAGE};
 use reel::words::hex;
 
@@ -138,7 +138,7 @@ fn is_known(kind: u8) -> bool {
 fn frame_at(kind: u8) -> Option<usize> {
     match kind {
         6 => Some(2),
-        11 => Some(0),
+        11 | 12 => Some(0),
         _ => None,
     }
 }
@@ -222,7 +222,7 @@ fn refuse(kind: u8, reply: &[u8], passes: fn(u8, &Told) -> bool) -> Result<Told,
 }
 
 /// Each with the promise that it breaks, or the model's writer or reader where it breaks none.
-const MUTANTS: [(&str, Check, Flaw); 71] = [
+const MUTANTS: [(&str, Check, Flaw); 83] = [
     // Rooms.
     (
         "70 bytes taken as room",
@@ -384,6 +384,55 @@ const MUTANTS: [(&str, Check, Flaw); 71] = [
         Check::SameCall,
         Flaw::Write(|sent, out| match frame_at(sent.kind) {
             Some(at) if sent.arguments[at] == 253 && out.len() >= MESSAGE => Err(7),
+            _ => Modelled.write(sent, out),
+        }),
+    ),
+    (
+        "kind 12 not written",
+        Check::SameCall,
+        Flaw::Write(|sent, out| match sent.kind {
+            12 if out.len() >= MESSAGE => Err(3),
+            _ => Modelled.write(sent, out),
+        }),
+    ),
+    (
+        "a retire written as a look at the frame",
+        Check::SameCall,
+        Flaw::Write(|sent, out| {
+            let length = Modelled.write(sent, out)?;
+            if sent.kind == 12 {
+                out[3] = 11;
+            }
+            Ok(length)
+        }),
+    ),
+    (
+        "a retire's frame not tested",
+        Check::Writer,
+        Flaw::Write(|sent, out| match sent.kind {
+            12 => let_pass(sent, 0, 0, out),
+            _ => Modelled.write(sent, out),
+        }),
+    ),
+    (
+        "a retire of frame 253 refused",
+        Check::SameCall,
+        Flaw::Write(|sent, out| match (sent.kind, sent.arguments[0]) {
+            (12, 253) if out.len() >= MESSAGE => Err(7),
+            _ => Modelled.write(sent, out),
+        }),
+    ),
+    (
+        "kind 13 written",
+        Check::Writer,
+        Flaw::Write(|sent, out| match sent.kind {
+            13 => Modelled.write(
+                &Sent {
+                    kind: 12,
+                    ..sent.clone()
+                },
+                out,
+            ),
             _ => Modelled.write(sent, out),
         }),
     ),
@@ -609,7 +658,16 @@ const MUTANTS: [(&str, Check, Flaw); 71] = [
         Check::Reader,
         Flaw::Read(|kind, reply| {
             refuse(kind, reply, |kind, told| {
-                kind == 11 && told.data.first().is_some_and(|&held| held > 1)
+                kind == 11 && told.data.first().is_some_and(|&held| held > 2)
+            })
+        }),
+    ),
+    (
+        "a look at a retired frame refused",
+        Check::ReadBack,
+        Flaw::Read(|kind, reply| {
+            refuse(kind, reply, |kind, told| {
+                kind == 11 && told.data.first() == Some(&2)
             })
         }),
     ),
@@ -641,7 +699,7 @@ const MUTANTS: [(&str, Check, Flaw); 71] = [
         Check::Reader,
         Flaw::Read(|kind, reply| {
             accept(kind, reply, |_, number, laid, data| {
-                (1..=19).contains(&number) && laid > 0 && data.is_empty()
+                (1..=Refusal::LAST).contains(&number) && laid > 0 && data.is_empty()
             })
         }),
     ),
@@ -650,7 +708,7 @@ const MUTANTS: [(&str, Check, Flaw); 71] = [
         Check::Alike,
         Flaw::Read(|kind, reply| {
             let mut told = accept(kind, reply, |_, number, _, data| {
-                (1..=19).contains(&number) && data.is_empty()
+                (1..=Refusal::LAST).contains(&number) && data.is_empty()
             })?;
             if told.number > 0 {
                 told.laid = 0;
@@ -663,7 +721,7 @@ const MUTANTS: [(&str, Check, Flaw); 71] = [
         Check::Reader,
         Flaw::Read(|kind, reply| {
             accept(kind, reply, |_, number, laid, data| {
-                (1..=19).contains(&number) && laid % 256 == 0 && data.is_empty()
+                (1..=Refusal::LAST).contains(&number) && laid % 256 == 0 && data.is_empty()
             })
         }),
     ),
@@ -672,18 +730,58 @@ const MUTANTS: [(&str, Check, Flaw); 71] = [
         Check::Reader,
         Flaw::Read(|kind, reply| {
             accept(kind, reply, |kind, number, laid, data| {
-                kind == 4 && (1..=19).contains(&number) && laid == 0 && data.len() <= 64
+                kind == 4 && (1..=Refusal::LAST).contains(&number) && laid == 0 && data.len() <= 64
             })
         }),
     ),
     (
-        "number 20 accepted",
+        "number 21 accepted",
         Check::Reader,
         Flaw::Read(|kind, reply| {
             accept(kind, reply, |_, number, laid, data| {
-                number == 20 && laid == 0 && data.is_empty()
+                number == 21 && laid == 0 && data.is_empty()
             })
         }),
+    ),
+    (
+        "number 20 refused",
+        Check::ReadBack,
+        Flaw::Read(|kind, reply| refuse(kind, reply, |_, told| told.number == 20)),
+    ),
+    (
+        "number 20 told as 13",
+        Check::Alike,
+        Flaw::Read(|kind, reply| {
+            let mut told = Modelled.read_reply(kind, reply)?;
+            if told.number == 20 {
+                told.number = 13;
+            }
+            Ok(told)
+        }),
+    ),
+    (
+        "number 20 taken for a make copy alone",
+        Check::Reader,
+        Flaw::Read(|kind, reply| refuse(kind, reply, |kind, told| kind != 6 && told.number == 20)),
+    ),
+    (
+        "a retire's reply refused",
+        Check::ReadBack,
+        Flaw::Read(|kind, reply| refuse(kind, reply, |kind, told| kind == 12 && told.number == 0)),
+    ),
+    (
+        "a retire's reply with the data of a frame look accepted",
+        Check::Reader,
+        Flaw::Read(|kind, reply| {
+            accept(kind, reply, |kind, number, _, data| {
+                kind == 12 && number == 0 && data.len() == 3
+            })
+        }),
+    ),
+    (
+        "kind 12 told to the reader refused 3",
+        Check::ReadBack,
+        Flaw::Read(|kind, reply| Modelled.read_reply(if kind == 12 { 13 } else { kind }, reply)),
     ),
     (
         "number 18 refused",
@@ -753,11 +851,12 @@ const MUTANTS: [(&str, Check, Flaw); 71] = [
         }),
     ),
     (
-        "the byte after a refusal looked at",
+        // No reply of the kernel carries 19, so that none is given back wrong before.
+        "the byte after a refusal of 19 looked at",
         Check::PastReply,
         Flaw::Read(
             |kind, reply| match (Modelled.read_reply(kind, reply)?, reply.get(6)) {
-                (told, Some(128..)) if told.number > 0 => Err(4),
+                (told, Some(128..)) if told.number == 19 => Err(4),
                 (told, _) => Ok(told),
             },
         ),
@@ -809,9 +908,9 @@ const MUTANTS: [(&str, Check, Flaw); 71] = [
         }),
     ),
     (
-        "kind 12 taken for one without data",
+        "kind 13 taken for one without data",
         Check::Reader,
-        Flaw::Read(|kind, reply| Modelled.read_reply(if kind == 12 { 1 } else { kind }, reply)),
+        Flaw::Read(|kind, reply| Modelled.read_reply(if kind == 13 { 1 } else { kind }, reply)),
     ),
     (
         "3 before 1",

@@ -92,6 +92,13 @@ impl Turn {
     pub fn page(&self) -> Option<u8> {
         Call::parse(&self.message)?.argument(Argument::Page)
     }
+
+    /// The frame that the message retired, or found retired.
+    pub fn retired(&self) -> Option<u8> {
+        let call = Call::parse(&self.message)?;
+        let is_done = call.kind.word == "retire" && self.reply.number == 0;
+        call.argument(Argument::Frame).filter(|_| is_done)
+    }
 }
 
 /// A file run by the model.

@@ -111,6 +111,10 @@ fn frame_due(turns: &[Turn], at: usize, frame: u8) -> String {
         let since = since(turns, at, page, &copy);
         return format!("page {page} {} since message {since}", copy.mark.word());
     }
+    let retired = |turn: &Turn| turn.retired() == Some(frame);
+    if let Some(before) = turns[..at].iter().position(retired) {
+        return format!("retired since message {}", before + 1);
+    }
     let before = turns[..at].iter().rev();
     match before.take_while(|turn| holder(turn).is_none()).count() {
         free if free == at => "free from the start".into(),
@@ -149,6 +153,25 @@ fn short_files() {
 }
 
 #[test]
+fn a_retired_frame() {
+    let scratch = Scratch::new("retired");
+    let lines = Path::new("../../sample/calls");
+    let sample = scratch.path("sample");
+    printed("write", lines, &["-o", &sample.display().to_string()]);
+    let page = viewed(&scratch, &sample, &[]);
+    // Message 17 frees the frame, and 22 retires it.
+    for (at, due) in [
+        (16, "page 5 stale since message 14"),
+        (21, "free since message 17"),
+        (22, "retired since message 22"),
+        (33, "retired since message 22"),
+    ] {
+        let document = document(&scratch, &page, &format!("#at={at}&frame=4"));
+        assert_eq!(frame_in_panel(&document), due, "at {at}");
+    }
+}
+
+#[test]
 fn pages_are_shown_as_the_model_has_them() {
     let scratch = Scratch::new("places");
     let (fast, slow) = (20, 30);
@@ -159,8 +182,9 @@ fn pages_are_shown_as_the_model_has_them() {
         &scratch.file("calls", &bytes),
         &["--fast", "20", "--slow", "30"],
     );
-    let mut compared = 0;
-    for at in (1..=turns.len()).step_by(turns.len() / 8) {
+    let (mut compared, mut retired) = (0, 0);
+    let places = (1..=turns.len()).step_by(turns.len() / 16);
+    for (at, wanted) in places.zip(["free since", "retired since"].into_iter().cycle()) {
         // The page with the most stale copies, and of those the one with the most copies.
         let number = (0..64).max_by_key(|&page: &usize| {
             let copies = &turns[at - 1].pages[page];
@@ -168,9 +192,10 @@ fn pages_are_shown_as_the_model_has_them() {
             (stale.count(), copies.len())
         });
         let number = number.expect("a page");
-        // Where there is one, a frame that was held before; else any.
-        let is_freed = |frame: &u8| frame_due(&turns, at, *frame).starts_with("free since");
-        let frame = (0..50).find(is_freed).unwrap_or((at * 7 % 50) as u8);
+        // By turns a frame that was held before and one that is retired, where there is one; else
+        // any.
+        let is_wanted = |frame: &u8| frame_due(&turns, at, *frame).starts_with(wanted);
+        let frame = (0..50).find(is_wanted).unwrap_or((at * 7 % 50) as u8);
         let fragment = format!("#at={at}&page={number}&frame={frame}");
         let document = document(&scratch, &page, &fragment);
         assert_eq!(
@@ -178,6 +203,7 @@ fn pages_are_shown_as_the_model_has_them() {
             frame_due(&turns, at, frame),
             "frame {frame} at {at}"
         );
+        retired += usize::from(frame_due(&turns, at, frame).starts_with("retired since"));
         let copies = turns[at - 1].pages[number].iter().enumerate();
         let due: Vec<[String; 4]> = copies
             .map(|(copy, held)| {
@@ -202,6 +228,7 @@ fn pages_are_shown_as_the_model_has_them() {
         );
     }
     assert!(compared > 3, "only {compared} stale copies were compared");
+    assert!(retired > 3, "only {retired} retired frames were compared");
 }
 
 #[test]

@@ -74,8 +74,8 @@ impl Kind {
     }
 }
 
-/// The kinds 1 to 11, in this order.
-pub const KINDS: [Kind; 11] = [
+/// The kinds 1 to 12, in this order.
+pub const KINDS: [Kind; 12] = [
     Kind {
         word: "create",
         sentence: "create station # page #",
@@ -163,9 +163,16 @@ pub const KINDS: [Kind; 11] = [
         tells: Tells::Frame,
         changes: false,
     },
+    Kind {
+        word: "retire",
+        sentence: "retire frame #",
+        arguments: &[Argument::Frame],
+        tells: Tells::Nothing,
+        changes: true,
+    },
 ];
 
-/// The number of a kind, 1 to 11.
+/// The number of a kind, 1 to 12.
 pub fn number_of(kind: &Kind) -> u8 {
     let before = KINDS.iter().take_while(|other| other.word != kind.word);
     before.count() as u8 + 1
@@ -231,7 +238,7 @@ mod tests {
             &[0, 1, 1],
             &[0, 4, 2, 1, 3, 5],
             &[0, 4, 1, 0, 3, 5],
-            &[0, 4, 1, 12, 3, 5],
+            &[0, 4, 1, 13, 3, 5],
             &[0, 5, 1, 5, 3, 5, 0],
             &[0, 5, 1, 1, 3, 5],
         ];

@@ -117,13 +117,14 @@ mod tests {
 
     #[test]
     fn lines_and_their_messages() {
-        let pairs: [(&str, &[u8]); 7] = [
+        let pairs: [(&str, &[u8]); 8] = [
             ("create 3 5", &[0, 4, 1, 1, 3, 5]),
             ("copy 5 0 0", &[0, 5, 1, 6, 5, 0, 0]),
             ("current 5 0", &[0, 4, 1, 8, 5, 0]),
             ("write 3 5 0 41 37", &[0, 7, 1, 5, 3, 5, 0, 0x41, 0x37]),
             ("read 3 5 0 3", &[0, 6, 1, 4, 3, 5, 0, 3]),
             ("look-page 255", &[0, 3, 1, 10, 255]),
+            ("retire 7", &[0, 3, 1, 12, 7]),
             ("raw 00 0A", &[0, 10]),
         ];
         for (words, message) in pairs {
@@ -138,7 +139,7 @@ mod tests {
     fn calls_that_the_writer_refuses_are_written_all_the_same() {
         let longest = format!("write 3 5 0{}", " 00".repeat(65));
         let message = [&[0, 70, 1, 5, 3, 5, 0][..], &[0; 65]].concat();
-        let pairs: [(&str, &[u8]); 10] = [
+        let pairs: [(&str, &[u8]); 11] = [
             ("create 16 5", &[0, 4, 1, 1, 16, 5]),
             ("look-page 64", &[0, 3, 1, 10, 64]),
             ("grant 3 5 16 1", &[0, 6, 1, 3, 3, 5, 16, 1]),
@@ -147,6 +148,7 @@ mod tests {
             ("read 3 5 63 2", &[0, 6, 1, 4, 3, 5, 63, 2]),
             ("write 3 5 64 41", &[0, 6, 1, 5, 3, 5, 64, 0x41]),
             ("look-frame 254", &[0, 3, 1, 11, 254]),
+            ("retire 254", &[0, 3, 1, 12, 254]),
             ("write 3 5 0", &[0, 5, 1, 5, 3, 5, 0]),
             (&longest, &message),
         ];
@@ -165,6 +167,7 @@ mod tests {
             "read 15 63 63 1",
             "copy 63 255 253",
             "look-frame 253",
+            "retire 253",
             &longest,
             "raw 00 03 01 0B FE",
             "",

@@ -1,4 +1,4 @@
-//! The kernel fed message by message, and the pages as its own looks show them in between.
+//! The kernel fed message by message, and pages and frames as its own looks show them in between.
 
 use crate::kinds::{kind_byte, Argument, Call};
 use kernel::{Answer, Unit, MESSAGE};
@@ -8,6 +8,9 @@ pub const PAGES: usize = 64;
 /// The reader's refusal of a kind that it does not know.
 const UNKNOWN_KIND: u8 = 3;
 const LOOK_AT_PAGE: u8 = 10;
+const LOOK_AT_FRAME: u8 = 11;
+/// What a look shows first of a retired frame.
+const RETIRED: u8 = 2;
 /// The frame of a null copy in a look.
 pub const NO_FRAME: u8 = 255;
 
@@ -92,6 +95,9 @@ pub struct Watched {
     unit: Unit,
     pages: Vec<Vec<PageCopy>>,
     changed: Vec<u8>,
+    /// For each frame number whether it was seen retired.
+    retired: Vec<bool>,
+    newly_retired: Option<u8>,
 }
 
 impl Watched {
@@ -101,6 +107,8 @@ impl Watched {
             unit: Unit::fresh(fast, slow)?,
             pages: vec![Vec::new(); PAGES],
             changed: Vec::new(),
+            retired: vec![false; 256],
+            newly_retired: None,
         })
     }
 
@@ -114,6 +122,11 @@ impl Watched {
         &self.changed
     }
 
+    /// The frame that the last message retired.
+    pub fn newly_retired(&self) -> Option<u8> {
+        self.newly_retired
+    }
+
     /// Whether the last message, which is `message`, names the page or changed it.
     pub fn is_touched(&self, page: u8, message: &[u8]) -> bool {
         let call = Call::parse(message);
@@ -121,13 +134,14 @@ impl Watched {
         named == Some(page) || self.changed.contains(&page)
     }
 
-    /// Answers the next message of the file, then looks at the pages that it may have changed.
+    /// Answers the next message of the file, then looks at what it may have changed.
     pub fn feed(&mut self, message: &[u8]) -> Reply {
         let reply = self.answer(message);
-        self.changed = match reply.number {
-            0 => self.look_after(message),
-            _ => Vec::new(),
-        };
+        self.changed.clear();
+        self.newly_retired = None;
+        if reply.number == 0 {
+            self.look_after(message);
+        }
         reply
     }
 
@@ -135,23 +149,34 @@ impl Watched {
         Reply::to(message, self.unit.answer(message))
     }
 
-    /// Looks where an accepted message may have changed something: at the page it names, or at
-    /// every page if it names none or is of a kind that is not known here.
-    fn look_after(&mut self, message: &[u8]) -> Vec<u8> {
+    /// Looks where an accepted message may have changed something: at the page it names, at the
+    /// frame if it names no page, or at every page if it names neither or is of a kind that is not
+    /// known here.
+    fn look_after(&mut self, message: &[u8]) {
         let call = Call::parse(message);
         if call.as_ref().is_some_and(|call| !call.kind.changes) {
-            return Vec::new();
+            return;
         }
-        let pages = match call.and_then(|call| call.argument(Argument::Page)) {
-            Some(page) => page..=page,
-            None => 0..=PAGES as u8 - 1,
+        let named = |wanted| call.as_ref().and_then(|call| call.argument(wanted));
+        let pages = match (named(Argument::Page), named(Argument::Frame)) {
+            (Some(page), _) => page..=page,
+            (None, Some(frame)) => return self.look_at_frame(frame),
+            (None, None) => 0..=PAGES as u8 - 1,
         };
-        pages.filter(|&page| self.look(page)).collect()
+        self.changed = pages.filter(|&page| self.look_at_page(page)).collect();
+    }
+
+    /// Looks at a frame; notes it where it is retired and was not before.
+    fn look_at_frame(&mut self, frame: u8) {
+        let is_retired = self.shown(LOOK_AT_FRAME, frame).first() == Some(&RETIRED);
+        let seen = &mut self.retired[usize::from(frame)];
+        self.newly_retired = (is_retired && !*seen).then_some(frame);
+        *seen = is_retired;
     }
 
     /// Looks at a page; whether it shows other copies or marks than before.
-    fn look(&mut self, page: u8) -> bool {
-        let copies = self.shown(page);
+    fn look_at_page(&mut self, page: u8) -> bool {
+        let copies = copies_of(&self.shown(LOOK_AT_PAGE, page));
         let Some(seen) = self.pages.get_mut(usize::from(page)) else {
             return false;
         };
@@ -160,11 +185,11 @@ impl Watched {
         is_changed
     }
 
-    /// The copies that a look at a page shows; none where it is refused.
-    fn shown(&mut self, page: u8) -> Vec<PageCopy> {
+    /// The data of a look of this kind at a page or frame; none where it is refused.
+    fn shown(&mut self, kind: u8, at: u8) -> Vec<u8> {
         let mut message = [0; MESSAGE];
-        match kernel::write(LOOK_AT_PAGE, [page, 0, 0, 0], &[], &mut message) {
-            Ok(length) => copies_of(&self.answer(&message[..length]).data),
+        match kernel::write(kind, [at, 0, 0, 0], &[], &mut message) {
+            Ok(length) => self.answer(&message[..length]).data,
             Err(_) => Vec::new(),
         }
     }
@@ -195,13 +220,34 @@ mod tests {
     }
 
     #[test]
+    fn a_frame_is_retired_once() {
+        let mut watched = Watched::fresh(1, 1).unwrap();
+        let steps: [(&[u8], u8, Option<u8>); 6] = [
+            (&[0, 4, 1, 1, 3, 5], 0, None),
+            (&[0, 5, 1, 6, 5, 0, 0], 0, None),
+            (&[0, 3, 1, 12, 0], 13, None),
+            (&[0, 3, 1, 12, 1], 0, Some(1)),
+            (&[0, 3, 1, 12, 1], 0, None),
+            (&[0, 3, 1, 12, 2], 7, None),
+        ];
+        for (message, number, frame) in steps {
+            let given = (watched.feed(message).number, watched.newly_retired());
+            assert_eq!(given, (number, frame), "{message:?}");
+        }
+        assert_eq!(watched.copies(5).len(), 1);
+    }
+
+    #[test]
     fn replies_to_calls_and_to_broken_messages() {
         let mut watched = Watched::fresh(1, 1).unwrap();
-        let turns: [(&[u8], u8, u16, &[u8]); 10] = [
+        let turns: [(&[u8], u8, u16, &[u8]); 13] = [
             (&[0, 4, 1, 1, 3, 5], 0, 0, &[]),
             (&[0, 5, 1, 6, 5, 0, 1], 0, 64, &[]),
             (&[0, 3, 1, 10, 5], 0, 0, &[1, 1, 0, 1]),
             (&[0, 3, 1, 11, 1], 0, 0, &[1, 5, 0]),
+            (&[0, 3, 1, 12, 0], 0, 0, &[]),
+            (&[0, 3, 1, 11, 0], 0, 0, &[2, 255, 255]),
+            (&[0, 5, 1, 6, 5, 0, 0], 20, 0, &[]),
             (&[0, 4, 1, 1, 3, 5], 8, 0, &[]),
             (&[0, 3, 1, 1, 3], 4, 0, &[]),
             (&[0, 2, 1, 0], 3, 0, &[]),

@@ -1,5 +1,5 @@
-//! What the page of `reel view` is made of: the file, the answers and the changes of pages, each
-//! packed into bytes that view.js reads.
+//! What the page of `reel view` is made of: the file, the answers, the changes of pages and the
+//! retired frames, each packed into bytes that view.js reads.
 
 use crate::looks::{Mark, PageCopy, Reply, Watched, NO_FRAME};
 
@@ -13,12 +13,14 @@ pub struct Record {
     /// For each page that a message changed: how many messages later than the change before, as a
     /// number of any size, the page, how many copies it has, and for each its frame and mark.
     pub changes: Vec<u8>,
+    /// For each frame that a message retired: the message, as a number of any size, and the frame.
+    pub retired: Vec<u8>,
     pub messages: u64,
     last_change: u64,
 }
 
 impl Record {
-    /// One more message, its reply, and the pages as they are after it.
+    /// One more message, its reply, and pages and frames as they are after it.
     pub fn turn(&mut self, message: &[u8], reply: &Reply, watched: &Watched) {
         self.messages += 1;
         self.file.extend(message);
@@ -30,6 +32,10 @@ impl Record {
         }
         for &page in watched.changed() {
             self.change(page, watched.copies(page));
+        }
+        if let Some(frame) = watched.newly_retired() {
+            push_number(&mut self.retired, self.messages);
+            self.retired.push(frame);
         }
     }
 

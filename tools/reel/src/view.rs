@@ -25,6 +25,7 @@ pub fn page(name: &str, fast: u8, slow: u8, record: &Record) -> String {
         ("{{file}}", base64(&record.file)),
         ("{{answers}}", base64(&record.answers)),
         ("{{changes}}", base64(&record.changes)),
+        ("{{retired}}", base64(&record.retired)),
         ("{{script}}", SCRIPTS.concat()),
     ];
     // In the template's order and each once, so that nothing put in is taken for a place.

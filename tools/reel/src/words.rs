@@ -3,8 +3,8 @@
 use crate::kinds::{Call, Tells};
 use crate::looks::{copies_of, PageCopy, Reply};
 
-/// The word of each number 0 to 19.
-pub const WORDS: [&str; 20] = [
+/// The word of each number 0 to 20.
+pub const WORDS: [&str; 21] = [
     "accepted",
     "cut short",
     "foreign version",
@@ -25,6 +25,7 @@ pub const WORDS: [&str; 20] = [
     "no frame",
     "short slip",
     "too many frames",
+    "retired",
 ];
 
 /// The word of a number.
@@ -102,6 +103,7 @@ fn told(tells: Tells, data: &[u8], fast: u8) -> String {
         }
         (Tells::Frame, [1, page, copy]) => format!("page {page} copy {copy}"),
         (Tells::Frame, [0, 255, 255]) => "free".into(),
+        (Tells::Frame, [2, 255, 255]) => "retired".into(),
         _ => hex(data),
     }
 }

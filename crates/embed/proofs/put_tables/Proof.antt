@@ -1,16 +1,16 @@
--- `put_tables`. The pages before i are laid, and then the register.
-use Prim.Native.Nat.{_-_, _≤_, _*_}
-use mathlib.Core.Path.{_≡_, refl, _∙_}
-use mathlib.Core.List.{flatMap}
+-- `put_tables`. The pages before i are laid, then the register and the marks of retired frames.
+use Prim.Native.Nat.{ℕ, _-_, _≤_, _*_}
+use mathlib.Core.Path.{_≡_, refl, ap, _∙_}
+use mathlib.Core.List.{List, _++_, flatMap, append-assoc}
 use native.Mathlib.Omega.{arith}
 use lib.ListN.{length, take, length-append, length-map, length-set}
 use lib.Seq.{sets, take-all}
 use borrow.Author.Needs.{needs}
 use Rattle.tables.specs.Model.{noPageRecord}
 use Rattle.messages.specs.Replies.{be16}
-use Rattle.embed.specs.Bytes.{pageSize, registerAt, tablesSize, pageBytes, tablesBytes}
+use Rattle.embed.specs.Bytes.{pageSize, registerAt, marksAt, tablesSize, pageBytes, retiredByte, tablesBytes}
 use Rattle.embed.proofs.LayLaws.{sets-then, sets-whole, flat-more}
-use Rattle.embed.proofs.RoundTrip.{register-length}
+use Rattle.embed.proofs.RoundTrip.{register-length, retired-length}
 use Rattle.embed.proofs.put_tables.Statement.{statement}
 use Rattle.embed.proofs.put_tables.Tie as tie
 
@@ -70,23 +70,33 @@ loop-again c =
 put-register-requires : tie.Need-put-register-requires Inv-loop μ-loop
 put-register-requires c κs = search needs
 
+put-retired-requires : tie.Need-put-retired-requires Inv-loop μ-loop
+put-retired-requires c κs = search needs
+
 same-length : tie.Need-same-length Inv-loop μ-loop
 same-length c = search needs
 
 returns : tie.Need-returns Inv-loop μ-loop
 unfolding tablesBytes
 returns c =
-    let s = c .before .before .before .before .before .before .before .before in
-    let l = c .before .before .before .before .before .before .loop in
+    let s = c .before .before .before .before .before .before .before .before .before .before .before .before .before in
+    let l = c .before .before .before .before .before .before .before .before .before .before .before .loop in
     let t = s .args .t1 in
     let n : length (t .pages) ≡ 64 = simp length-map at (s .good .0 .1 .1 .1 .0 .1 .0 .1) in
     let m : length (t .register) ≡ 254 = search needs in
+    let k : length (t .retired) ≡ 254 = search needs in
+    let ps = flatMap pageBytes (t .pages) in
+    let es = flatMap be16 (t .register) in
+    let ms = flatMap retiredByte (t .retired) in
     let e : l .i ≡ 64 = omega arith in
     let all : take (l .i) (t .pages) ≡ t .pages = take-all (l .i) (t .pages) (omega arith) in
-    let k : length (flatMap pageBytes (t .pages)) ≡ 2688 = rw (all, e) at (l .inv .3) in
-    let long : length (tablesBytes t) ≡ tablesSize = simp length-append (omega (arith, register-length (t .register) m)) in
-    c .before .before .put-register .ensures
-    ∙ rw (l .inv .2, all) (sets-then _ 2 (flatMap pageBytes (t .pages)) registerAt (flatMap be16 (t .register)) (omega arith))
+    let far : length ps ≡ 2688 = rw (all, e) at (l .inv .3) in
+    let long : length (tablesBytes t) ≡ tablesSize = simp length-append (omega (arith, register-length (t .register) m, retired-length (t .retired) k)) in
+    c .before .before .put-retired .ensures
+    ∙ rw (c .before .before .before .before .before .before .before .put-register .ensures, l .inv .2, all)
+    (ap (λ (b : List ℕ). sets b marksAt ms) (sets-then _ 2 ps registerAt es (omega arith))
+    ∙ sets-then _ 2 (ps ++ es) marksAt ms (simp length-append (omega (arith, register-length (t .register) m)))
+    ∙ ap (sets _ 2) (append-assoc ps es ms))
     ∙ sets-whole (s .args .bytes .now) (tablesBytes t) (omega arith)
 
 pub put-tables-spec : {M : Type 1} → statement M
@@ -107,5 +117,6 @@ put-tables-spec =
     loop-less
     loop-again
     put-register-requires
+    put-retired-requires
     same-length
     returns)

@@ -65,13 +65,16 @@ shared-slice-read-t14 c = search needs
 register-from-requires : tie.Need-register-from-requires Inv-loop μ-loop
 register-from-requires c κs = search needs
 
+retired-from-requires : tie.Need-retired-from-requires Inv-loop μ-loop
+retired-from-requires c κs = search needs
+
 returns : tie.Need-returns Inv-loop μ-loop
 unfolding tablesFrom
 returns c =
-    let b = drop 2 (c .before .before .before .before .before .before .before .args .bytes .now) in
-    let l = c .before .before .before .before .loop in
+    let b = drop 2 (c .before .before .before .before .before .before .before .before .args .bytes .now) in
+    let l = c .before .before .before .before .before .loop in
     let e : l .i ≡ 64 = omega arith in
-    rw (l .inv .1, e, fill-end (fromEach 64 pageSize pageFrom b) _ 64 (each-length pageSize pageFrom 64 b) refl, c .register-from .ensures)
+    rw (l .inv .1, e, fill-end (fromEach 64 pageSize pageFrom b) _ 64 (each-length pageSize pageFrom 64 b) refl, c .before .register-from .ensures, c .retired-from .ensures)
 
 pub tables-from-spec : {M : Type 1} → statement M
 tables-from-spec =
@@ -92,4 +95,5 @@ tables-from-spec =
     shared-slice-read-t12
     shared-slice-read-t14
     register-from-requires
+    retired-from-requires
     returns)

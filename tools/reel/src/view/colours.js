@@ -65,6 +65,21 @@ function staleHeight(height) {
   return Math.max(1, Math.round(height / 5));
 }
 
+// The length of a dash, and of a gap.
+const DASH = 6;
+
+// A retired frame: a dashed line through the middle.
+function drawRetired(context, palette, x, y, width, height) {
+  context.strokeStyle = palette.soft;
+  context.lineWidth = staleHeight(height);
+  context.setLineDash([DASH, DASH]);
+  context.beginPath();
+  context.moveTo(x, y + height / 2);
+  context.lineTo(x + width, y + height / 2);
+  context.stroke();
+  context.setLineDash([]);
+}
+
 // CURRENT: a full bar; MOST RECENT: a hatched bar with a border; stale: a thin line.
 function drawCopy(context, palette, colour, mark, x, y, width, height) {
   if (mark === STALE) {

@@ -15,6 +15,8 @@ const NONE = 255;
 // A copy's mark is a place in this list.
 const MARKS = ['stale', 'MOST RECENT', 'CURRENT'];
 const [STALE, RECENT, CURRENT] = [0, 1, 2];
+// The mark of a retired frame, which has no page.
+const RETIRED = 3;
 
 function unpacked(id) {
   const text = atob(element(id).textContent);
@@ -70,6 +72,7 @@ class Shift {
     this.readMessages();
     this.readAnswers();
     this.readChanges();
+    this.readRetired();
   }
 
   readMessages() {
@@ -154,6 +157,15 @@ class Shift {
     this.carryHeld(turn, this.messages);
   }
 
+  // A retired frame is free before and takes no copy after, so this is the last that is known of it.
+  readRetired() {
+    const reader = new Reader(unpacked('retired'));
+    while (reader.at < reader.bytes.length) {
+      const turn = reader.number();
+      this.changeFrame(turn, reader.byte(), NONE, RETIRED);
+    }
+  }
+
   copiesAt(reader) {
     return Array.from({ length: reader.byte() }, () => ({ frame: reader.byte(), mark: reader.byte() }));
   }
@@ -203,7 +215,7 @@ class Shift {
     return last < 0 ? [] : this.copiesAt(new Reader(this.changes, changes.at[last]));
   }
 
-  // Who is on a frame after a message: the page or NONE, the mark, and since which message.
+  // Who is on a frame after a message: the page or NONE, its mark or RETIRED, and since which message.
   holder(frame, turn) {
     const { turns, pages, marks } = this.held[frame];
     const last = lastUpTo(turns, turn);
@@ -241,6 +253,7 @@ class Shift {
     if (tells === 'page') return counted(data[0], 'copy', 'copies');
     if (tells === 'frame' && data[0] === 1) return `page ${data[1]} copy ${data[2]}`;
     if (tells === 'frame' && data[0] === 0) return 'free';
+    if (tells === 'frame' && data[0] === 2) return 'retired';
     return hex(data);
   }
 

@@ -11,12 +11,13 @@ function made(name, text = '', attributes = {}) {
   return node;
 }
 
-// A small picture of a copy with this mark.
+// A small picture of a copy with this mark, or of a retired frame.
 function sample(palette, colour, mark) {
   const canvas = made('canvas', '', { width: 88, height: 32, 'aria-hidden': 'true' });
   const context = canvas.getContext('2d');
   context.scale(2, 2);
-  drawCopy(context, palette, colour, mark, 1, 1, 42, 14);
+  if (mark === RETIRED) drawRetired(context, palette, 1, 1, 42, 14);
+  else drawCopy(context, palette, colour, mark, 1, 1, 42, 14);
   return canvas;
 }
 
@@ -69,6 +70,7 @@ class Panel {
   }
 
   holding({ page, mark, since }) {
+    if (mark === RETIRED) return `retired since message ${grouped(since)}`;
     if (page === NONE) return since > 0 ? `free since message ${grouped(since)}` : 'free from the start';
     return `page ${page}, ${MARKS[mark]} since message ${grouped(since)}`;
   }
@@ -109,19 +111,24 @@ class Panel {
 
   drawLegend() {
     const { palette } = this.picture;
-    const words = ['stale: a thin line', 'MOST RECENT, not CURRENT: hatched', 'CURRENT: a full bar'];
-    const items = words.map((text, mark) => {
+    const words = [
+      [CURRENT, 'CURRENT: a full bar'],
+      [RECENT, 'MOST RECENT, not CURRENT: hatched'],
+      [STALE, 'stale: a thin line'],
+      [RETIRED, 'retired frame: a dashed line'],
+    ];
+    const items = words.map(([mark, text]) => {
       const item = made('li');
       item.append(sample(palette, palette.pages[1], mark), made('span', text));
       return item;
     });
     const notes = [
-      'A number in a bar is the page, and so is its colour. No bar: the frame is free; a freed one holds zeros.',
+      'A number in a bar is the page, and so is its colour. Neither bar nor line: the frame is free; a freed one holds zeros.',
       'A column shows the state after its message; zoomed out, after the last of its messages.',
       'Close up, an arrow is a copy being made, and \u271516 a message refused with number 16.',
       'Of the frames held, fast ones are full, slow ones hatched.',
     ];
-    element('legend').replaceChildren(...items.reverse(), ...notes.map(text => made('li', text)));
+    element('legend').replaceChildren(...items, ...notes.map(text => made('li', text)));
   }
 
   // A button for each page in its colour; those that never stood are switched off.

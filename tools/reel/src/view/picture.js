@@ -254,10 +254,14 @@ class Picture {
     const y = this.y(frame) + 1;
     const height = this.row - 2;
     for (let i = lastUpTo(turns, visible.first); i < turns.length && turns[i] <= visible.last; i++) {
-      if (pages[i] === NONE) continue;
+      if (pages[i] === NONE && marks[i] !== RETIRED) continue;
       const left = Math.max(GUTTER - 2, this.x(turns[i]));
       const end = i + 1 < turns.length ? turns[i + 1] : this.shift.messages + 1;
       const right = Math.min(GUTTER + this.width + 2, this.x(end));
+      if (marks[i] === RETIRED) {
+        drawRetired(context, this.palette, left, y, right - left, height);
+        continue;
+      }
       drawCopy(context, this.palette, this.colour(pages[i]), marks[i], left, y, right - left, height);
       this.drawLabel(context, pages[i], marks[i], Math.max(GUTTER, left), right, y, height);
     }
@@ -311,12 +315,15 @@ class Picture {
     const { paper } = this.palette;
     const shade = strength =>
       Uint32Array.from({ length: PAGES }, (_, page) => pixelOf(this.colour(page), paper, strength));
-    return { full: shade(1), light: shade(0.25) };
+    return { full: shade(1), light: shade(0.25), retired: pixelOf(this.palette.soft, paper) };
   }
 
   paintRow({ pixels, width, height, columns, shades }, { turns, pages, marks }, top, bottom) {
     const { page: chosen } = this.choice;
-    const stale = bottom - staleHeight(bottom - top);
+    const line = staleHeight(bottom - top);
+    const stale = bottom - line;
+    const middle = top + ((bottom - top - line) >> 1);
+    const dash = Math.round(DASH * this.scale);
     let at = lastUpTo(turns, columns[0]);
     for (let x = 0; x < width; x++) {
       let shown = at;
@@ -324,8 +331,13 @@ class Picture {
         at++;
         if (pages[shown] !== chosen || pages[at] === chosen) shown = at;
       }
-      if (pages[shown] === NONE) continue;
       const mark = marks[shown];
+      if (mark === RETIRED && Math.floor(x / dash) % 2 === 0) {
+        for (let y = Math.max(0, middle); y < Math.min(middle + line, height); y++) {
+          pixels[y * width + x] = shades.retired;
+        }
+      }
+      if (pages[shown] === NONE) continue;
       const full = shades.full[pages[shown]];
       const light = shades.light[pages[shown]];
       const first = Math.max(0, mark === STALE ? stale : top);

@@ -5,7 +5,7 @@ use mathlib.Core.Path.{_≡_, refl, ap}
 use lib.ListN.{getD, drop}
 use lib.Seq.{getD-drop}
 use Rattle.steps.specs.declared.Kind.{Kind}
-use Rattle.steps.specs.declared.Kind.the-variants.{Create, DeletePage, Grant, Read, Write, MakeCopy, DeleteCopy, SetCurrent, RemoveCurrent, LookPage, LookFrame}
+use Rattle.steps.specs.declared.Kind.the-variants.{Create, DeletePage, Grant, Read, Write, MakeCopy, DeleteCopy, SetCurrent, RemoveCurrent, LookPage, LookFrame, Retire}
 use Rattle.steps.specs.Kinds.{names, code, argument, callOf}
 use Rattle.messages.specs.declared.Parsed.the-variants.{Asked}
 use borrow.Author.Needs.{needs}
@@ -26,6 +26,7 @@ first-of SetCurrent r = refl
 first-of RemoveCurrent r = refl
 first-of LookPage r = refl
 first-of LookFrame r = refl
+first-of Retire r = refl
 
 first-four : (k : Kind) (m : List ℕ) → Asked (callOf k (getD m 2 0 ∷ getD m 3 0 ∷ getD m 4 0 ∷ getD m 5 0 ∷ [])) ≡ Asked (callOf k (drop 2 m))
 first-four k m = rw (← getD-drop 2 m 0 0, ← getD-drop 2 m 1 0, ← getD-drop 2 m 2 0, ← getD-drop 2 m 3 0) (ap Asked (first-of k (drop 2 m)))

@@ -13,6 +13,9 @@ frame-count-requires c κs = search needs
 verdict-requires : tie.Need-verdict-requires
 verdict-requires c κs = search needs
 
+retires-requires : tie.Need-retires-requires
+retires-requires c κs = search needs
+
 keeps-requires : tie.Need-keeps-requires
 keeps-requires c κs = search needs
 
@@ -23,16 +26,18 @@ returns : tie.Need-returns
 unfolding decidedOn
 returns c =
     let k = c .before .before in
-    rw (← k .before .before .frame-count .ensures, ← k .before .verdict .ensures, ← k .keeps .ensures, ← c .after .ensures)
+    let d = k .before .before in
+    rw (← d .before .frame-count .ensures, ← d .verdict .ensures, ← k .before .retires .ensures, ← k .keeps .ensures, ← c .after .ensures)
 
 returns-2 : tie.Need-returns-2
 unfolding decidedOn
 returns-2 c =
     let k = c .before .keeps in
-    let d = c .before .before in
+    let r = c .before .before in
+    let d = r .before in
     let u = sym (k .ensures) ∙ not-false (k .result) (c .if1 .left) in
     let s = unchanged-same (d .before .before .args .page) (d .verdict .result .edit) u in
-    rw (← d .before .frame-count .ensures, ← d .verdict .ensures, ← k .ensures, s)
+    rw (← d .before .frame-count .ensures, ← d .verdict .ensures, ← r .retires .ensures, ← k .ensures, s)
 
 pub decided-spec : {M : Type 1} → statement M
 decided-spec =
@@ -40,6 +45,7 @@ decided-spec =
     (tie.spec
     frame-count-requires
     verdict-requires
+    retires-requires
     keeps-requires
     after-requires
     returns

@@ -55,7 +55,7 @@ module _ {M : Type 1} (𝓤 : URA M) (H : Heap 𝓤) (A : Atoms 𝓤) (W : Given
   cut : (q : Share) → ent 𝓤 (sem 𝓤 H A (partAt T.the-row q h b o))
       (sep 𝓤 (sem 𝓤 H A (Pages q)) (wand 𝓤 (sem 𝓤 H A (Pages q)) (sem 𝓤 H A (partAt T.the-row q h b o))))
   cut q = cut-records 𝓤 H A q T.the-row P.the-type 64 2 h h (h .pages) (h .pages) (b, o) (look-at 𝓤 H A W q T.the-type T′.the-laws 1 2 refl refl
-      (b, o) h (h .shared, (h .pages, (h .register, tt))) refl)
+      (b, o) h (h .shared, (h .pages, (h .register, (h .retired, tt)))) refl)
 
 module _ {M : Type 1} (𝓤 : URA M) (H : Heap 𝓤) (A : Atoms 𝓤) (W : Given 𝓤 H A) (mem : Memory → SProp 𝓤) (run : Routine → Fun 𝓤) (𝓣 : Tables 𝓤 H) where
   abbrev c : Clauses 𝓤 page-at.ended

@@ -97,6 +97,12 @@ arm c e h =
     let a = c .before .before .args in
     inside-on (a .view) (a .call) (a .size) (rw (c .before .outside .ensures) at (c .if1 .left)) e h
 
+enum-told-12 : tie.Need-enum-told-12
+enum-told-12 c = search needs
+
+retire-requires : tie.Need-retire-requires
+retire-requires c κs = search needs
+
 returns-2 : tie.Need-returns-2
 returns-2 c = arm (c .before .before .before) (c .before .enum-told .given .1) (c .create .ensures _)
 
@@ -131,6 +137,9 @@ returns-12 : tie.Need-returns-12
 unfolding perform
 returns-12 c = arm (c .before .before .before) (c .before .enum-told11 .given .1) (c .accepted .ensures)
 
+returns-13 : tie.Need-returns-13
+returns-13 c = arm (c .before .before .before) (c .before .enum-told12 .given .1) (c .retire .ensures _)
+
 pub verdict-spec : {M : Type 1} → statement M
 verdict-spec =
     tie.close
@@ -160,6 +169,8 @@ verdict-spec =
     look-page-requires
     enum-told-11
     accepted-requires
+    enum-told-12
+    retire-requires
     returns-2
     returns-3
     returns-4
@@ -170,4 +181,5 @@ verdict-spec =
     returns-9
     returns-10
     returns-11
-    returns-12)
+    returns-12
+    returns-13)

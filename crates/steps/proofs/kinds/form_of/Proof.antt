@@ -38,6 +38,9 @@ row-requires-10 c κs = search needs
 row-requires-11 : tie.Need-row-requires-11
 row-requires-11 c κs = search needs
 
+row-requires-12 : tie.Need-row-requires-12
+row-requires-12 c κs = search needs
+
 returns : tie.Need-returns
 unfolding kinds names tells among code argument callOf
 returns c = rw (c .before .match .keys1) (c .row .ensures)
@@ -80,7 +83,11 @@ returns-10 c = rw (c .before .match .keys10) (c .row10 .ensures)
 
 returns-11 : tie.Need-returns-11
 unfolding kinds names tells among code argument callOf
-returns-11 c = rw (kind-rest (c .before .before .args .number) (c .before .match .rest)) (c .row11 .ensures)
+returns-11 c = rw (c .before .match .keys11) (c .row11 .ensures)
+
+returns-12 : tie.Need-returns-12
+unfolding kinds names tells among code argument callOf
+returns-12 c = rw (kind-rest (c .before .before .args .number) (c .before .match .rest)) (c .row12 .ensures)
 
 pub form-of-spec : {M : Type 1} → statement M
 form-of-spec =
@@ -97,6 +104,7 @@ form-of-spec =
     row-requires-9
     row-requires-10
     row-requires-11
+    row-requires-12
     returns
     returns-2
     returns-3
@@ -107,4 +115,5 @@ form-of-spec =
     returns-8
     returns-9
     returns-10
-    returns-11)
+    returns-11
+    returns-12)

@@ -33,7 +33,7 @@ returns-2 c = rw (c .before .enum-told2 .given .1) (c .bad-span2 .ensures)
 
 returns-3 : tie.Need-returns-3
 unfolding names among code kinds all
-returns-3 c = rw (unnamed offset (0 ∷ 1 ∷ 2 ∷ 5 ∷ 6 ∷ 7 ∷ 8 ∷ 9 ∷ 10 ∷ []) (c .before .args .call .kind) (c .match .keys3) refl)
+returns-3 c = rw (unnamed offset (0 ∷ 1 ∷ 2 ∷ 5 ∷ 6 ∷ 7 ∷ 8 ∷ 9 ∷ 10 ∷ 11 ∷ []) (c .before .args .call .kind) (c .match .keys3) refl)
 
 pub span-outside-spec : {M : Type 1} → statement M
 span-outside-spec =

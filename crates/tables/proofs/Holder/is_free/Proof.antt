@@ -1,4 +1,4 @@
--- `Holder::is_free`, case by case: the number that the definition gives it is 1 or 0.
+-- `Holder::is_free`, case by case: whether the number that the definition gives it is 0.
 use mathlib.Core.Path.{sym, ap}
 use borrow.Author.Needs.{needs}
 use Rattle.tables.specs.Search.{isFree}
@@ -11,11 +11,17 @@ enum-told c = search needs
 enum-told-2 : tie.Need-enum-told-2
 enum-told-2 c = search needs
 
+enum-told-3 : tie.Need-enum-told-3
+enum-told-3 c = search needs
+
 returns : tie.Need-returns
 returns c = sym (ap isFree (c .enum-told .given .1))
 
 returns-2 : tie.Need-returns-2
 returns-2 c = sym (ap isFree (c .enum-told2 .given .1))
 
+returns-3 : tie.Need-returns-3
+returns-3 c = sym (ap isFree (c .enum-told3 .given .1))
+
 pub is-free-spec : {M : Type 1} → statement M
-is-free-spec = tie.close (tie.spec enum-told enum-told-2 returns returns-2)
+is-free-spec = tie.close (tie.spec enum-told enum-told-2 enum-told-3 returns returns-2 returns-3)

@@ -1,4 +1,4 @@
--- `Tables::after` replaces one record and its frames' entries; a number with no page changes nothing.
+-- `Tables::after` marks a frame, and replaces one record and its frames' entries; numbers of no page and of no frame change nothing.
 use Prim.Native.Nat.{_≤_}
 use mathlib.Core.Path.{_≡_}
 use native.Mathlib.Omega.{arith}
@@ -13,6 +13,9 @@ use Rattle.tables.proofs.Tables.after.Tie as tie
 
 cast-p : tie.Need-cast-p
 cast-p c = search needs
+
+mark-requires : tie.Need-mark-requires
+mark-requires c κs = search needs
 
 mul-old : tie.Need-mul-old
 mul-old c = search needs
@@ -31,27 +34,29 @@ vacate-requires c κs = search needs
 
 occupy-requires : tie.Need-occupy-requires
 occupy-requires c κs =
-    let t = c .before .before .before .before .before .before .before .args .t1 in
+    let t = c .before .before .before .before .before .before .before .before .before .args .t1 in
     let l : length (t .register) ≡ 254 = search needs in
     rw (c .before .vacate .ensures, length-vacated) l
 
 returns : tie.Need-returns
 unfolding after
-returns c = rw (c .occupy .ensures, c .before .before .vacate .ensures, lt-ltb _ _ (c .before .before .before .before .before .if1 .taken))
+returns c =
+    rw (c .occupy .ensures, c .before .before .vacate .ensures, c .before .before .before .before .before .before .mark .ensures, lt-ltb _ _ (c .before .before .before .before .before .if1 .taken))
 
 returns-2 : tie.Need-returns-2
 unfolding after
 returns-2 c =
-    let t = c .before .before .before .args .t1 in
-    let l : length (t .pages) ≡ 64 = simp length-map at (c .before .before .before .good .0 .1 .1 .1 .0 .1 .0 .1) in
-    let h : length (t .pages) ≤ c .before .before .before .args .change .page = omega arith in
-    rw (set-out (t .pages) (c .before .before .before .args .change .page) _, le-ltb _ _ (c .if1 .left))
+    let t = c .before .before .before .before .before .args .t1 in
+    let l : length (t .pages) ≡ 64 = simp length-map at (c .before .before .before .before .before .good .0 .1 .1 .1 .0 .1 .0 .1) in
+    let h : length (t .pages) ≤ c .before .before .before .before .before .args .change .page = omega arith in
+    rw (set-out (t .pages) (c .before .before .before .before .before .args .change .page) _, c .before .mark .ensures, le-ltb _ _ (c .if1 .left))
 
 pub after-spec : {M : Type 1} → statement M
 after-spec =
     tie.close
     (tie.spec
     cast-p
+    mark-requires
     mul-old
     element-copy-out-old
     mul-g

@@ -11,7 +11,7 @@ use Rattle.tables.specs.Model.{noPageRecord}
 use Rattle.tables.specs.Rules.{sound}
 use Rattle.tables.specs.PrivatePass.{scanPages, framesOfAll}
 use Rattle.tables.proofs.Loops.{drop-more, drop-end}
-use Rattle.tables.proofs.ScanLaws.{scan-rules}
+use Rattle.tables.proofs.ScanLaws.{scan-rules-marked}
 use Rattle.tables.proofs.Tables.sound.Statement.{statement}
 use Rattle.tables.proofs.Tables.sound.Tie as tie
 
@@ -56,12 +56,13 @@ returns-3 c =
     let t = c .before .before .before .before .before .before .before .before .before .args .t1 in
     let l : length (t .pages) ≡ 64 = simp length-map at (c .before .before .before .before .before .before .before .before .before .good .0 .1 .1 .1 .0 .1 .0 .1) in
     let r : length (t .register) ≡ 254 = search needs in
+    let m : length (t .retired) ≡ 254 = search needs in
     let v = c .before .before .before .before .before .before .loop in
     let e = sym (c .before .page-ok .ensures) ∙ not-true _ (c .if3 .taken) in
     let z : scanPages (t .shared .p + t .shared .s) (t .register) 0 (t .pages) ≡ false = v .inv .4 ∙ rw (drop-more (t .pages) (v .i) noPageRecord (omega arith), e) in
     sym
     (rw (le-leb _ _ (c .before .before .before .before .before .before .before .before .if1 .left), le-leb _ _ (c .before .before .before .before .before .before .before .if2 .left), eq-eqb _ _ l)
-    (sym (scan-rules (t .shared .p + t .shared .s) (v .inv .2) (t .pages) (t .register) l r) ∙ rw z))
+    (sym (scan-rules-marked (t .shared .p + t .shared .s) (v .inv .2) (t .pages) (t .register) l r (t .retired) m) ∙ rw z))
 
 frames-of-requires : tie.Need-frames-of-requires Inv-loop μ-loop
 frames-of-requires c κs = search needs
@@ -91,25 +92,24 @@ loop-again c =
       v .inv .5 ∙ rw (m, c .frames-of .ensures .0) (sym (add-assoc _ _ _)),
     )
 
-taken-requires : tie.Need-taken-requires Inv-loop μ-loop
-taken-requires c κs = search needs
-
-cast-result : tie.Need-cast-result Inv-loop μ-loop
-cast-result c = search needs
+frames-ok-requires : tie.Need-frames-ok-requires Inv-loop μ-loop
+frames-ok-requires c κs = search needs
 
 returns-4 : tie.Need-returns-4 Inv-loop μ-loop
 unfolding sound scanPages framesOfAll
 returns-4 c =
-    let t = c .before .before .before .before .before .before .before .args .t1 in
-    let l : length (t .pages) ≡ 64 = simp length-map at (c .before .before .before .before .before .before .before .good .0 .1 .1 .1 .0 .1 .0 .1) in
+    let t = c .before .before .before .before .before .before .before .before .before .args .t1 in
+    let l : length (t .pages) ≡ 64 = simp length-map at (c .before .before .before .before .before .before .before .before .before .good .0 .1 .1 .1 .0 .1 .0 .1) in
     let r : length (t .register) ≡ 254 = search needs in
-    let v = c .before .before .before .before .loop in
-    let m = drop-end (t .pages) (v .i) (omega arith) in
-    let z : scanPages (t .shared .p + t .shared .s) (t .register) 0 (t .pages) ≡ true = v .inv .4 ∙ rw m in
-    let h : framesOfAll (t .pages) ≡ v .held = v .inv .5 ∙ rw m (add-zero _) in
-    sym
-    (rw (le-leb _ _ (c .before .before .before .before .before .before .if1 .left), le-leb _ _ (c .before .before .before .before .before .if2 .left), eq-eqb _ _ l)
-    (sym (scan-rules (t .shared .p + t .shared .s) (v .inv .2) (t .pages) (t .register) l r) ∙ rw (z, h, c .taken .ensures)))
+    let m : length (t .retired) ≡ 254 = search needs in
+    let v = c .before .before .before .before .before .before .loop in
+    let end = drop-end (t .pages) (v .i) (omega arith) in
+    let z : scanPages (t .shared .p + t .shared .s) (t .register) 0 (t .pages) ≡ true = v .inv .4 ∙ rw end in
+    let h : framesOfAll (t .pages) ≡ v .held = v .inv .5 ∙ rw end (add-zero _) in
+    c .frames-ok .ensures
+    ∙ sym
+    (rw (le-leb _ _ (c .before .before .before .before .before .before .before .before .if1 .left), le-leb _ _ (c .before .before .before .before .before .before .before .if2 .left), eq-eqb _ _ l)
+    (sym (scan-rules-marked (t .shared .p + t .shared .s) (v .inv .2) (t .pages) (t .register) l r (t .retired) m) ∙ rw (z, h)))
 
 pub sound-spec : {M : Type 1} → statement M
 sound-spec =
@@ -131,6 +131,5 @@ sound-spec =
     add-i
     loop-less
     loop-again
-    taken-requires
-    cast-result
+    frames-ok-requires
     returns-4)

@@ -1,0 +1,27 @@
+// Step 12: a frame is retired.
+use crate::Call;
+use crate::FRAME_HELD;
+use crate::Verdict;
+use crate::View;
+use crate::Work;
+use crate::judgement::accepted;
+use crate::judgement::refused;
+use tables::Edit;
+ghost use mathlib.Core.Path.{_≡_};
+ghost use Prim.Native.Nat.{ℕ};
+ghost use Rattle.steps.specs.declared.Kind.the-variants.{Retire};
+ghost use Rattle.steps.specs.Steps.{perform};
+ghost use Rattle.steps.specs.Private.{verdictOf};
+
+pub(crate) fn retire(view: View, call: Call) -> Verdict
+    ensures { λ r. ⌜ ((size : ℕ) → r ≡ verdictOf (perform view call size Retire)) ⌝ }
+{
+    let holder = view.holder;
+    if holder.is_retired() {
+        return accepted(0, 0, Edit::Kept, Work::Nothing);
+    }
+    if !holder.is_free() {
+        return refused(FRAME_HELD);
+    }
+    accepted(0, 0, Edit::Retired { frame: call.frame }, Work::Nothing)
+}

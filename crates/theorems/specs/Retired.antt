@@ -1,0 +1,65 @@
+-- Document 02, request [5]: "A frame is from now on free, held or retired, never two of these, and the three numbers add up to P+S after any call
+-- file run on sound tables." A frame is held where a copy has it (`isHeld`).
+use Prim.Native.Nat.{ℕ, _+_, _<_}
+use mathlib.Core.Path.{_≡_}
+use mathlib.Core.Bool.{Bool, true, false, _&&_, _||_}
+use mathlib.Core.List.{List, [], _∷_}
+use lib.Dec.{eqb}
+use Rattle.tables.specs.declared.Tables.{Tables}
+use Rattle.tables.specs.Lists.{countBelow}
+use Rattle.tables.specs.Model.{frames, retiredAt}
+use Rattle.tables.specs.Rules.{free, sound}
+use Rattle.tables.specs.Changes.{withMark}
+use Rattle.steps.specs.declared.Call.{Call}
+use Rattle.steps.specs.Kinds.{isRetire}
+use Rattle.steps.specs.Stores.{block}
+use Rattle.steps.specs.Steps.{Outcome, refuse, accept}
+use Rattle.steps.specs.Effects.{bit, State, Result, joined, step}
+use Rattle.messages.specs.declared.Parsed.{Parsed}
+use Rattle.messages.specs.declared.Parsed.the-variants.{Refused, Asked}
+use Rattle.messages.specs.Run.{asked, Turn, run}
+use Rattle.theorems.specs.Clean.{isHeld, everHeld}
+
+-- how many frames are free, held and retired, together
+abbrev pub threeNumbers : Tables → ℕ
+threeNumbers t = countBelow (frames t) (free t) + countBelow (frames t) (isHeld t) + countBelow (frames t) (retiredAt t)
+
+-- "Kind 12, retire (frame)": a message that asks for it, and was accepted
+abbrev pub retires : Parsed → Outcome Result → ℕ → Bool
+retires (Refused n) o f = false
+retires (Asked c) (refuse n) f = false
+retires (Asked c) (accept r) f = isRetire (c .kind) && eqb (c .frame) f
+
+-- one of the turns was such
+abbrev pub everRetired : List Turn → ℕ → Bool
+everRetired [] f = false
+everRetired (t ∷ ts) f = retires (asked (t .sent)) (t .outcome) f || everRetired ts f
+
+-- ".. so that it never takes a copy again", of frame f in turns that end with a state: from a turn that finds it retired it is held in no
+-- state to the end, and holds there the bytes that it had
+abbrev pub NeverAgain : ℕ → List Turn → State → Type 0
+NeverAgain f [] end = retiredAt (end .tables) f ≡ true → isHeld (end .tables) f ≡ false
+NeverAgain f (t ∷ ts) end =
+    (retiredAt (t .found .tables) f ≡ true
+    → (everHeld (t ∷ ts) f ≡ false) × (isHeld (end .tables) f ≡ false) × (block (joined end) f ≡ block (joined (t .found)) f))
+    × NeverAgain f ts end
+
+-- a mark more, and else the same
+abbrev pub onlyMarked : State → ℕ → Result
+onlyMarked s f =
+    record { state = record { tables = withMark (s .tables) f; fast = s .fast; slow = s .slow }; laid = 0; data-out = [] }
+
+-- of any file, with a reply buffer of any length
+pub record RetiredFrames : Type 0 where
+  -- each frame of sound tables is one of the three, and not two of them
+  pub one-of-three : (t : Tables) → sound t ≡ true → (f : ℕ) → f < frames t → bit (free t f) + bit (isHeld t f) + bit (retiredAt t f) ≡ 1
+  -- P and S are those of the start
+  pub add-up : (room : ℕ) (file : List ℕ) (s : State) → sound (s .tables) ≡ true
+      → threeNumbers (run room file s .final .tables) ≡ s .tables .shared .p + s .tables .shared .s
+  -- on any tables, sound or not: the retired frames are those of the start and those that a message retired, so marks are only ever added
+  pub marks-told : (room : ℕ) (file : List ℕ) (s : State) (f : ℕ)
+      → retiredAt (run room file s .final .tables) f ≡ (retiredAt (s .tables) f || everRetired (run room file s .turns) f)
+  pub never-again : (room : ℕ) (file : List ℕ) (s : State) → sound (s .tables) ≡ true → (f : ℕ)
+      → NeverAgain f (run room file s .turns) (run room file s .final)
+  -- a retire that is accepted, also of a frame already retired, marks the frame and does nothing else
+  pub marks-alone : (s : State) (c : Call) (bs : List ℕ) (r : Result) → isRetire (c .kind) ≡ true → step s c bs ≡ accept r → r ≡ onlyMarked s (c .frame)
