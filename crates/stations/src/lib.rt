@@ -12,7 +12,7 @@ pub(crate) const MESSAGE_SIZE: usize = 71;
 // Frames in range are below this: there are 127 fast and 127 slow ones at the most.
 pub(crate) const FRAME_NUMBERS: u16 = 254;
 
-// The last number of document 01's table; it has every number from 1 on.
+// The last number of the papers' table; it has every number from 1 on.
 pub(crate) const LAST_NUMBER: u8 = 20;
 
 // What the writer gives: 0 and the length of the message, or the number of its refusal and 0.

@@ -22,7 +22,7 @@ ghost use Rattle.steps.specs.Data.{copyMarked, eachIs, formed};
 ghost use Rattle.stations.specs.declared.Reading.the-variants.{Refused};
 ghost use Rattle.stations.specs.Reader.{laidTold, isReply, readBody, readReply};
 
-// Whether a number is in document 01's table.
+// Whether a number is in the papers' table.
 fn is_listed(number: u8) -> bool
     ensures { λ r. ⌜ r ≡ listed number rows ⌝ }
 {

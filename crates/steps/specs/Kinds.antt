@@ -71,7 +71,7 @@ kindNumber Retire = 12
 
 -- document 02, request [5]: "Kind 12, retire (frame)"
 abbrev pub isRetire : Kind → Bool
-isRetire k = eqb (kindNumber k) 12
+isRetire k = eqb (kindNumber k) (kindNumber Retire)
 
 -- the kinds in the order of their numbers
 unfoldable pub kinds : List Kind

@@ -35,7 +35,7 @@ ghost use Rattle.steps.specs.Steps.{refuse, accept, decideOn, decide, de
 ghost use Rattle.steps.specs.Promises.{rulesNumber, decisionOf, settled};
 ghost use Rattle.steps.specs.Private.{verdictOf, ruled, frameCount, decidedOn, decidedAt};
 
-// Turned back with a number of document 01's table.
+// Turned back with a number of the papers' table.
 pub(crate) fn refused(number: u8) -> Verdict
     ensures { λ r. ⌜ r ≡ verdictOf (refuse number) ⌝ }
 {

@@ -1,6 +1,6 @@
 -- Each change keeps the table rules, where a step may make it.
 use Prim.Native.Nat.{ℕ, _+_, _≤_, _<_, zero-le}
-use mathlib.Core.Bool.{Bool, true, false, not, cond, true≢false}
+use mathlib.Core.Bool.{Bool, true, false, cond, true≢false}
 use mathlib.Core.Path.{_≡_, refl, sym, subst, _∙_}
 use native.Mathlib.Decide.{ℕ-discrete}
 use native.Mathlib.Nat.{le-refl}
@@ -8,7 +8,7 @@ use native.Mathlib.Omega.{arith}
 use lib.Dec.{ltb, eqb}
 use lib.ListN.{length, getD, set, length-set}
 use lib.Seq.{getD-set-same, getD-set-other, set-getD}
-use borrow.Author.Tests.{eqb-true, ne-eqb, lt-ltb, ltb-true, ltb-false, not-true}
+use borrow.Author.Tests.{eqb-true, ne-eqb, lt-ltb, ltb-true, ltb-false}
 use Rattle.tables.specs.declared.Page.{Page}
 use Rattle.tables.specs.declared.Tables.{Tables}
 use Rattle.tables.specs.declared.Edit.{Edit}
@@ -17,7 +17,7 @@ use Rattle.tables.specs.Lists.{all, count}
 use Rattle.tables.specs.Model.{frames, retiredAt, inUse, absent, freshPage, noPageRecord, pageAt, onFrame}
 use Rattle.tables.specs.Rules.{uses, free, pageRule, sound}
 use Rattle.tables.specs.Changes.{created, granted, changed, retiredBy, edited, withPage, withMark, after}
-use Rattle.tables.proofs.ListLaws.{and-left, and-right, all-of}
+use Rattle.tables.proofs.ListLaws.{all-of}
 use Rattle.tables.proofs.RuleLaws.{StandingPage, of-standing, fresh-page-ok, Sound, sound-of, of-sound, pages-ruled, few-uses, standing-at}
 use Rattle.tables.proofs.RegisterLaws.{length-after, register-after}
 use Rattle.tables.proofs.HolderLaws.{free-unmarked, free-nobody}

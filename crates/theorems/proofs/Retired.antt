@@ -4,7 +4,7 @@ use mathlib.Core.Path.{_≡_, refl, sym, ap, subst, _∙_}
 use mathlib.Core.Bool.{Bool, true, false, not, _&&_, _||_, cond, or-true, or-false, or-assoc, true≢false}
 use mathlib.Core.List.{List, [], _∷_}
 use native.Mathlib.Omega.{arith}
-use lib.Dec.{ltb, leb, eqb}
+use lib.Dec.{ltb, eqb}
 use lib.ListN.{length, getD, take, drop, set, List·getD-eq-default}
 use lib.Seq.{getD-set-same, getD-set-other, set-out, set-getD, take-at, drop-at}
 use borrow.Author.Tests.{eqb-true, eqb-false, eq-eqb, leb-false, ltb-true, ltb-false}
@@ -19,7 +19,7 @@ use Rattle.tables.specs.Search.{isRetired}
 use Rattle.tables.specs.Register.{registered}
 use Rattle.tables.specs.Changes.{changed, retiredBy, withPage, withMark, after}
 use Rattle.tables.proofs.KeepLaws.{same-page}
-use Rattle.tables.proofs.RuleLaws.{Sound, sound-of}
+use Rattle.tables.proofs.RuleLaws.{sound-of}
 use Rattle.tables.proofs.RegisterLaws.{registered-retired}
 use Rattle.tables.proofs.ChangeSound.{marked-low, sound-after}
 use Rattle.steps.specs.declared.Kind.{Kind}

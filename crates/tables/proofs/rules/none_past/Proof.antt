@@ -1,5 +1,5 @@
 -- `none_past`. The answer is the flag and the test of the marks from f on.
-use Prim.Native.Nat.{_-_, _≤_}
+use Prim.Native.Nat.{_-_}
 use mathlib.Core.Bool.{false, not, _&&_, and-assoc, and-true}
 use mathlib.Core.Path.{_≡_, refl, sym, _∙_}
 use native.Mathlib.Omega.{arith}
