@@ -1,6 +1,7 @@
 /*
- * A station's side of the worked example of document 01: each call is written, answered by a unit, and its reply read. Then
- * a frame is retired, and what writer and reader refuse. After `bash tools/build`:
+ * A station's side of the worked example of document 01: each call is written, answered by a unit, and its reply read.
+ * Then a frame is retired, the replies to several messages are walked, and what writer and reader refuse. After
+ * `bash tools/build`:
  *
  *   gcc -std=c99 -I target/reel examples/station.c target/reel/libreel.a -o target/station && target/station
  */
@@ -88,12 +89,52 @@ static void retired_frame(void) {
   printf("retired: a frame retired and looked at, and a copy to it refused\n");
 }
 
+/* The kind to read a reply by. A message without a known one is refused, and a refusal is alike for every kind. */
+static uint8_t kind_of(const uint8_t *call, size_t length) {
+  int known = length > 3 && call[3] >= REEL_KIND_CREATE && call[3] <= REEL_KIND_RETIRE;
+  return known ? call[3] : (uint8_t)REEL_KIND_CREATE;
+}
+
+/*
+ * A gateway that passes on what others wrote, many messages at a time. Messages and replies are walked by their own
+ * lengths, which are there whatever a message is, and whether or not its reply can be read.
+ */
+static void several_replies(void) {
+  static const uint8_t file[] = {
+      0, 3, 1, REEL_KIND_LOOK_FRAME, 5, /* which is retired */
+      0, 2, 1, REEL_KIND_RETIRE + 1,    /* an unknown kind */
+      0, 0,                             /* nothing at all */
+      0, 4, 2, REEL_KIND_CREATE, 3, 6,  /* a foreign version */
+      0, 4, 1, REEL_KIND_CREATE, 3, 6,  /* station 3, page 6 */
+      0, 6, 1, REEL_KIND_READ, 3, 6,    /* cut short */
+  };
+  static const unsigned numbers[] = {REEL_ACCEPTED,        REEL_UNKNOWN_KIND, REEL_FOREIGN_VERSION,
+                                     REEL_FOREIGN_VERSION, REEL_ACCEPTED,     REEL_CUT_SHORT};
+  uint8_t replies[2 * REEL_REPLY_SIZE];
+  uint32_t tally[REEL_TALLY_SIZE] = {0};
+  size_t reached = 0, at = 0, count = 0, used, said;
+  while (reached < sizeof file) {
+    reached = reel_replies(tables, sizeof tables, fast, sizeof fast, slow, sizeof slow, file, sizeof file, reached,
+                           replies, sizeof replies, tally, REEL_TALLY_SIZE, &used);
+    for (said = 0; said < used; said += reel_next(replies + said, used - said)) {
+      size_t length = reel_next(file + at, sizeof file - at);
+      uint64_t told = reel_read_reply(kind_of(file + at, length), replies + said, used - said);
+      expect(reel_reply_refused(told) == REEL_ACCEPTED, "every reply is read");
+      expect(reel_reply_number(told) == numbers[count], "with its number");
+      at += length;
+      count++;
+    }
+  }
+  expect(at == sizeof file && count == tally[REEL_TALLY_MESSAGES], "as many replies as messages");
+  printf("several: %u replies walked by their lengths, each read with its number\n", (unsigned)count);
+}
+
 /* Refused, the writer writes nothing. */
 static void writer_refuses(void) {
   static const uint8_t bytes[REEL_FRAME_SIZE + 1] = {0};
   size_t room = sizeof message, i;
   memset(message, FILLER, room);
-  expect(reel_write_look_page(5, message, room - 1) == REEL_SHORT_SLIP, "70 bytes, also for a message of five");
+  expect(reel_write_look_page(5, message, room - 1) == REEL_SHORT_BUFFER, "70 bytes, also for a message of five");
   expect(reel_write(13, 5, 0, 0, 0, bytes, 0, message, room) == REEL_UNKNOWN_KIND, "kind 13");
   expect(reel_write_read(3, 5, 63, 2, message, room) == REEL_OUT_OF_RANGE, "offset 63 with count 2");
   expect(reel_write_look_frame(254, message, room) == REEL_OUT_OF_RANGE, "frame 254, which no unit has");
@@ -131,6 +172,7 @@ int main(void) {
   expect(reel_fresh(P, S, tables, sizeof tables) == REEL_ACCEPTED, "fresh tables");
   worked_example();
   retired_frame();
+  several_replies();
   writer_refuses();
   reader_refuses();
   return 0;

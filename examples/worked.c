@@ -1,6 +1,6 @@
 /*
- * The worked example of document 01 through every function of reel.h, each reply compared, what deletes leave in the stores, a
- * frame retired, and what the functions answer where something is wrong. After `bash tools/build`:
+ * The worked example of document 01 through every function of reel.h, each reply compared, what deletes leave in the
+ * stores, a frame retired, and what the functions answer where something is wrong. After `bash tools/build`:
  *
  *   gcc -std=c99 -I target/reel examples/worked.c target/reel/libreel.a -o target/worked && target/worked
  */
@@ -87,9 +87,6 @@ static size_t part(struct unit u, const uint8_t *file, size_t length, size_t at,
 
 static unsigned rules(struct unit u) { return reel_rules(u.tables, u.tables_len, u.fast_len, u.slow_len); }
 
-/* The length of the message or reply at p, with its two bytes of length. */
-static size_t whole(const uint8_t *p) { return 2 + 256 * (size_t)p[0] + p[1]; }
-
 /* Whether the bytes at p are still as they were lent. */
 static int untouched(const uint8_t *p, size_t length) {
   while (length > 0 && *p == FILLER) {
@@ -110,14 +107,15 @@ static void by_answer(void) {
   size_t at = 0, said = 0, laid = 0;
   while (at < sizeof calls) {
     uint32_t given;
-    size_t length;
+    size_t size = reel_next(calls + at, sizeof calls - at), length;
     memset(u.out, FILLER, u.out_len);
-    given = answer(u, calls + at, whole(calls + at));
+    given = answer(u, calls + at, size);
     length = reel_answer_length(given);
     expect(reel_answer_number(given) == REEL_ACCEPTED, reel_word(reel_answer_number(given)));
-    expect(length == whole(replies + said) && memcmp(u.out, replies + said, length) == 0, "answer: the reply");
+    expect(length == reel_next(replies + said, sizeof replies - said), "answer: the length of the reply");
+    expect(memcmp(u.out, replies + said, length) == 0, "answer: the reply");
     expect(untouched(u.out + length, u.out_len - length), "answer: bytes past the reply");
-    at += whole(calls + at);
+    at += size;
     said += length;
     laid += reel_answer_laid(given);
   }
@@ -233,8 +231,8 @@ static void refused(void) {
   run(u, calls, sizeof calls);
   memcpy(before, u.tables, u.tables_len);
 
-  expect(reel_answer_number(answer(u, calls, whole(calls))) == REEL_PAGE_STANDS, "page 5 is created again");
-  expect(whole(u.out) == REEL_REPLY_HEAD && u.out[3] == REEL_PAGE_STANDS, "the reply of a refusal");
+  expect(reel_answer_number(answer(u, calls, reel_whole_length(calls))) == REEL_PAGE_STANDS, "page 5 created again");
+  expect(reel_whole_length(u.out) == REEL_REPLY_HEAD && u.out[3] == REEL_PAGE_STANDS, "the reply of a refusal");
   expect(reel_answer_number(answer(u, look, sizeof look - 1)) == REEL_CUT_SHORT, "a message cut short");
 
   wrong = u;
@@ -248,7 +246,7 @@ static void refused(void) {
   wrong = u;
   wrong.out_len--;
   memset(u.out, FILLER, u.out_len);
-  expect(answer(wrong, look, sizeof look) == REEL_SHORT_SLIP, "a short reply buffer: no reply, nothing laid");
+  expect(answer(wrong, look, sizeof look) == REEL_SHORT_BUFFER, "a short reply buffer: no reply, nothing laid");
   expect(part(wrong, calls, sizeof calls, 0, &used) == sizeof calls && used == 0, "replies: a short reply buffer");
   expect(u.tally[REEL_TALLY_REFUSALS] == MESSAGES, "replies: every message refused");
   expect(untouched(u.out, u.out_len), "a short reply buffer is left alone");
@@ -262,16 +260,19 @@ static void refused(void) {
   *recent = 1;
 
   expect(memcmp(u.tables, before, u.tables_len) == 0, "refusals leave the tables as they were");
+  expect(reel_fresh(REEL_MOST_FRAMES + 1, S, u.tables, u.tables_len - 1) == REEL_BROKEN_TABLES, "the length first");
+  expect(memcmp(u.tables, before, u.tables_len) == 0, "fresh: tables of a wrong length are left alone");
   expect(reel_fresh(REEL_MOST_FRAMES + 1, S, u.tables, u.tables_len) == REEL_TOO_MANY_FRAMES, "too many frames");
+  expect(u.tables[REEL_TABLES_P] == 0 && u.tables[REEL_TABLES_S] == 0, "too many frames: tables of no frames");
   free(before);
   give_up(u);
   printf("refusals: each with its number, and nothing changed\n");
 }
 
-/* A frame's register entry, high byte first. */
+/* A frame's register entry, low byte first. */
 static unsigned entry(struct unit u, unsigned frame) {
   const uint8_t *p = u.tables + REEL_TABLES_REGISTER + REEL_ENTRY_SIZE * frame;
-  return 256u * p[0] + p[1];
+  return p[0] + 256u * p[1];
 }
 
 /* The register names the copy on a frame. Where it names another the tables are broken, and every byte remains as it was. */
@@ -280,9 +281,9 @@ static void wrong_register(void) {
   struct unit u = fresh_unit(REEL_REPLY_SIZE), before = fresh_unit(REEL_REPLY_SIZE);
   run(u, calls, sizeof calls);
   expect(entry(u, 0) == REEL_MOST_COPIES * 5 + 0, "page 5, copy 0 is on frame 0");
-  expect(entry(u, 1) == REEL_NO_HOLDER && entry(u, REEL_REGISTER_ENTRIES - 1) == REEL_NO_HOLDER, "no other frame is held");
+  expect(entry(u, 1) == REEL_FREE_ENTRY && entry(u, REEL_REGISTER_ENTRIES - 1) == REEL_FREE_ENTRY, "no other frame is held");
 
-  u.tables[REEL_TABLES_REGISTER + 1]++;
+  u.tables[REEL_TABLES_REGISTER]++;
   expect(entry(u, 0) == REEL_MOST_COPIES * 5 + 1, "copy 1 is named");
   memcpy(before.tables, u.tables, u.tables_len);
   memcpy(before.fast, u.fast, u.fast_len);
@@ -295,26 +296,30 @@ static void wrong_register(void) {
   expect(memcmp(u.fast, before.fast, u.fast_len) == 0, "a wrong register: the fast store");
   expect(memcmp(u.slow, before.slow, u.slow_len) == 0, "a wrong register: the slow store");
 
-  u.tables[REEL_TABLES_REGISTER + 1]--;
+  u.tables[REEL_TABLES_REGISTER]--;
   expect(rules(u) == REEL_ACCEPTED, "rules: the register put right");
   give_up(before);
   give_up(u);
   printf("register: a wrong register entry is answered as broken tables, and nothing changed\n");
 }
 
-/* Where the mark of a frame stands. */
-static uint8_t *mark(struct unit u, unsigned frame) { return u.tables + REEL_TABLES_RETIRED + frame; }
+/* Puts an entry into the register of tables, low byte first. */
+static void enter(uint8_t *tables, unsigned frame, unsigned value) {
+  uint8_t *p = tables + REEL_TABLES_REGISTER + REEL_ENTRY_SIZE * frame;
+  p[0] = (uint8_t)(value % 256);
+  p[1] = (uint8_t)(value / 256);
+}
 
-/* A mark that breaks the tables: everything is refused, and the mark remains. */
-static void wrong_mark(struct unit u, unsigned frame, uint8_t value, const char *what) {
+/* An entry that breaks the tables: everything is refused, and the entry remains. */
+static void wrong_entry(struct unit u, unsigned frame, unsigned value, const char *what) {
   static const uint8_t look[] = {0, 3, 1, REEL_KIND_LOOK_FRAME, 5};
-  uint8_t before = *mark(u, frame);
-  *mark(u, frame) = value;
+  unsigned before = entry(u, frame);
+  enter(u.tables, frame, value);
   expect(rules(u) == REEL_BROKEN_TABLES, what);
   expect(reel_answer_number(answer(u, look, sizeof look)) == REEL_BROKEN_TABLES, what);
-  expect(*mark(u, frame) == value, what);
-  *mark(u, frame) = before;
-  expect(rules(u) == REEL_ACCEPTED, "the mark put right");
+  expect(entry(u, frame) == value, what);
+  enter(u.tables, frame, before);
+  expect(rules(u) == REEL_ACCEPTED, "the entry put right");
 }
 
 /* A frame of the card is worn out: retired, it never takes a copy again. */
@@ -334,26 +339,26 @@ static void retired(void) {
   expect(memcmp(u.tables, before, u.tables_len) == 0, "a refused retire leaves the tables as they were");
 
   /* The second time it is accepted too, and changes nothing. */
-  before[REEL_TABLES_RETIRED + 5] = 1;
+  enter(before, 5, REEL_RETIRED_ENTRY);
   for (i = 0; i < 2; i++) {
     expect(answer(u, retire, sizeof retire) == REEL_ACCEPTED + 256 * REEL_REPLY_HEAD, "retired: nothing laid, no data");
-    expect(memcmp(u.tables, before, u.tables_len) == 0, "retired: its mark alone");
+    expect(memcmp(u.tables, before, u.tables_len) == 0, "retired: its entry alone");
   }
   expect(untouched(u.slow, u.slow_len), "retired: its bytes remain");
   expect(reel_answer_number(answer(u, look, sizeof look)) == REEL_ACCEPTED, "a look at it");
-  expect(whole(u.out) == REEL_REPLY_HEAD + sizeof shown && memcmp(u.out + REEL_REPLY_HEAD, shown, sizeof shown) == 0,
-         "a look shows it as retired");
+  expect(reel_whole_length(u.out) == REEL_REPLY_HEAD + sizeof shown, "the length of a look");
+  expect(memcmp(u.out + REEL_REPLY_HEAD, shown, sizeof shown) == 0, "a look shows it as retired");
   expect(reel_answer_number(answer(u, no_copy, sizeof no_copy)) == REEL_NO_COPY, "no copy comes before retired");
   expect(reel_answer_number(answer(u, make_copy, sizeof make_copy)) == REEL_RETIRED, "no copy is made on it");
   expect(memcmp(u.tables, before, u.tables_len) == 0 && untouched(u.slow, u.slow_len), "refused: all as it was");
 
-  wrong_mark(u, 5, 2, "a mark of 2");
-  wrong_mark(u, P + S, 1, "a mark past the last frame");
-  wrong_mark(u, REEL_REGISTER_ENTRIES - 1, 1, "a mark on the last frame number");
-  wrong_mark(u, 0, 1, "a mark on a frame that a copy is on");
+  wrong_entry(u, 5, REEL_RETIRED_ENTRY - 1, "an entry of neither");
+  wrong_entry(u, P + S, REEL_RETIRED_ENTRY, "retired past the last frame");
+  wrong_entry(u, REEL_REGISTER_ENTRIES - 1, REEL_RETIRED_ENTRY, "the last frame number retired");
+  wrong_entry(u, 0, REEL_RETIRED_ENTRY, "a frame retired that a copy is on");
   free(before);
   give_up(u);
-  printf("retired: a frame takes no copy again, and a wrong mark is answered as broken tables\n");
+  printf("retired: a frame takes no copy again, and a wrong entry is answered as broken tables\n");
 }
 
 int main(void) {

@@ -1,6 +1,7 @@
 /*
- * The reel page kernel: the functions of libreel.a, for C99 and C++ on x86-64 (System V). docs/EMBEDDING.md has the whole
- * of it; examples/worked.c is a program for a unit, examples/station.c one for a station.
+ * The reel page kernel: the functions of libreel.a, for C99 and C++ on x86-64 (System V). docs/EMBEDDING.md has the
+ * whole of it; examples/worked.c is a program for a unit, examples/station.c one for a station, and examples/power.h
+ * keeps a unit through a loss of power.
  *
  * The caller lends every byte. A buffer is passed as a pointer and its length, in bytes or, for the tally, in numbers:
  *
@@ -13,8 +14,8 @@
  *   used    one size_t, without a length beside it; it is only written
  *
  * Any bytes and any lengths may be passed: tables of another length, or whose bytes break a table rule, are answered
- * REEL_BROKEN_TABLES, stores of another length REEL_MISFIT_STORE, a shorter out REEL_SHORT_SLIP. A tally of another length is
- * left alone. Only these are the caller's duty, and are not tested:
+ * REEL_BROKEN_TABLES, stores of another length REEL_MISFIT_STORE, a shorter out REEL_SHORT_BUFFER. A tally of another
+ * length is left alone. Only these are the caller's duty, and are not tested:
  *
  *   - Each pointer leads to as many elements as its length says (used to one), is aligned for its type, and is not null, also
  *     where the length is 0: there it is the address of anything, such as of a byte that is not used.
@@ -24,6 +25,10 @@
  * The library allocates nothing, keeps no state and calls nothing back, so it may be used by several threads at a time,
  * each on buffers of its own.
  * C functions that it needs: memcpy, memset
+ * Bytes that it uses below the stack pointer: at most 128
+ * They are the red zone of the calling convention. On bare metal an interrupt that is taken on the same stack
+ * overwrites them, before its handler begins: each one that can come during a call needs a stack of its own, by an IST
+ * entry or by calls in ring 3. A process of an operating system has nothing to do.
  */
 #ifndef REEL_H
 #define REEL_H
@@ -37,7 +42,7 @@ extern "C" {
 
 /* ---- the version: major, minor and patch */
 
-#define REEL_VERSION_MAJOR 3
+#define REEL_VERSION_MAJOR 4
 #define REEL_VERSION_MINOR 0
 #define REEL_VERSION_PATCH 0
 #define REEL_VERSION (65536 * REEL_VERSION_MAJOR + 256 * REEL_VERSION_MINOR + REEL_VERSION_PATCH)
@@ -55,12 +60,11 @@ uint32_t reel_version(void);
 
 /* ---- the tables' bytes: what a caller may look at; it changes them by messages alone */
 
-#define REEL_TABLES_SIZE 3452
+#define REEL_TABLES_SIZE 3198
 #define REEL_TABLES_P 0           /* the number of fast frames */
 #define REEL_TABLES_S 1           /* the number of slow frames */
 #define REEL_TABLES_PAGES 2       /* the records of the 64 pages, one after the other */
 #define REEL_TABLES_REGISTER 2690 /* the register: a register entry for each frame number 0 to 253, one after the other */
-#define REEL_TABLES_RETIRED 3198  /* a mark for each frame number 0 to 253, a byte each: 1 where it is retired, else 0 */
 
 #define REEL_PAGE_SIZE 42   /* a page's record: */
 #define REEL_PAGE_RIGHTS 0  /* a right for each station: 0 none, 1 read, 2 read and write */
@@ -76,17 +80,20 @@ uint32_t reel_version(void);
 #define REEL_NULL_FRAME 255 /* the frame of a null copy */
 
 /*
- * The register says for each frame which copy is on it, as the copy entries of the pages have it. A frame's register entry is
- * REEL_MOST_COPIES * page + copy, or REEL_NO_HOLDER where no copy is on it, so also from frame P + S on. Its high byte comes
- * first. Where one of the 254 register entries is another, the tables are broken.
+ * The register says for each frame which copy is on it, as the copy entries of the pages have it. A frame's register
+ * entry is REEL_MOST_COPIES * page + copy, or REEL_FREE_ENTRY where no copy is on it, so also from frame P + S on, or
+ * REEL_RETIRED_ENTRY where the frame is retired. Its low byte comes first. Where one of the 254 register entries is
+ * another, the tables are broken.
  */
 #define REEL_REGISTER_ENTRIES 254
 #define REEL_ENTRY_SIZE 2 /* bytes of a register entry */
-#define REEL_NO_HOLDER 65535
+#define REEL_FREE_ENTRY 65535
+#define REEL_RETIRED_ENTRY 61680 /* eight bits from REEL_FREE_ENTRY, and four or more from any copy's */
 
 /*
- * A frame is free, held by a copy, or retired. A retired one never takes a copy again: no message takes its mark back. Its bytes
- * remain. Where a mark is above 1, or is 1 on a frame that a copy is on or from frame P + S on, the tables are broken.
+ * A frame is free, held by a copy, or retired. A retired one never takes a copy again: no message takes its entry back.
+ * Its bytes remain. Where that entry stands for a frame that a copy is on, or from frame P + S on, the tables are
+ * broken.
  */
 
 /* ---- messages and replies */
@@ -135,7 +142,7 @@ enum reel_number {
   REEL_LAST_RECENT = 15,      /* delete of the only MOST RECENT copy */
   REEL_STALE = 16,            /* set current, not MOST RECENT */
   REEL_NO_FRAME = 17,         /* set current on a null copy */
-  REEL_SHORT_SLIP = 18,       /* reply buffer below 70 bytes; nothing is written */
+  REEL_SHORT_BUFFER = 18,     /* reply buffer below 70 bytes; nothing is written */
   REEL_TOO_MANY_FRAMES = 19,  /* fresh with P or S above 127; returns fresh tables with P = S = 0 */
   REEL_RETIRED = 20           /* make copy to a retired frame */
 };
@@ -161,11 +168,25 @@ static inline const char *reel_word(unsigned number) {
   case REEL_LAST_RECENT: return "last recent";
   case REEL_STALE: return "stale";
   case REEL_NO_FRAME: return "no frame";
-  case REEL_SHORT_SLIP: return "short slip";
+  case REEL_SHORT_BUFFER: return "short slip";
   case REEL_TOO_MANY_FRAMES: return "too many frames";
   case REEL_RETIRED: return "retired";
   default: return "";
   }
+}
+
+/* ---- messages and replies one behind the other, as in a call file and in what reel_replies leaves in out */
+
+/* The length of the message or reply that begins with these two bytes, which count with it: 2 + L, so 2 to 65537. */
+static inline size_t reel_whole_length(const uint8_t *two) { return 2 + 256 * (size_t)two[0] + two[1]; }
+
+/*
+ * How many of the bytes that are left the first message or reply takes, of any kind and version: its whole length, or
+ * all of them where they are fewer than two or than that length, as the kernel takes them for one that is cut short. So
+ * a walk that goes on by it while bytes are left comes to an end, and never passes theirs. It is 0 where none are left.
+ */
+static inline size_t reel_next(const uint8_t *bytes, size_t left) {
+  return left < 2 || left < reel_whole_length(bytes) ? left : reel_whole_length(bytes);
 }
 
 /* ---- the tally, three numbers */
@@ -178,57 +199,61 @@ static inline const char *reel_word(unsigned number) {
 /* ---- the functions */
 
 /*
- * Makes fresh tables, without pages, for p fast and s slow frames: REEL_ACCEPTED, or REEL_TOO_MANY_FRAMES with tables of no
- * frames. A buffer of another length than tables have is left alone: REEL_BROKEN_TABLES. The stores' bytes may be anything.
+ * Makes fresh tables, without pages, for p fast and s slow frames: REEL_ACCEPTED, or REEL_TOO_MANY_FRAMES with tables
+ * of no frames. A buffer of another length than tables have is left alone: REEL_BROKEN_TABLES. The length is tested
+ * first, so this is also the answer where there are too many frames. The stores' bytes may be anything.
  */
 uint8_t reel_fresh(uint8_t p, uint8_t s, uint8_t *tables, size_t tables_len);
 
 /*
- * Tests tables and the lengths of their stores, as after power-up: REEL_ACCEPTED, REEL_BROKEN_TABLES or REEL_MISFIT_STORE.
- * Where it is REEL_ACCEPTED every function below leaves it so.
+ * Tests tables and the lengths of their stores, as after power-up: REEL_ACCEPTED, REEL_BROKEN_TABLES or
+ * REEL_MISFIT_STORE. Where it is REEL_ACCEPTED every function below leaves it so.
  */
 uint8_t reel_rules(const uint8_t *tables, size_t tables_len, size_t fast_len, size_t slow_len);
 
 /*
- * Answers one message, its two bytes of length first, and lays the reply at the head of out. Bytes after the message are not
- * looked at; none at all count as cut short. The table rules are tested at each call. A refusal leaves tables and stores as
- * they were; a delete fills each frame that it frees with zeros. The answer is number + 256 * length of the reply + 65536 * bytes
- * laid; functions below take it apart.
+ * Answers one message, its two bytes of length first, and lays the reply at the head of out. Bytes after the message
+ * are not looked at; none at all count as cut short. The table rules are tested at each call. A refusal leaves tables
+ * and stores as they were; a delete fills each frame that it frees with zeros. The answer is number + 256 * length of
+ * the reply + 65536 * bytes laid; functions below take it apart.
  */
 uint32_t reel_answer(uint8_t *tables, size_t tables_len, uint8_t *fast, size_t fast_len, uint8_t *slow, size_t slow_len,
                      const uint8_t *message, size_t message_len, uint8_t *out, size_t out_len);
 
 /*
- * Answers every message of a call file and counts on in the tally. The table rules are tested once. Each reply is laid over
- * the one before, so the last one is left in out.
+ * Answers every message of a call file and counts on in the tally. The table rules are tested once. Each reply is laid
+ * over the one before, so the last one is left in out.
  */
 void reel_run(uint8_t *tables, size_t tables_len, uint8_t *fast, size_t fast_len, uint8_t *slow, size_t slow_len,
               const uint8_t *file, size_t file_len, uint8_t *out, size_t out_len, uint32_t *tally, size_t tally_len);
 
 /*
- * Answers the messages of a call file from place `at` on, which is 0 or a place that an earlier call gave, and lays reply
- * after reply into out until the file ends or fewer than REEL_REPLY_SIZE bytes are left. Gives the place reached, in *used the bytes of out that are used, and counts on in the
- * tally. The caller takes the replies out and goes on from that place while it is below file_len. The table rules are tested
- * once a call. If out_len is below REEL_REPLY_SIZE, every message left is answered REEL_SHORT_SLIP, nothing is laid, and the
- * place is the file's end. From a place past the end nothing is answered, and the place stays.
+ * Answers the messages of a call file from place `at` on, which is 0 or a place that an earlier call gave, and lays
+ * reply after reply into out until the file ends or fewer than REEL_REPLY_SIZE bytes are left. Gives the place reached,
+ * in *used the bytes of out that are used, and counts on in the tally. The caller takes the replies out and goes on
+ * from that place while it is below file_len. The table rules are tested once a call. If out_len is below
+ * REEL_REPLY_SIZE, every message left is answered REEL_SHORT_BUFFER, nothing is laid, and the place is the file's end.
+ * From a place past the end nothing is answered, and the place stays.
  */
 size_t reel_replies(uint8_t *tables, size_t tables_len, uint8_t *fast, size_t fast_len, uint8_t *slow, size_t slow_len,
                     const uint8_t *file, size_t file_len, size_t at, uint8_t *out, size_t out_len, uint32_t *tally,
                     size_t tally_len, size_t *used);
 
 /*
- * Where the bytes of a read stand: number of bytes + 256 * store (0 fast, 1 slow) + 65536 * offset in that store; 0 where the
- * read would be refused. They may be read there until tables or stores are changed. Functions below take the place apart.
+ * Where the bytes of a read stand: number of bytes + 256 * store (0 fast, 1 slow) + 65536 * offset in that store; 0
+ * where the read would be refused. They may be read there until tables or stores are changed. Functions below take the
+ * place apart.
  */
 uint32_t reel_read(const uint8_t *tables, size_t tables_len, size_t fast_len, size_t slow_len, uint8_t station, uint8_t page,
                    uint8_t offset, uint8_t count);
 
 /*
- * Writes the message of a call at the head of out: its kind, and its arguments in the order of enum reel_kind. Arguments past
- * the kind's last one play no part, and bytes only in a write. Gives number + 256 * length of the message; functions below
- * take it apart, and others have the arguments by name. The number is REEL_ACCEPTED, or the first that applies of
+ * Writes the message of a call at the head of out: its kind, and its arguments in the order of enum reel_kind.
+ * Arguments past the kind's last one play no part, and bytes only in a write. Gives number + 256 * length of the
+ * message; functions below take it apart, and others have the arguments by name. The number is REEL_ACCEPTED, or the
+ * first that applies of
  *
- *   REEL_SHORT_SLIP    out_len is below REEL_MESSAGE_SIZE, however short the message
+ *   REEL_SHORT_BUFFER    out_len is below REEL_MESSAGE_SIZE, however short the message
  *   REEL_UNKNOWN_KIND  kind not 1 to 12
  *   REEL_OUT_OF_RANGE  as for a message, but with frames up to 253 in range, as the writer does not know the unit; also a
  *                      write of no byte or of more than 64
@@ -239,10 +264,10 @@ uint32_t reel_write(uint8_t kind, uint8_t first, uint8_t second, uint8_t third, 
                     size_t bytes_len, uint8_t *out, size_t out_len);
 
 /*
- * Reads the reply to a message of this kind, its two bytes of length first. Bytes after the reply are not looked at, so a
- * whole reply buffer may be passed. Gives refusal + 2^8 * number + 2^16 * bytes laid + 2^32 * start of the data in reply +
- * 2^40 * length of the data; functions below take it apart. The refusal is the reader's own and not the number that the reply
- * carries. It is REEL_ACCEPTED, or the first that applies of
+ * Reads the reply to a message of this kind, its two bytes of length first. Bytes after the reply are not looked at, so
+ * a whole reply buffer may be passed. Gives refusal + 2^8 * number + 2^16 * bytes laid + 2^32 * start of the data in
+ * reply + 2^40 * length of the data; functions below take it apart. The refusal is the reader's own and not the number
+ * that the reply carries. It is REEL_ACCEPTED, or the first that applies of
  *
  *   REEL_CUT_SHORT        as for a message, also no byte at all
  *   REEL_FOREIGN_VERSION  as for a message
@@ -259,12 +284,13 @@ uint64_t reel_read_reply(uint8_t kind, const uint8_t *reply, size_t reply_len);
 /* The number: REEL_ACCEPTED, or why the message was turned back. */
 static inline unsigned reel_answer_number(uint32_t answer) { return answer & 255; }
 
-/* The length of the reply in out; 0 with REEL_SHORT_SLIP. */
+/* The length of the reply in out; 0 with REEL_SHORT_BUFFER. */
 static inline size_t reel_answer_length(uint32_t answer) { return answer >> 8 & 255; }
 
 /*
- * The bytes laid into the stores: by a write its length for each CURRENT copy, by make copy REEL_FRAME_SIZE, by delete copy and
- * delete page REEL_FRAME_SIZE for each frame freed, also where it held zeros already; a null copy has no frame. By all others 0.
+ * The bytes laid into the stores: by a write its length for each CURRENT copy, by make copy REEL_FRAME_SIZE, by delete
+ * copy and delete page REEL_FRAME_SIZE for each frame freed, also where it held zeros already; a null copy has no
+ * frame. By all others 0.
  */
 static inline unsigned reel_answer_laid(uint32_t answer) { return answer >> 16; }
 

@@ -1,7 +1,7 @@
 /*
- * For tools/footprint: serves messages on full tables, by the function that is named: reel_answer, or reel_replies, with a grant
- * before each message in the same call. Prints a line for each call of that function, in order, so that a count of its
- * instructions finds its message.
+ * For tools/footprint: serves messages on full tables, by the function that is named: reel_answer, or reel_replies,
+ * with a grant before each message in the same call. Prints a line for each call of that function, in order, so that a
+ * count of its instructions finds its message.
  */
 #include <reel.h>
 

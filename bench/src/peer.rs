@@ -4,7 +4,7 @@ use std::hint::black_box;
 
 pub const NULL_FRAME: u8 = 255;
 /// What the register has of a frame that no copy is on.
-const NO_HOLDER: u16 = 65535;
+const FREE_ENTRY: u16 = 65535;
 
 #[derive(Clone, Copy)]
 pub struct Entry {
@@ -89,7 +89,7 @@ impl Page {
                     return false;
                 }
             } else {
-                if c.frame >= limit || due[usize::from(c.frame)] != NO_HOLDER {
+                if c.frame >= limit || due[usize::from(c.frame)] != FREE_ENTRY {
                     return false;
                 }
                 due[usize::from(c.frame)] = registered(i, k);
@@ -108,7 +108,7 @@ impl<const REGISTER: bool> Tables<REGISTER> {
             fast,
             slow,
             pages: [ABSENT; 64],
-            register: [NO_HOLDER; 254],
+            register: [FREE_ENTRY; 254],
             retired: [false; 254],
         }
     }
@@ -128,18 +128,18 @@ impl<const REGISTER: bool> Tables<REGISTER> {
             return false;
         }
         let limit = self.fast + self.slow;
-        let mut due = [NO_HOLDER; 254];
+        let mut due = [FREE_ENTRY; 254];
         let mut pages = self.pages.iter().enumerate();
         pages.all(|(i, g)| g.sound(i, limit, &mut due))
             && (!REGISTER || self.register == due)
-            && (0..254).all(|f| !self.retired[f] || (f < usize::from(limit) && due[f] == NO_HOLDER))
+            && (0..254).all(|f| !self.retired[f] || (f < usize::from(limit) && due[f] == FREE_ENTRY))
     }
 
     /// The page and number of the copy on a frame.
     pub fn holder(&self, frame: u8) -> Option<(u8, u8)> {
         if REGISTER {
             let held = self.register[usize::from(frame)];
-            return (held != NO_HOLDER).then_some(((held / 8) as u8, (held % 8) as u8));
+            return (held != FREE_ENTRY).then_some(((held / 8) as u8, (held % 8) as u8));
         }
         for (i, g) in self.pages.iter().enumerate() {
             for (j, c) in g.used().iter().enumerate() {
@@ -174,12 +174,12 @@ impl<const REGISTER: bool> Tables<REGISTER> {
         }
         for frame in 0..254 {
             let held = self.holder(frame);
-            let held = held.map_or(NO_HOLDER, |(page, copy)| {
+            let held = held.map_or(FREE_ENTRY, |(page, copy)| {
                 registered(page.into(), copy.into())
             });
-            bytes.extend(held.to_be_bytes());
+            let held = if self.retired[frame as usize] { 0xF0F0 } else { held };
+            bytes.extend(held.to_le_bytes());
         }
-        bytes.extend(self.retired.map(u8::from));
         bytes
     }
 }
@@ -265,7 +265,7 @@ fn station_step<const REGISTER: bool>(
             let mut laid = 0;
             for c in std::mem::replace(g, ABSENT).used() {
                 if c.frame != NULL_FRAME {
-                    t.enter(c.frame, NO_HOLDER);
+                    t.enter(c.frame, FREE_ENTRY);
                     frame_mut(p, fast, slow, c.frame).fill(0);
                     laid += 64;
                 }
@@ -394,7 +394,7 @@ fn placement_step<const REGISTER: bool>(
             g.copies.copy_within(k + 1..n, k);
             g.copies[n - 1] = FRESH;
             g.n -= 1;
-            t.enter(freed, NO_HOLDER);
+            t.enter(freed, FREE_ENTRY);
             for k in k..n - 1 {
                 t.enter(t.pages[page].copies[k].frame, registered(page, k));
             }

@@ -1,10 +1,11 @@
 /*
- * Lends every buffer flush against memory that may be neither read nor written, before it or behind it, and what is const in
- * memory that may only be read. So the processor stops any access of the library outside what it is lent, which no
- * instrumentation of this file could see. The same file is served message by message, in one run and in parts, and all that
- * is left is compared. Of each delete it is tested what it leaves in the lent stores: zeros in the frames that it frees, by the
- * register, and every other byte as it was; of each retire that it sets the mark of its frame and changes nothing else. Each
- * message that is a call is written again, and each reply read where nothing follows it. Messages and sizes follow from a seed.
+ * Lends every buffer flush against memory that may be neither read nor written, before it or behind it, and what is
+ * const in memory that may only be read. So the processor stops any access of the library outside what it is lent,
+ * which no instrumentation of this file could see. The same file is served message by message, in one run and in parts,
+ * and all that is left is compared. Of each delete it is tested what it leaves in the lent stores: zeros in the frames
+ * that it frees, by the register, and every other byte as it was; of each retire that it sets the mark of its frame and
+ * changes nothing else. Each message that is a call is written again, and each reply read where nothing follows it.
+ * Messages and sizes follow from a seed.
  */
 #define _DEFAULT_SOURCE
 #include <reel.h>
@@ -193,11 +194,14 @@ static struct state state_of(struct unit u) {
   return now;
 }
 
-/* Whether a copy is on a frame, by the register. */
-static int is_held(const uint8_t *tables, size_t frame) {
-  const uint8_t *entry = tables + REEL_TABLES_REGISTER + REEL_ENTRY_SIZE * frame;
-  return 256u * entry[0] + entry[1] != REEL_NO_HOLDER;
+/* The register entry of a frame. */
+static unsigned entry(const uint8_t *tables, size_t frame) {
+  const uint8_t *at = tables + REEL_TABLES_REGISTER + REEL_ENTRY_SIZE * frame;
+  return at[0] + 256u * at[1];
 }
+
+/* Whether a copy is on a frame. */
+static int is_held(const uint8_t *tables, size_t frame) { return entry(tables, frame) < REEL_RETIRED_ENTRY; }
 
 /* After a delete each frame that it freed holds zeros, 64 bytes are laid for each, and no other byte is another. */
 static void cleared(struct unit u, struct state before, uint32_t answered) {
@@ -216,13 +220,15 @@ static void cleared(struct unit u, struct state before, uint32_t answered) {
   expect(reel_answer_number(answered) == REEL_ACCEPTED || laid == 0, "a refused delete");
 }
 
-/* An accepted retire leaves the frame with its mark and without a copy, and every other byte as it was; a refused one all. */
+/* An accepted retire leaves the frame retired and without a copy, and every other byte as it was; a refused one all. */
 static void retired(struct unit u, struct state before, uint8_t frame, uint32_t answered) {
   struct state now = state_of(u);
   if (reel_answer_number(answered) == REEL_ACCEPTED) {
     expect(frame < frames && !is_held(before.tables, frame), "a frame that may be retired");
-    marked += before.tables[REEL_TABLES_RETIRED + frame] == 0;
-    before.tables[REEL_TABLES_RETIRED + frame] = 1;
+    uint8_t *at = before.tables + REEL_TABLES_REGISTER + REEL_ENTRY_SIZE * frame;
+    marked += entry(before.tables, frame) == REEL_FREE_ENTRY;
+    at[0] = REEL_RETIRED_ENTRY % 256;
+    at[1] = REEL_RETIRED_ENTRY / 256;
   }
   expect(memcmp(now.tables, before.tables, REEL_TABLES_SIZE) == 0, "the tables after a retire");
   expect(memcmp(now.stores, before.stores, REEL_FRAME_SIZE * frames) == 0, "the stores after a retire");
@@ -231,7 +237,7 @@ static void retired(struct unit u, struct state before, uint8_t frame, uint32_t 
 
 /* A copy is made on no retired frame. */
 static void not_on_retired(struct state before, uint8_t frame, uint32_t answered) {
-  int is_retired = frame < frames && before.tables[REEL_TABLES_RETIRED + frame] == 1;
+  int is_retired = frame < frames && entry(before.tables, frame) == REEL_RETIRED_ENTRY;
   expect(reel_answer_number(answered) != REEL_ACCEPTED || !is_retired, "a copy on a retired frame");
   expect(reel_answer_number(answered) != REEL_RETIRED || is_retired, "a frame that is not retired");
 }
@@ -297,7 +303,7 @@ static void senseless_call(struct unit u, struct block lent) {
   for (i = 0; i < sizeof bytes; i++) bytes[i] = (uint8_t)(any(4) == 0 ? any(256) : any(2));
   for (i = 0; i < 4; i++) arguments[i] = (uint8_t)(any(4) == 0 ? any(256) : any(16));
   written = write_into(part(u.out, room), room, kind, arguments, sealed(lent, bytes, count), count);
-  expect((reel_written_number(written) == REEL_SHORT_SLIP) == (room < REEL_MESSAGE_SIZE), "a short buffer for a message");
+  expect((reel_written_number(written) == REEL_SHORT_BUFFER) == (room < REEL_MESSAGE_SIZE), "a short buffer for a message");
 
   bytes[0] = (uint8_t)(any(50) == 0);
   bytes[1] = (uint8_t)(any(2) == 0 ? 4 + any(8) : any(sizeof bytes));

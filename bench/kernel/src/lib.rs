@@ -1,10 +1,12 @@
 //! The kernel's C functions, the only binding of its library in Rust: over lent slices, and behind
 //! a unit that owns all it lends.
 
+pub mod layout;
+
 /// The version of the library that this binding is for: 65536 * major + 256 * minor + patch.
-pub const VERSION: u32 = 3 * 65536;
-/// How many bytes the tables take. Nothing in Rust looks into them.
-pub const TABLES: usize = 3452;
+pub const VERSION: u32 = 4 * 65536;
+/// How many bytes the tables take; `layout` says what stands where.
+pub const TABLES: usize = 3198;
 /// The bytes of a frame, and so of a page.
 pub const FRAME: usize = 64;
 /// The most fast frames, and the most slow ones.
@@ -117,7 +119,7 @@ pub fn version() -> u32 {
     unsafe { reel_version() }
 }
 
-/// Writes fresh tables: 0, or 19; 5 for a buffer of another length than tables have.
+/// Writes fresh tables: 5 for a buffer of another length than tables have, then 19, else 0.
 pub fn fresh(fast: u8, slow: u8, tables: &mut [u8]) -> u8 {
     unsafe { reel_fresh(fast, slow, tables.as_mut_ptr(), tables.len()) }
 }
@@ -329,16 +331,35 @@ impl Unit {
     /// A unit with fresh tables, or the number of the refusal.
     pub fn fresh(fast: u8, slow: u8) -> Result<Unit, u8> {
         let mut tables = vec![0; TABLES];
+        let store = |frames: u8| vec![0; FRAME * usize::from(frames)];
         match fresh(fast, slow, &mut tables) {
-            0 => Ok(Unit {
-                tables,
-                fast: vec![0; FRAME * usize::from(fast)],
-                slow: vec![0; FRAME * usize::from(slow)],
-                out: vec![0; SLIP],
-                tally: [0; 3],
-            }),
+            0 => Ok(Unit::lending(tables, store(fast), store(slow))),
             number => Err(number),
         }
+    }
+
+    /// A unit with tables and stores that were kept, or 5 or 6 where they break a rule or do not fit.
+    pub fn kept(tables: Vec<u8>, fast: Vec<u8>, slow: Vec<u8>) -> Result<Unit, u8> {
+        match rules(&tables, fast.len(), slow.len()) {
+            0 => Ok(Unit::lending(tables, fast, slow)),
+            number => Err(number),
+        }
+    }
+
+    fn lending(tables: Vec<u8>, fast: Vec<u8>, slow: Vec<u8>) -> Unit {
+        Unit {
+            tables,
+            fast,
+            slow,
+            out: vec![0; SLIP],
+            tally: [0; 3],
+        }
+    }
+
+    /// How many fast and slow frames there are.
+    pub fn frames(&self) -> (u8, u8) {
+        let frames = |store: &[u8]| (store.len() / FRAME) as u8;
+        (frames(&self.fast), frames(&self.slow))
     }
 
     /// 0 where the tables keep the rules and the stores fit them, else 5 or 6.
@@ -457,6 +478,9 @@ mod tests {
     #[test]
     fn too_many_frames() {
         assert_eq!(Unit::fresh(128, 0).err(), Some(19));
+        let mut short = [7; super::TABLES - 1];
+        assert_eq!(super::fresh(128, 0, &mut short), 5);
+        assert_eq!(short, [7; super::TABLES - 1]);
     }
 
     #[test]
@@ -586,12 +610,20 @@ mod tests {
     fn the_test_of_tables_and_stores() {
         let mut unit = Unit::fresh(4, 4).unwrap();
         assert_eq!(unit.rules(), 0);
-        // The last mark is that of a frame that the unit does not have.
-        unit.tables[TABLES - 1] = 1;
+        // The last entry is that of a frame that the unit does not have.
+        unit.tables[TABLES - 1] = 254;
         assert_eq!(unit.rules(), 5);
-        unit.tables[TABLES - 1] = 0;
+        unit.tables[TABLES - 1] = 255;
+        assert_eq!(unit.frames(), (4, 4));
+        let kept = |unit: &Unit| {
+            let Unit {
+                tables, fast, slow, ..
+            } = unit.clone();
+            Unit::kept(tables, fast, slow).map(|unit| unit.tables)
+        };
+        assert_eq!(kept(&unit), Ok(unit.tables.clone()));
         unit.slow.pop();
-        assert_eq!(unit.rules(), 6);
+        assert_eq!((unit.rules(), kept(&unit)), (6, Err(6)));
         unit.tables[0] = 128;
         assert_eq!(unit.rules(), 5);
     }

@@ -9,27 +9,26 @@ use Rattle.tables.specs.declared.Tables.{Tables}
 use Rattle.tables.specs.Model.{freshTables}
 use Rattle.tables.specs.Lists.{all}
 use Rattle.tables.specs.Numbers.{brokenTables}
-use Rattle.tables.specs.Rules.{sound}
+use Rattle.tables.specs.Rules.{sizesRule, sound}
 use Rattle.tables.proofs.ListLaws.{and-true, and-left, and-right, and-intro}
 use Rattle.steps.specs.declared.Call.{Call}
 use Rattle.steps.specs.Steps.{Outcome, refuse, accept}
 use Rattle.steps.specs.Effects.{State, Result, step, left}
 use Rattle.messages.specs.Replies.{replyIn, isRefusal}
-use Rattle.messages.specs.Run.{Sent, Turn, answer, turnOf, leftBy, turnsOf, endOf, messagesOf, run, full, served, stateAfter, partFrom}
+use Rattle.messages.specs.Run.{Sent, Turn, answer, turnOf, leftBy, turnsOf, endOf, messagesOf, run}
+use Rattle.messages.specs.Run.{full, served, stateAfter, partFrom}
 use Rattle.embed.specs.Bytes.{tablesSize, tablesBytes, tablesFrom}
 use Rattle.embed.specs.Exports.{tablesIn, noTables, tablesOf, withTables, lentState, leftIn, allRefused}
-use Rattle.embed.proofs.RoundTrip.{bytes-length, bytes-marked, sound-formed, sound-from-bytes}
-use Rattle.embed.proofs.WayBack.{AreBytes, tables-same}
+use Rattle.embed.proofs.Forms.{AreBytes}
+use Rattle.embed.proofs.ImageLaws.{tables-form, sound-formed, from-bytes, bytes-marked, tables-same}
 
 -- the bytes of sound tables hold tables
-laid-in : (t : Tables) → sound t ≡ true → tablesIn (tablesBytes t) ≡ true
-laid-in t e =
-    let s = sound-formed t e in
-    and-intro (eq-eqb _ tablesSize (bytes-length t s)) (bytes-marked t s)
+pub laid-in : (t : Tables) → sound t ≡ true → tablesIn (tablesBytes t) ≡ true
+laid-in t e = and-intro (eq-eqb _ tablesSize (tables-form .long t (sound-formed t e))) (bytes-marked t e)
 
 -- the next call finds the tables that this one left
 pub found-again : (b : List ℕ) (t : Tables) → tablesIn b ≡ true → sound t ≡ true → tablesOf (withTables b t) ≡ t
-found-again b t z e = rw z (rw (laid-in t e) (sound-from-bytes t e))
+found-again b t z e = rw z (rw (laid-in t e) (from-bytes t e))
 
 -- the tables that were there, put back, leave every byte, whatever the bytes are
 pub put-back-same : (b : List ℕ) → AreBytes b → withTables b (tablesOf b) ≡ b
@@ -50,12 +49,13 @@ put-moved b true t low k = rw (and-true (tablesIn b))
 put-moved b false t low k = rw (k refl, and-false (tablesIn b)) (sym (put-back-same b low))
 
 -- what a message leaves of the tables, put back: a refusal leaves every byte
-pub left-in : (b fast slow : List ℕ) (o : Outcome Result) → AreBytes b → withTables b (left (lentState b fast slow) o .tables) ≡ leftIn b o
+pub left-in : (b fast slow : List ℕ) (o : Outcome Result) → AreBytes b
+    → withTables b (left (lentState b fast slow) o .tables) ≡ leftIn b o
 left-in b fast slow (refuse n) low = put-back-same b low
 left-in b fast slow (accept r) low = refl
 
 no-tables-broken : sound noTables ≡ false
-unfolding sound freshTables
+unfolding sound sizesRule freshTables
 no-tables-broken = refl
 
 -- a call on bytes that hold no tables is refused with 5
@@ -79,9 +79,11 @@ refused-end room s (x ∷ xs) e =
     rw l (refused-end room s xs (rw l at (and-right (isRefusal o) _ e)))
 
 -- a run of which every message was refused, or whose file is empty, leaves every byte of the tables, whatever they were
-pub refused-run : (room : ℕ) (file b fast slow : List ℕ) → AreBytes b → allRefused (run room file (lentState b fast slow) .turns) ≡ true
+pub refused-run : (room : ℕ) (file b fast slow : List ℕ) → AreBytes b
+    → allRefused (run room file (lentState b fast slow) .turns) ≡ true
     → withTables b (run room file (lentState b fast slow) .final .tables) ≡ b
-refused-run room file b fast slow low e = rw (refused-end room (lentState b fast slow) (messagesOf file) e) (put-back-same b low)
+refused-run room file b fast slow low e =
+    rw (refused-end room (lentState b fast slow) (messagesOf file) e) (put-back-same b low)
 
 -- a turn that a full buffer leaves out, and those behind it
 refused-one : (isFull : Bool) (room : ℕ) (s : State) (x : Sent) (behind : State → List Turn)
@@ -101,7 +103,8 @@ unfolding turnsOf served stateAfter
 refused-after room used s [] e = refl
 refused-after room used s (x ∷ xs) e =
     let more = used + length (replyIn room (answer room s x)) in
-    refused-one (full room used) room s x (λ (r : State). served room more (turnsOf room r xs)) (refused-after room more s xs) e
+    let behind : State → List Turn = λ r. served room more (turnsOf room r xs) in
+    refused-one (full room used) room s x behind (refused-after room more s xs) e
 
 -- nor does such a part of a run
 pub refused-part : (room : ℕ) (file : List ℕ) (at : ℕ) (b fast slow : List ℕ) → AreBytes b

@@ -1,6 +1,5 @@
-pub mod LayLaws
-pub mod FromLaws
-pub mod RoundTrip
-pub mod WayBack
+pub mod Rows
+pub mod Forms
+pub mod ImageLaws
 pub mod LentLaws
 pub mod PlaceLaws

@@ -1,7 +1,7 @@
--- The tables as bytes: P, S, then each page, which is the sixteen rights, the eight entries of three bytes, the owner and n,
--- then the register, two bytes, big-endian, for each frame number, and for each frame number a byte, 1 where it is retired and else 0.
-use Prim.Native.Nat.{ℕ, zero, suc, _+_, _*_}
-use mathlib.Core.Bool.{Bool, not, _&&_, cond}
+-- The tables as bytes: P, S, then each page, which is the sixteen rights, the eight entries of three bytes, the owner
+-- and n, then the register, two bytes, the low one first, for each frame number.
+use Prim.Native.Nat.{ℕ, zero, suc, _+_, _*_, _/_, _%_}
+use mathlib.Core.Bool.{Bool, cond}
 use mathlib.Core.List.{List, [], _∷_, _++_, flatMap}
 use lib.ListN.{getD, take, drop}
 use lib.Dec.{eqb}
@@ -9,23 +9,19 @@ use Rattle.tables.specs.declared.Copy.{Copy}
 use Rattle.tables.specs.declared.Page.{Page}
 use Rattle.tables.specs.declared.Tables.{Tables}
 use Rattle.tables.specs.Model.{sized}
-use Rattle.steps.specs.Data.{isMark, copyMarked, eachIs}
-use Rattle.messages.specs.Replies.{be16, be16At}
+use Rattle.steps.specs.Data.{copyMarked, eachIs}
 
 -- ---- sizes
 
--- how many bytes a page takes, where the register and the marks of retired frames begin, and how many bytes the tables take
+-- how many bytes a page takes, where the register begins, and how many bytes the tables take
 abbrev pub pageSize : ℕ
 pageSize = 42
 
 abbrev pub registerAt : ℕ
 registerAt = 2 + 64 * pageSize
 
-abbrev pub marksAt : ℕ
-marksAt = registerAt + 2 * 254
-
 abbrev pub tablesSize : ℕ
-tablesSize = marksAt + 254
+tablesSize = registerAt + 2 * 254
 
 -- ---- laid out
 
@@ -39,18 +35,17 @@ copyBytes c = c .frame ∷ markByte (c .current) ∷ markByte (c .recent) ∷ []
 unfoldable pub pageBytes : Page → List ℕ
 pageBytes g = g .rights ++ (flatMap copyBytes (g .copies) ++ (g .owner ∷ g .n ∷ []))
 
--- the mark of a retired frame
-abbrev pub retiredByte : Bool → List ℕ
-retiredByte b = markByte b ∷ []
+-- an entry of the register: a number of two bytes, the low one first
+abbrev pub le16 : ℕ → List ℕ
+le16 n = n % 256 ∷ n / 256 % 256 ∷ []
 
 unfoldable pub tablesBytes : Tables → List ℕ
-tablesBytes t =
-    t .shared .p ∷ t .shared .s ∷ flatMap pageBytes (t .pages) ++ (flatMap be16 (t .register) ++ flatMap retiredByte (t .retired))
+tablesBytes t = t .shared .p ∷ t .shared .s ∷ flatMap pageBytes (t .pages) ++ flatMap le16 (t .register)
 
 -- ---- read back
 
 abbrev pub markFrom : ℕ → Bool
-markFrom b = not (eqb b 0)
+markFrom b = eqb (b % 2) 1
 
 -- k values, one from each `size` bytes
 unfoldable pub fromEach : {A : Type 0} → ℕ → ℕ → (List ℕ → A) → List ℕ → List A
@@ -61,15 +56,12 @@ abbrev pub copyFrom : List ℕ → Copy
 copyFrom b = record { frame = getD b 0 0; current = markFrom (getD b 1 0); recent = markFrom (getD b 2 0) }
 
 unfoldable pub pageFrom : List ℕ → Page
-pageFrom b = record { rights = take 16 b; copies = fromEach 8 3 copyFrom (drop 16 b); owner = getD b 40 0; n = getD b 41 0 }
+pageFrom b =
+    record { rights = take 16 b; copies = fromEach 8 3 copyFrom (drop 16 b); owner = getD b 40 0; n = getD b 41 0 }
 
 -- an entry of the register
 abbrev pub entryFrom : List ℕ → ℕ
-entryFrom b = be16At b 0
-
--- the mark of a retired frame
-abbrev pub retiredFrom : List ℕ → Bool
-retiredFrom b = markFrom (getD b 0 0)
+entryFrom b = getD b 0 0 + 256 * getD b 1 0
 
 unfoldable pub tablesFrom : List ℕ → Tables
 tablesFrom b =
@@ -77,7 +69,6 @@ tablesFrom b =
       shared = sized (getD b 0 0) (getD b 1 0);
       pages = fromEach 64 pageSize pageFrom (drop 2 b);
       register = fromEach 254 2 entryFrom (drop registerAt b);
-      retired = fromEach 254 1 retiredFrom (drop marksAt b);
     }
 
 -- ---- the marks
@@ -85,9 +76,6 @@ tablesFrom b =
 unfoldable pub pageMarked : List ℕ → Bool
 pageMarked b = eachIs 8 3 copyMarked (drop 16 b)
 
-abbrev pub retiredMarked : List ℕ → Bool
-retiredMarked b = isMark (getD b 0 0)
-
--- whether both marks of each entry of every page, and the marks of retired frames, are 0 or 1
+-- whether both marks of each entry of every page are 0 or 1
 unfoldable pub marked : List ℕ → Bool
-marked b = eachIs 64 pageSize pageMarked (drop 2 b) && eachIs 254 1 retiredMarked (drop marksAt b)
+marked b = eachIs 64 pageSize pageMarked (drop 2 b)

@@ -16,7 +16,8 @@ use Rattle.steps.specs.Effects.{State, Result, left, laidBy}
 use Rattle.steps.specs.Promises.{stateOf, Lent, lent}
 use Rattle.messages.specs.declared.Tally.{Tally}
 use Rattle.messages.specs.Replies.{replyIn, isRefusal}
-use Rattle.messages.specs.Run.{Turn, Run, buffer, tally, joinedReplies, Part}
+use Rattle.messages.specs.Run.{answer, Turn, Run, run, buffer, tally, joinedReplies, Part, partFrom}
+use Rattle.messages.specs.Promises.{sentAlone}
 use Rattle.stations.specs.declared.Reading.{Reading}
 use Rattle.stations.specs.declared.Reading.the-variants.{Refused, Reply}
 use Rattle.stations.specs.Writer.{messageIn}
@@ -28,9 +29,9 @@ use Rattle.embed.specs.Bytes.{tablesSize, tablesBytes, tablesFrom, marke
 abbrev pub versionNumber : ℕ → ℕ → ℕ → ℕ
 versionNumber major minor patch = 65536 * major + 256 * minor + patch
 
--- 3.0.0
+-- 4.0.0
 abbrev pub version : ℕ
-version = versionNumber 3 0 0
+version = versionNumber 4 0 0
 
 -- ---- tables
 
@@ -107,8 +108,10 @@ leftIn b (accept r) = withTables b (r .state .tables)
 abbrev pub packed : ℕ → ℕ → ℕ → ℕ
 packed number len laid = number + 256 * len + 65536 * laid
 
--- what `reel_answer` leaves of the bytes b of the tables, and of the stores and the buffer l, where a message on state s comes to o
-pub record AnswerLent (s : State) (o : Outcome Result) (b : List ℕ) (l : Lent) (b′ : List ℕ) (l′ : Lent) (r : ℕ) : Type 0 where
+-- what `reel_answer` leaves of the bytes b of the tables, and of the stores and the buffer l, where a message on state
+-- s comes to o
+pub record AnswerLent (s : State) (o : Outcome Result) (b : List ℕ) (l : Lent) (b′ : List ℕ) (l′ : Lent) (r : ℕ)
+    : Type 0 where
   pub told : r ≡ packed (numberOf o) (length (replyIn (length (l .out)) o)) (laidBy o)
   pub tables-out : b′ ≡ leftIn b o
   pub lent-out : l′ ≡ lent (left s o .fast) (left s o .slow) (over (replyIn (length (l .out)) o) (l .out))
@@ -117,31 +120,68 @@ pub record AnswerLent (s : State) (o : Outcome Result) (b : List ℕ) (l : Lent)
 abbrev pub allRefused : List Turn → Bool
 allRefused ts = all (λ (t : Turn). isRefusal (t .outcome)) ts
 
--- What `reel_run` leaves of the bytes b of the tables, of the stores and the buffer l and of the tally n, after a run w. Where every message
--- was refused, or the file is empty, every byte of b stays, whatever it was (`refused-run`).
+-- What `reel_run` leaves of the bytes b of the tables, of the stores and the buffer l and of the tally n, after a run
+-- w. Where every message was refused, or the file is empty, every byte of b stays, whatever it was (`refused-run`).
 pub record RunLent (w : Run) (b : List ℕ) (l : Lent) (n : List ℕ) (b′ : List ℕ) (l′ : Lent) (n′ : List ℕ) : Type 0 where
   pub tables-out : b′ ≡ withTables b (w .final .tables)
   pub lent-out : l′ ≡ lent (w .final .fast) (w .final .slow) (buffer (length (l .out)) (w .turns) (l .out))
   pub tally-out : n′ ≡ withTally n (tally (w .turns) (tallyOf n))
 
--- What `reel_replies` leaves of them after a part w of a run, the bytes of the buffer that are used and the place reached. `refused-part`
--- says of it what `refused-run` says of a run.
-pub record RepliesLent (w : Part) (b : List ℕ) (l : Lent) (n : List ℕ) (b′ : List ℕ) (l′ : Lent) (n′ : List ℕ) (used r : ℕ) : Type 0 where
+-- What `reel_replies` leaves of them after a part w of a run, the bytes of the buffer that are used and the place
+-- reached. `refused-part` says of it what `refused-run` says of a run.
+pub record RepliesLent (w : Part) (b : List ℕ) (l : Lent) (n : List ℕ) (b′ : List ℕ) (l′ : Lent) (n′ : List ℕ)
+    (used r : ℕ) : Type 0 where
   pub place-told : r ≡ w .place
   pub used-told : used ≡ length (joinedReplies (length (l .out)) (w .turns))
   pub tables-out : b′ ≡ withTables b (w .final .tables)
-  pub lent-out : l′ ≡ lent (w .final .fast) (w .final .slow) (over (joinedReplies (length (l .out)) (w .turns)) (l .out))
+  pub lent-out :
+      l′ ≡ lent (w .final .fast) (w .final .slow) (over (joinedReplies (length (l .out)) (w .turns)) (l .out))
   pub tally-out : n′ ≡ withTally n (tally (w .turns) (tallyOf n))
+
+-- ---- the contracts of the three functions that change a unit, each as one definition, which the theorems of callers cite too
+
+-- what a caller keeps from one call to the next: the bytes of the tables, and both stores
+pub record Kept : Type 0 where
+  pub tables : List ℕ
+  pub fast : List ℕ
+  pub slow : List ℕ
+
+abbrev pub kept : List ℕ → List ℕ → List ℕ → Kept
+kept b fast slow = record { tables = b; fast = fast; slow = slow }
+
+-- the state in it
+abbrev pub stateIn : Kept → State
+stateIn k = lentState (k .tables) (k .fast) (k .slow)
+
+-- `reel_answer` on k, with a message and a buffer: what it leaves of k and of the buffer, and the number that it gives
+abbrev pub AnswerPromised : Kept → List ℕ → List ℕ → Kept → List ℕ → ℕ → Type 0
+AnswerPromised k message out k′ out′ r =
+    AnswerLent (stateIn k) (answer (length out) (stateIn k) (sentAlone message)) (k .tables) (lent (k .fast) (k .slow) out)
+    (k′ .tables) (lent (k′ .fast) (k′ .slow) out′) r
+
+-- `reel_run` on k, with a file, a buffer and a tally: what it leaves of k, of the buffer and of the tally
+abbrev pub RunPromised : Kept → List ℕ → List ℕ → List ℕ → Kept → List ℕ → List ℕ → Type 0
+RunPromised k file out n k′ out′ n′ =
+    RunLent (run (length out) file (stateIn k)) (k .tables) (lent (k .fast) (k .slow) out) n
+    (k′ .tables) (lent (k′ .fast) (k′ .slow) out′) n′
+
+-- `reel_replies` likewise, from a place of the file on; the bytes used, and the place that it gives
+abbrev pub RepliesPromised : Kept → List ℕ → ℕ → List ℕ → List ℕ → Kept → List ℕ → List ℕ → ℕ → ℕ → Type 0
+RepliesPromised k file at out n k′ out′ n′ used r =
+    RepliesLent (partFrom (length out) file at (stateIn k)) (k .tables) (lent (k .fast) (k .slow) out) n
+    (k′ .tables) (lent (k′ .fast) (k′ .slow) out′) n′ used r
 
 -- ---- for stations
 
--- what `reel_write` leaves of a call that comes to o: the number and the length of the message, in one, and the message at the front of the buffer
+-- what `reel_write` leaves of a call that comes to o: the number and the length of the message, in one, and the message
+-- at the front of the buffer
 pub record WriteLent (o : Outcome (List ℕ)) (out out′ : List ℕ) (r : ℕ) : Type 0 where
   pub told : r ≡ packed (numberOf o) (length (messageIn o)) 0
   pub buffer-out : out′ ≡ over (messageIn o) out
 
--- What is read of a reply, in one number: the reader's own refusal, 1 to 4, in the lowest byte; where that is 0, the number that the reply
--- carries in the second, the bytes laid in the next two, and in the fifth and sixth where the data start and how many they are.
+-- What is read of a reply, in one number: the reader's own refusal, 1 to 4, in the lowest byte; where that is 0, the
+-- number that the reply carries in the second, the bytes laid in the next two, and in the fifth and sixth where the
+-- data start and how many they are.
 abbrev pub readingNumber : Reading → ℕ
 readingNumber (Refused n) = n
 readingNumber (Reply number laid start len) = 256 * number + 65536 * laid + 4294967296 * start + 1099511627776 * len

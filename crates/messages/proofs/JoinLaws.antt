@@ -10,7 +10,7 @@ use lib.ListN.{length, take, drop, length-append, length-drop}
 use lib.Seq.{length-take-le, take-at, drop-at}
 use lib.Dec.{leb, ltb}
 use borrow.Author.Tests.{ltb-false, leb-true, leb-false, lt-ltb, le-ltb}
-use Rattle.tables.specs.Numbers.{accepted, cutShort, shortSlip}
+use Rattle.tables.specs.Numbers.{accepted, cutShort, shortBuffer}
 use Rattle.steps.specs.Steps.{Outcome, refuse, accept, test}
 use Rattle.steps.specs.Effects.{State, Result, left, laidBy, dataOf}
 use Rattle.steps.proofs.StepLaws.{data-paid}
@@ -38,7 +38,7 @@ unfolding answer
 reply-paid room s m =
     rw (← reply-length room (answer room s (whole m))) (under (ltb room 70) _ (by (ltb room 70) (parse m) refl))
   where
-    by : (b : Bool) (p : Parsed) → parse m ≡ p → 4 * (6 + length (dataOf (test b shortSlip (respond s p (writeBytes m))))) ≤ 35 * (2 + length m)
+    by : (b : Bool) (p : Parsed) → parse m ≡ p → 4 * (6 + length (dataOf (test b shortBuffer (respond s p (writeBytes m))))) ≤ 35 * (2 + length m)
     by true p e = omega arith
     by false (Refused n) e = omega arith
     by false (Asked c) e = omega (arith, data-paid s c (writeBytes m), asked-long m c e)
@@ -51,7 +51,7 @@ cut-paid : (room : ℕ) (s : State) → 4 * length (replyIn room (answer room s 
 unfolding answer reply
 cut-paid room s = by (ltb room 70)
   where
-    by : (b : Bool) → 4 * length (cond b [] (reply (test {A = Result} b shortSlip (refuse cutShort)))) ≤ 35
+    by : (b : Bool) → 4 * length (cond b [] (reply (test {A = Result} b shortBuffer (refuse cutShort)))) ≤ 35
     by true = omega arith
     by false = omega arith
 
@@ -100,13 +100,13 @@ whole-part room file s h =
 
 -- ---- with 70 bytes or more all buffers are alike
 
-same-turns : (room : ℕ) (s : State) (xs : List Sent) → 70 ≤ room → turnsOf room s xs ≡ turnsOf 70 s xs
+pub same-turns : (room : ℕ) (s : State) (xs : List Sent) → 70 ≤ room → turnsOf room s xs ≡ turnsOf 70 s xs
 unfolding turnsOf
 same-turns room s [] h = refl
 same-turns room s (x ∷ xs) h =
     rw (same-answer room 70 s x (le-ltb room 70 h)) (ap (λ (ts : List Turn). turnOf 70 s x ∷ ts) (same-turns room (leftBy 70 s x) xs h))
 
-same-joined : (room : ℕ) (ts : List Turn) → 70 ≤ room → joinedReplies room ts ≡ joinedReplies 70 ts
+pub same-joined : (room : ℕ) (ts : List Turn) → 70 ≤ room → joinedReplies room ts ≡ joinedReplies 70 ts
 same-joined room ts h = ap (λ (b : Bool). flatten (map (λ (t : Turn). cond b [] (reply (t .outcome))) ts)) (le-ltb room 70 h)
 
 -- what one large buffer takes are the replies of the run
@@ -196,7 +196,7 @@ rest-after file room used (x ∷ xs) at s e =
 
 -- ---- turns, one list of them behind another
 
-joined-both : (room : ℕ) (us vs : List Turn) → joinedReplies room (us ++ vs) ≡ joinedReplies room us ++ joinedReplies room vs
+pub joined-both : (room : ℕ) (us vs : List Turn) → joinedReplies room (us ++ vs) ≡ joinedReplies room us ++ joinedReplies room vs
 unfolding flatten
 joined-both room [] vs = refl
 joined-both room (t ∷ us) vs =
@@ -208,12 +208,12 @@ unfolding stateAfter
 state-both s [] vs = refl
 state-both s (t ∷ us) vs = state-both (left (t .found) (t .outcome)) us vs
 
-tally-both : (us vs : List Turn) (n : Tally) → tally (us ++ vs) n ≡ tally vs (tally us n)
+pub tally-both : (us vs : List Turn) (n : Tally) → tally (us ++ vs) n ≡ tally vs (tally us n)
 unfolding tally
 tally-both [] vs n = refl
 tally-both (t ∷ us) vs n = tally-both us vs (counted n (isRefusal (t .outcome)) (laidBy (t .outcome)))
 
-end-is : (room : ℕ) (s : State) (xs : List Sent) → stateAfter s (turnsOf room s xs) ≡ endOf room s xs
+pub end-is : (room : ℕ) (s : State) (xs : List Sent) → stateAfter s (turnsOf room s xs) ≡ endOf room s xs
 unfolding stateAfter turnsOf endOf
 end-is room s [] = refl
 end-is room s (x ∷ xs) = end-is room (leftBy room s x) xs
@@ -225,7 +225,7 @@ abbrev turnsAt : List ℕ → ℕ → State → List Turn
 turnsAt file at s = turnsOf 70 s (messagesOf (drop at file))
 
 -- they are those of one part, and those from where it left off
-part-rest : (room : ℕ) (file : List ℕ) (at : ℕ) (s : State) → 70 ≤ room
+pub part-rest : (room : ℕ) (file : List ℕ) (at : ℕ) (s : State) → 70 ≤ room
     → let w = partFrom room file at s in turnsAt file at s ≡ w .turns ++ turnsAt file (w .place) (w .final)
 part-rest room file at s h =
     let w = partFrom room file at s in
@@ -291,7 +291,7 @@ parts-run file s n ks calls h =
 
 -- ---- they come to the file's end
 
-place-grows : (end at low : ℕ) (ts : List Turn) → low ≤ at → low ≤ end → low ≤ placeAfter end at ts
+pub place-grows : (end at low : ℕ) (ts : List Turn) → low ≤ at → low ≤ end → low ≤ placeAfter end at ts
 unfolding placeAfter
 place-grows end at low [] h g = h
 place-grows end at low (t ∷ ts) h g = place-grows end (passed end at (t .sent)) low ts (go (t .sent)) g
@@ -319,7 +319,7 @@ unfolding served turnsOf placeAfter
 first-place room end at s x xs = rw (never-full room)
 
 -- a part goes past one message at the least
-goes-further : (room : ℕ) (file : List ℕ) (at : ℕ) (s : State) → at < length file → at < partFrom room file at s .place
+pub goes-further : (room : ℕ) (file : List ℕ) (at : ℕ) (s : State) → at < length file → at < partFrom room file at s .place
 goes-further room file at s h = by (isEnd (nextAt file at)) refl
   where
     by : (b : Bool) → isEnd (nextAt file at) ≡ b → at < partFrom room file at s .place

@@ -2,7 +2,7 @@
 -- message and at the end.
 use Prim.Native.Nat.{ℕ, _+_, _-_, _≤_, _<_}
 use mathlib.Core.Path.{_≡_, refl, sym, ap, _∙_}
-use mathlib.Core.Bool.{Bool, true, false, not, cond}
+use mathlib.Core.Bool.{Bool, true, false, not, _||_, cond}
 use mathlib.Core.List.{List, [], _∷_, _++_, append-nil}
 use native.Mathlib.Omega.{arith}
 use lib.ListN.{length, take, drop, length-drop, drop-of-length-le}
@@ -12,7 +12,7 @@ use borrow.Author.Tests.{leb-false, ltb-true, ltb-false, lt-ltb, le-ltb}
 use borrow.Rule.Slice.PartMut.{putMid, same-len-mid}
 use Rattle.steps.specs.Stores.{part, splice, over}
 use Rattle.steps.specs.Steps.{Outcome, numberOf}
-use Rattle.steps.specs.Effects.{State, Result, left, laidBy}
+use Rattle.steps.specs.Effects.{State, Result, left, movedBy, laidBy}
 use Rattle.messages.specs.declared.Next.{Next}
 use Rattle.messages.specs.declared.Next.the-variants.{Message, Cut, End}
 use Rattle.messages.specs.declared.Tally.{Tally}
@@ -122,20 +122,19 @@ put-rest out used b h =
 
 -- where the loop stands at v, begun at v₀: the lengths are as at the start, `known` is the number of the rules, and the rest gives
 -- what the whole does
-pub record Going (keep : Bool) (file : List ℕ) (v₀ : Serving) (known : ℕ) (moved : Bool) (v : Serving) : Type 0 where
+pub record Going (keep : Bool) (file : List ℕ) (v₀ : Serving) (known : ℕ) (v : Serving) : Type 0 where
   pub fast-long : length (v .state .fast) ≡ length (v₀ .state .fast)
   pub slow-long : length (v .state .slow) ≡ length (v₀ .state .slow)
   pub out-long : length (v .buffer) ≡ length (v₀ .buffer)
   pub rules : known ≡ rulesOf (v .state)
   pub inside : v .used ≤ length (v₀ .buffer)
-  pub kept : moved ≡ false → v .state .tables ≡ v₀ .state .tables
   pub rest : servedAll keep (length (v₀ .buffer)) (length file) v (messagesOf (drop (v .at) file))
       ≡ servedAll keep (length (v₀ .buffer)) (length file) v₀ (messagesOf (drop (v₀ .at) file))
 
 pub going-all : (keep : Bool) (file : List ℕ) (at : ℕ) (s : State) (out : List ℕ) (n : Tally)
-    → Going keep file (serving at 0 s out n) (rulesOf s) false (serving at 0 s out n)
+    → Going keep file (serving at 0 s out n false) (rulesOf s) (serving at 0 s out n false)
 going-all keep file at s out n =
-    record { fast-long = refl; slow-long = refl; out-long = refl; rules = refl; inside = omega arith; kept = λ _. refl; rest = refl }
+    record { fast-long = refl; slow-long = refl; out-long = refl; rules = refl; inside = omega arith; rest = refl }
 
 -- where messages stand after one more, and where the buffer is full
 served-step : (keep : Bool) (room end : ℕ) (v : Serving) (x : Sent) (xs : List Sent) → full room (v .used) ≡ false
@@ -161,21 +160,25 @@ ahead-inside : (keep : Bool) (used len room : ℕ) → used + len ≤ room → a
 ahead-inside true used len room h = h
 ahead-inside false used len room h = omega arith
 
-module _ {keep : Bool} {file : List ℕ} {v₀ : Serving} {known : ℕ} {moved : Bool} {v : Serving} (q : Going keep file v₀ known moved v) where
+same-serving : {at at′ used used′ : ℕ} {s s′ : State} {out out′ : List ℕ} {n n′ : Tally} {m m′ : Bool}
+    → at ≡ at′ → used ≡ used′ → s ≡ s′ → out ≡ out′ → n ≡ n′ → m ≡ m′ → serving at used s out n m ≡ serving at′ used′ s′ out′ n′ m′
+same-serving ea eu es eo en em = cc
+
+module _ {keep : Bool} {file : List ℕ} {v₀ : Serving} {known : ℕ} {v : Serving} (q : Going keep file v₀ known v) where
   -- after a message, of which the reader says what follows: its reply laid into what is left of the buffer
-  pub going-on : (next : Next) (number laid few used′ : ℕ) (moved′ : Bool) (s′ : State) (slip′ out′ : List ℕ) (n′ : Tally)
+  pub going-on : (next : Next) (number laid few used′ : ℕ) (moved moved′ : Bool) (s′ : State) (slip′ out′ : List ℕ) (n′ : Tally)
       → let room = length (v₀ .buffer) in
       let rest = length (v .buffer) - v .used in
       let slip = take rest (drop (v .used) (v .buffer)) in
       Due file (v .at) (full room (v .used)) next → isEnd next ≡ false
-      → Served (v .state) (answer (length slip) (v .state) (sentBy file next)) slip number laid few s′ slip′
+      → Served (v .state) (answer (length slip) (v .state) (sentBy file next)) slip number moved laid few s′ slip′
       → out′ ≡ putMid (v .used) rest (v .buffer) slip′ → length slip′ ≡ length slip
       → used′ ≡ ahead keep (v .used) (cond (ltb (length slip) 70) 0 (6 + few))
       → n′ ≡ counted (v .tally) (not (eqb number 0)) laid
-      → (moved′ ≡ false → s′ .tables ≡ v₀ .state .tables)
+      → moved′ ≡ (v .moved || moved)
       → length (s′ .fast) ≡ length (v .state .fast) → length (s′ .slow) ≡ length (v .state .slow)
-      → Going keep file v₀ known moved′ (serving (pastOf (length file) next) used′ s′ out′ n′)
-  going-on next number laid few used′ moved′ s′ slip′ out′ n′ d goes a eo lo eu en kept lx ly =
+      → Going keep file v₀ known (serving (pastOf (length file) next) used′ s′ out′ n′ moved′)
+  going-on next number laid few used′ moved moved′ s′ slip′ out′ n′ d goes a eo lo eu en em lx ly =
       let room : ℕ = length (v₀ .buffer) in
       let rest : ℕ = length (v .buffer) - v .used in
       let slip : List ℕ = take rest (drop (v .used) (v .buffer)) in
@@ -202,19 +205,15 @@ module _ {keep : Bool} {file : List ℕ} {v₀ : Serving} {known : ℕ} {moved :
       ∙ ap (λ (k : ℕ). counted (v .tally) (not (eqb k 0)) laid) (a .number-is ∙ ap (λ (p : Outcome Result). numberOf p) is)
       ∙ ap (λ (b : Bool). counted (v .tally) b laid) (sym (answer-told room (v .state) x))
       ∙ ap (counted (v .tally) (isRefusal o)) (a .laid-is ∙ ap laidBy is) in
-      let one : serving (pastOf (length file) next) used′ s′ out′ n′ ≡ servedOne keep room v (passed (length file) (v .at) x) o =
-      ap (λ (k : ℕ). serving k used′ s′ out′ n′) (f .past)
-      ∙ ap (λ (k : ℕ). serving (passed (length file) (v .at) x) k s′ out′ n′) eU
-      ∙ ap (λ (k : State). serving (passed (length file) (v .at) x) (ahead keep (v .used) (length (replyIn room o))) k out′ n′) eS
-      ∙ ap (λ (k : List ℕ). serving (passed (length file) (v .at) x) (ahead keep (v .used) (length (replyIn room o))) (left (v .state) o) k n′) eO
-      ∙ ap (serving (passed (length file) (v .at) x) (ahead keep (v .used) (length (replyIn room o))) (left (v .state) o) (splice (v .buffer) (v .used) (replyIn room o))) eN in
+      let eM : moved′ ≡ (v .moved || movedBy o) = em ∙ ap (λ (b : Bool). v .moved || b) (a .moved-is ∙ ap movedBy is) in
+      let one : serving (pastOf (length file) next) used′ s′ out′ n′ moved′ ≡ servedOne keep room v (passed (length file) (v .at) x) o =
+      same-serving (f .past) eU eS eO eN eM in
       record {
         fast-long = lx ∙ q .fast-long;
         slow-long = ly ∙ q .slow-long;
         out-long = ap (λ (l : List ℕ). length l) eo ∙ same-len-mid (v .used) rest (v .buffer) slip′ lo ∙ q .out-long;
         rules = q .rules ∙ sym (rules-kept room (v .state) x) ∙ ap rulesOf (sym eS);
         inside = rw eU (ahead-inside keep (v .used) (length (replyIn room o)) room (reply-inside room (v .used) (d .roomy) (v .state) x));
-        kept = kept;
         rest =
             ap (λ (u : Serving). servedAll keep room (length file) u (messagesOf (drop (pastOf (length file) next) file))) one
             ∙ sym (served-step keep room (length file) v x (messagesOf (drop (pastOf (length file) next) file)) (d .roomy))

@@ -1,5 +1,6 @@
 -- One message, in order: no number of its own bytes is 0; it is turned back early, or it is a step; a refusal is told by its number; what
--- either leaves, as `answer` and `run` have it; the reader's answer as a message; the rules are kept; a reply is short.
+-- either leaves, as `answer` and `run` have it; the reader's answer as a message; the rules are kept; tables that did not move; a reply is
+-- short.
 use Prim.Native.Nat.{ℕ, _+_, _≤_, zero-le}
 use mathlib.Core.Path.{_≡_, refl, sym, ap, _∙_}
 use mathlib.Core.Bool.{Bool, true, false, not, cond}
@@ -9,14 +10,14 @@ use lib.ListN.{length}
 use lib.Dec.{ltb, eqb}
 use borrow.Author.Tests.{ltb-false, le-ltb, eqb-true, eqb-false, ne-eqb}
 use Rattle.tables.specs.declared.Tables.{Tables}
-use Rattle.tables.specs.Numbers.{accepted, shortSlip}
+use Rattle.tables.specs.Numbers.{accepted, shortBuffer}
 use Rattle.steps.specs.declared.Call.{Call}
 use Rattle.steps.specs.declared.Decision.{Decision}
 use Rattle.steps.specs.Stores.{part, over}
-use Rattle.steps.specs.Steps.{Outcome, refuse, accept, test, numberOf, decideAny}
-use Rattle.steps.specs.Effects.{State, Result, step, left, laidBy, dataOf}
-use Rattle.steps.specs.Promises.{stateOf, rulesNumber, decisionOf, Lent, lent, settled}
-use Rattle.steps.proofs.StepLaws.{carries, step-unruled, step-ruled, data-short, step-told}
+use Rattle.steps.specs.Steps.{Outcome, refuse, accept, test, numberOf, rulesNumber, decideAny}
+use Rattle.steps.specs.Effects.{State, Result, step, left, movedBy, laidBy, dataOf}
+use Rattle.steps.specs.Promises.{stateOf, decisionOf, Lent, lent, settled}
+use Rattle.steps.proofs.StepLaws.{carries, step-unruled, step-ruled, step-unmoved, data-short, step-told}
 use Rattle.messages.specs.declared.Parsed.{Parsed}
 use Rattle.messages.specs.declared.Parsed.the-variants.{Refused, Asked}
 use Rattle.messages.specs.declared.Next.{Next}
@@ -51,8 +52,8 @@ module _ (room : ℕ) (s : State) (x : Sent) (known : ℕ) where
   unfolding answer
   early-refused rules = by (ltb room 70) (asked x)
     where
-      by : (b : Bool) (m : Parsed) → (cond b shortSlip (askedNumber m known) ≡ accepted → ⊥)
-          → test b shortSlip (respond s m (bytesOf x)) ≡ refuse (cond b shortSlip (askedNumber m known))
+      by : (b : Bool) (m : Parsed) → (cond b shortBuffer (askedNumber m known) ≡ accepted → ⊥)
+          → test b shortBuffer (respond s m (bytesOf x)) ≡ refuse (cond b shortBuffer (askedNumber m known))
       by true m some = refl
       by false (Refused n) some = refl
       by false (Asked c) some = step-unruled s c (bytesOf x) known (rules some) some
@@ -67,7 +68,7 @@ module _ (room : ℕ) (s : State) (x : Sent) (known : ℕ) where
   unfolding answer
   passed = by (ltb room 70) refl (asked x) refl
     where
-      by : (b : Bool) → ltb room 70 ≡ b → (m : Parsed) → asked x ≡ m → cond b shortSlip (askedNumber m known) ≡ accepted → Passed
+      by : (b : Bool) → ltb room 70 ≡ b → (m : Parsed) → asked x ≡ m → cond b shortBuffer (askedNumber m known) ≡ accepted → Passed
       by true e m f h = absurd (omega arith)
       by false e (Refused n) f h = absurd (asked-some x n f h)
       by false e (Asked c) f h = record { roomy = ltb-false room 70 e; unknown = h; is-step = rw (e, f) }
@@ -82,16 +83,17 @@ answer-told room s x = by (ltb room 70) (asked x) refl
     go (accept r) h = refl
 
     by : (b : Bool) (m : Parsed) → asked x ≡ m
-        → isRefusal (test b shortSlip (respond s m (bytesOf x))) ≡ not (eqb (numberOf (test b shortSlip (respond s m (bytesOf x)))) 0)
+        → isRefusal (test b shortBuffer (respond s m (bytesOf x))) ≡ not (eqb (numberOf (test b shortBuffer (respond s m (bytesOf x)))) 0)
     by true m e = refl
     by false (Refused n) e = rw (ne-eqb n 0 (asked-some x n e))
     by false (Asked c) e = go (step s c (bytesOf x)) (step-told s c (bytesOf x))
 
 -- ---- what a message leaves
 
--- on state s, a message that comes to o: its number, the bytes laid, the length of its data, the state and the buffer
-pub record Served (s : State) (o : Outcome Result) (out : List ℕ) (number laid len : ℕ) (s′ : State) (out′ : List ℕ) : Type 0 where
+-- on state s, a message that comes to o: its number, whether the tables moved, the bytes laid, the length of its data, the state and the buffer
+pub record Served (s : State) (o : Outcome Result) (out : List ℕ) (number : ℕ) (moved : Bool) (laid len : ℕ) (s′ : State) (out′ : List ℕ) : Type 0 where
   pub number-is : number ≡ numberOf o
+  pub moved-is : moved ≡ movedBy o
   pub laid-is : laid ≡ laidBy o
   pub len-is : len ≡ length (dataOf o)
   pub state-out : s′ ≡ left s o
@@ -103,17 +105,17 @@ pub record Decided (s : State) (x : Sent) (out bs : List ℕ) (d : Decision) : T
   pub few : d .len ≤ 64
   pub served : (t′ : Tables) (fast′ slow′ out′ : List ℕ) → t′ ≡ settled (s .tables) d
       → lent fast′ slow′ out′ ≡ repliedWith d bs (lent (s .fast) (s .slow) out)
-      → Served s (answer (length out) s x) out (d .number) (d .laid) (d .len) (stateOf t′ fast′ slow′) out′
+      → Served s (answer (length out) s x) out (d .number) (d .moved) (d .laid) (d .len) (stateOf t′ fast′ slow′) out′
 
 -- the message that was parsed to m, with the early number n
 module _ (s : State) (x : Sent) (m : Parsed) (known n : ℕ) (out : List ℕ) (em : m ≡ asked x) (en : n ≡ earlyNumber m known (length out)) where
   -- turned back early
   pub served-early : (out′ : List ℕ) → ((known ≡ accepted → ⊥) → rulesOf s ≡ known) → (n ≡ accepted → ⊥)
-      → out′ ≡ over (replyIn (length out) (refuse n)) out → Served s (answer (length out) s x) out n 0 0 s out′
+      → out′ ≡ over (replyIn (length out) (refuse n)) out → Served s (answer (length out) s x) out n false 0 0 s out′
   served-early out′ rules some f =
       let e : n ≡ earlyNumber (asked x) known (length out) = rw em at en in
       let is : answer (length out) s x ≡ refuse n = early-refused (length out) s x known rules (λ z. some (e ∙ z)) ∙ ap refuse (sym e) in
-      rw is (record { number-is = refl; laid-is = refl; len-is = refl; state-out = refl; reply-out = f })
+      rw is (record { number-is = refl; moved-is = refl; laid-is = refl; len-is = refl; state-out = refl; reply-out = f })
 
   -- decided on
   pub decided : (bs : List ℕ) (d : Decision) → n ≡ accepted → bs ≡ bytesOf x
@@ -133,6 +135,7 @@ module _ (s : State) (x : Sent) (m : Parsed) (known n : ℕ) (out : List ℕ) (e
             rw is
             (record {
               number-is = k .number-is;
+              moved-is = k .moved-is;
               laid-is = k .laid-is;
               len-is = k .len-is;
               state-out =
@@ -143,17 +146,17 @@ module _ (s : State) (x : Sent) (m : Parsed) (known n : ℕ) (out : List ℕ) (e
       }
 
 -- what `answer` promises
-pub replied : (s : State) (o : Outcome Result) (out out′ : List ℕ) (s′ : State) (len : ℕ) (r : Answered)
-    → Served s o out (r .number) (r .laid) len s′ out′ → r .len ≡ cond (ltb (length out) 70) 0 (6 + len)
-    → (r .moved ≡ false → s′ .tables ≡ s .tables) → Replied s o out s′ out′ r
-replied s o out out′ s′ len r q e kept =
+pub replied : (s : State) (o : Outcome Result) (out out′ : List ℕ) (s′ : State) (len : ℕ) (moved : Bool) (r : Answered)
+    → Served s o out (r .number) moved (r .laid) len s′ out′ → r .moved ≡ moved → r .len ≡ cond (ltb (length out) 70) 0 (6 + len)
+    → Replied s o out s′ out′ r
+replied s o out out′ s′ len moved r q m e =
     record {
       number-told = q .number-is;
       len-told = e ∙ rw (q .len-is) (reply-length (length out) o);
       laid-told = q .laid-is;
       state-out = q .state-out;
       reply-out = q .reply-out;
-      kept = kept;
+      moved-told = m ∙ q .moved-is;
     }
 
 -- ---- the message that the reader yields, as the code comes to it
@@ -185,10 +188,23 @@ rules-kept room s x = by (ltb room 70) (asked x)
     go c true e = let k = eqb-true (rulesOf s) 0 e in step-ruled s c (bytesOf x) k ∙ sym k
     go c false e = ap (λ (o : Outcome Result). rulesOf (left s o)) (step-unruled s c (bytesOf x) (rulesOf s) refl (eqb-false (rulesOf s) 0 e))
 
-    by : (b : Bool) (m : Parsed) → rulesOf (left s (test b shortSlip (respond s m (bytesOf x)))) ≡ rulesOf s
+    by : (b : Bool) (m : Parsed) → rulesOf (left s (test b shortBuffer (respond s m (bytesOf x)))) ≡ rulesOf s
     by true m = refl
     by false (Refused n) = refl
     by false (Asked c) = go c (eqb (rulesOf s) 0) refl
+
+-- ---- the tables
+
+-- a message that did not move them leaves those that came in
+pub unmoved : (room : ℕ) (s : State) (x : Sent) → movedBy (answer room s x) ≡ false → leftBy room s x .tables ≡ s .tables
+unfolding answer
+unmoved room s x = by (ltb room 70) (asked x)
+  where
+    by : (b : Bool) (m : Parsed)
+        → movedBy (test b shortBuffer (respond s m (bytesOf x))) ≡ false → left s (test b shortBuffer (respond s m (bytesOf x))) .tables ≡ s .tables
+    by true m e = refl
+    by false (Refused n) e = refl
+    by false (Asked c) e = step-unmoved s c (bytesOf x) e
 
 -- ---- a reply has 70 bytes at the most
 
@@ -199,7 +215,7 @@ reply-short room s x =
     let few = by (ltb room 70) (asked x) in
     rw (← k) (under (ltb room 70) few)
   where
-    by : (b : Bool) (m : Parsed) → length (dataOf (test b shortSlip (respond s m (bytesOf x)))) ≤ 64
+    by : (b : Bool) (m : Parsed) → length (dataOf (test b shortBuffer (respond s m (bytesOf x)))) ≤ 64
     by true m = zero-le
     by false (Refused n) = zero-le
     by false (Asked c) = data-short s c (bytesOf x)

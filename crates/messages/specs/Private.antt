@@ -1,17 +1,18 @@
--- What the private functions of this layer ask of each other and promise. For the proofs alone: no exported contract names it.
+-- What the private functions of this layer ask of each other and promise. For the proofs alone: no exported contract
+-- names it.
 use Prim.Native.Nat.{ℕ, _+_, _≤_}
 use mathlib.Core.Path.{_≡_}
-use mathlib.Core.Bool.{Bool, true, false, cond}
+use mathlib.Core.Bool.{Bool, true, false, _||_, cond}
 use mathlib.Core.List.{List, [], _∷_, _++_}
 use lib.ListN.{length, drop}
 use lib.Dec.{ltb}
-use Rattle.tables.specs.Numbers.{cutShort, shortSlip}
+use Rattle.tables.specs.Numbers.{cutShort, shortBuffer}
 use Rattle.steps.specs.declared.Call.{Call}
 use Rattle.steps.specs.declared.Decision.{Decision}
 use Rattle.steps.specs.Kinds.{kindOf, callOf}
 use Rattle.steps.specs.Stores.{part, splice}
 use Rattle.steps.specs.Steps.{Outcome}
-use Rattle.steps.specs.Effects.{State, Result, left, laidBy}
+use Rattle.steps.specs.Effects.{State, Result, left, movedBy, laidBy}
 use Rattle.steps.specs.Promises.{Lent, lent, carried}
 use Rattle.messages.specs.declared.Parsed.{Parsed}
 use Rattle.messages.specs.declared.Parsed.the-variants.{Refused, Asked}
@@ -66,7 +67,7 @@ askedNumber (Asked c) known = known
 
 -- the number that turns a message back before it is decided, where `known` is 5, 6 or 0; else 0
 abbrev pub earlyNumber : Parsed → ℕ → ℕ → ℕ
-earlyNumber m known room = cond (ltb room 70) shortSlip (askedNumber m known)
+earlyNumber m known room = cond (ltb room 70) shortBuffer (askedNumber m known)
 
 -- the call of a message that asks for one
 abbrev pub callIn : Parsed → Call
@@ -104,16 +105,18 @@ repliedWith d bs l =
 
 -- ---- message after message
 
--- where they stand: the place in the file, the bytes of the buffer that are used, the state, the buffer and the tally
+-- where they stand: the place in the file, the bytes of the buffer that are used, the state, the buffer, the tally, and
+-- whether the tables moved
 pub record Serving : Type 0 where
   pub at : ℕ
   pub used : ℕ
   pub state : State
   pub buffer : List ℕ
   pub tally : Tally
+  pub moved : Bool
 
-abbrev pub serving : ℕ → ℕ → State → List ℕ → Tally → Serving
-serving at used s out n = record { at = at; used = used; state = s; buffer = out; tally = n }
+abbrev pub serving : ℕ → ℕ → State → List ℕ → Tally → Bool → Serving
+serving at used s out n m = record { at = at; used = used; state = s; buffer = out; tally = n; moved = m }
 
 -- replies that are kept go one behind the other; else each goes to the place of the one before
 abbrev pub ahead : Bool → ℕ → ℕ → ℕ
@@ -128,6 +131,7 @@ servedOne keep room v next o =
       state = left (v .state) o;
       buffer = splice (v .buffer) (v .used) (replyIn room o);
       tally = counted (v .tally) (isRefusal o) (laidBy o);
+      moved = v .moved || movedBy o;
     }
 
 -- after messages of a file of `end` bytes, until the buffer is full
@@ -139,6 +143,5 @@ servedAll keep room end v (x ∷ xs) =
 
 -- what `serve` leaves, from v on
 pub record ServeEnded (keep : Bool) (file : List ℕ) (v : Serving) (s′ : State) (out′ : List ℕ) (r : Filled) : Type 0 where
-  pub all : serving (r .at) (r .used) s′ out′ (r .tally)
+  pub all : serving (r .at) (r .used) s′ out′ (r .tally) (r .moved)
       ≡ servedAll keep (length (v .buffer)) (length file) v (messagesOf (drop (v .at) file))
-  pub kept : r .moved ≡ false → s′ .tables ≡ v .state .tables

@@ -1,12 +1,11 @@
 -- What the functions that this layer exports promise.
 use Prim.Native.Nat.{ℕ, _≤_}
 use mathlib.Core.Path.{_≡_}
-use mathlib.Core.Bool.{false}
 use mathlib.Core.List.{List, [], _∷_, _++_}
 use lib.ListN.{length, take, drop}
 use Rattle.steps.specs.Stores.{part, over}
 use Rattle.steps.specs.Steps.{Outcome, numberOf}
-use Rattle.steps.specs.Effects.{State, Result, left, laidBy}
+use Rattle.steps.specs.Effects.{State, Result, left, movedBy, laidBy}
 use Rattle.steps.specs.Promises.{stateOf}
 use Rattle.messages.specs.declared.Next.{Next}
 use Rattle.messages.specs.declared.Next.the-variants.{Message, Cut, End}
@@ -16,7 +15,7 @@ use Rattle.messages.specs.declared.Ran.{Ran}
 use Rattle.messages.specs.declared.Filled.{Filled}
 use Rattle.messages.specs.Messages.{nextAt}
 use Rattle.messages.specs.Replies.{replyIn}
-use Rattle.messages.specs.Run.{Sent, cut, whole, messagesOf, yielded, Run, buffer, tally, joinedReplies, Part, partFrom}
+use Rattle.messages.specs.Run.{Sent, cut, whole, messagesOf, yielded, Run, buffer, tally, movedIn, joinedReplies, Part, partFrom}
 
 -- what the reader yields at a place of the file: its answer, and by `yielded`, case by case, the messages from there on
 pub record Yields (file : List ℕ) (at : ℕ) (r : Next) : Type 0 where
@@ -33,32 +32,32 @@ sentBy l End = cut
 abbrev pub sentAlone : List ℕ → Sent
 sentAlone l = sentBy l (nextAt l 0)
 
--- what `answer` leaves of a message on state s that comes to o: the state s′, and the reply at the front of the buffer. Where the tables
--- did not move they are the same, and whoever holds them elsewhere need not put them back.
+-- What `answer` leaves of a message on state s that comes to o: the state s′, and the reply at the front of the buffer.
+-- Where the tables did not move they are the same (`unmoved`), and whoever holds them elsewhere need not put them back.
 pub record Replied (s : State) (o : Outcome Result) (out : List ℕ) (s′ : State) (out′ : List ℕ) (r : Answered) : Type 0 where
   pub number-told : r .number ≡ numberOf o
   pub len-told : r .len ≡ length (replyIn (length out) o)
   pub laid-told : r .laid ≡ laidBy o
   pub state-out : s′ ≡ left s o
   pub reply-out : out′ ≡ over (replyIn (length out) o) out
-  pub kept : r .moved ≡ false → s′ .tables ≡ s .tables
+  pub moved-told : r .moved ≡ movedBy o
 
 -- what `run` leaves of a run w from state s, with a tally n and a reply buffer: the state s′, the buffer and the tally
 pub record RunEnded (s : State) (w : Run) (n : Tally) (out : List ℕ) (s′ : State) (out′ : List ℕ) (r : Ran) : Type 0 where
   pub state-out : s′ ≡ w .final
   pub buffer-out : out′ ≡ buffer (length out) (w .turns) out
   pub tally-out : r .tally ≡ tally (w .turns) n
-  pub kept : r .moved ≡ false → s′ .tables ≡ s .tables
+  pub moved-told : r .moved ≡ movedIn (w .turns)
 
--- what `fill` leaves of a part w of a run from state s, with a tally n and a reply buffer: the place reached, the bytes used, the state s′,
--- the replies at the front of the buffer, one behind the other, and the tally
+-- what `fill` leaves of a part w of a run from state s, with a tally n and a reply buffer: the place reached, the bytes
+-- used, the state s′, the replies at the front of the buffer, one behind the other, and the tally
 pub record PartEnded (s : State) (w : Part) (n : Tally) (out : List ℕ) (s′ : State) (out′ : List ℕ) (r : Filled) : Type 0 where
   pub place-told : r .at ≡ w .place
   pub used-told : r .used ≡ length (joinedReplies (length out) (w .turns))
   pub state-out : s′ ≡ w .final
   pub buffer-out : out′ ≡ over (joinedReplies (length out) (w .turns)) out
   pub tally-out : r .tally ≡ tally (w .turns) n
-  pub kept : r .moved ≡ false → s′ .tables ≡ s .tables
+  pub moved-told : r .moved ≡ movedIn (w .turns)
 
 -- ---- parts of a run, one after the other: "One reply buffer serves the whole run and is emptied by the caller between turns"
 
@@ -74,7 +73,8 @@ pub record FillCall : Type 0 where
 abbrev pub stateAt : FillCall → State
 stateAt k = stateOf (k .result .tables) (k .fast′) (k .slow′)
 
--- calls on a file with buffers of 70 bytes or more, from a place, a state and a tally on; each goes on where the one before it left off
+-- calls on a file with buffers of 70 bytes or more, from a place, a state and a tally on; each goes on where the one
+-- before it left off
 abbrev pub FillCalls : List ℕ → ℕ → State → Tally → List FillCall → Type 0
 FillCalls file at s n [] = Unit {0}
 FillCalls file at s n (k ∷ ks) =

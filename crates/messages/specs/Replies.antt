@@ -16,8 +16,8 @@ be16 n = n / 256 % 256 ∷ n % 256 ∷ []
 abbrev pub be16At : List ℕ → ℕ → ℕ
 be16At l at = getD l at 0 * 256 + getD l (at + 1) 0
 
--- "A reply is L, version 1, the number (0 accepted), bytes laid in two bytes big-endian, then the bytes of a read or look."
--- "A refusal is 00 04 01 nn 00 00."
+-- "A reply is L, version 1, the number (0 accepted), bytes laid in two bytes big-endian, then the bytes of a read or
+-- look." "A refusal is 00 04 01 nn 00 00."
 unfoldable pub reply : Outcome Result → List ℕ
 reply (refuse n) = 0 ∷ 4 ∷ 1 ∷ n ∷ 0 ∷ 0 ∷ []
 reply (accept r) = be16 (4 + length (r .data-out)) ++ (1 ∷ accepted ∷ be16 (r .laid) ++ r .data-out)

@@ -1,13 +1,13 @@
 -- Document 01, "Call files and replies": one message, and the run over a call file.
 use Prim.Native.Nat.{ℕ, zero, suc, _+_, _-_, _*_}
-use mathlib.Core.Bool.{Bool, cond}
+use mathlib.Core.Bool.{Bool, false, _||_, cond}
 use mathlib.Core.List.{List, [], _∷_, map, flatten}
 use lib.ListN.{length, take, drop}
 use lib.Dec.{ltb}
-use Rattle.tables.specs.Numbers.{cutShort, shortSlip}
+use Rattle.tables.specs.Numbers.{cutShort, shortBuffer}
 use Rattle.steps.specs.Stores.{part, over}
 use Rattle.steps.specs.Steps.{Outcome, refuse, test}
-use Rattle.steps.specs.Effects.{State, Result, step, left, laidBy}
+use Rattle.steps.specs.Effects.{State, Result, step, left, movedBy, laidBy}
 use Rattle.messages.specs.declared.Parsed.{Parsed}
 use Rattle.messages.specs.declared.Parsed.the-variants.{Refused, Asked}
 use Rattle.messages.specs.declared.Next.{Next}
@@ -37,7 +37,7 @@ respond s (Asked c) bs = step s c bs
 
 -- One message, with a reply buffer of `room` bytes: 18, 1, 2, 3, 4, and then the step.
 unfoldable pub answer : ℕ → State → Sent → Outcome Result
-answer room s x = test (ltb room 70) shortSlip (respond s (asked x) (bytesOf x))
+answer room s x = test (ltb room 70) shortBuffer (respond s (asked x) (bytesOf x))
 
 -- a turn of a run: the state that it found, the message, and what that came to
 pub record Turn : Type 0 where
@@ -53,8 +53,8 @@ leftBy room s x = left s (answer room s x)
 
 -- ---- the run over a call file
 
--- The messages of a file l, at most k of them: "a 2-byte big-endian length L of what follows"; "Every message is passed over by its L,
--- refused or not; one cut short ends the file"; 1: "one byte left, or fewer than L after the length".
+-- The messages of a file l, at most k of them: "a 2-byte big-endian length L of what follows"; "Every message is passed
+-- over by its L, refused or not; one cut short ends the file"; 1: "one byte left, or fewer than L after the length".
 unfoldable pub split : ℕ → List ℕ → List Sent
 split zero l = []
 split (suc k) [] = []
@@ -66,8 +66,8 @@ split (suc k) (a ∷ b ∷ l) =
 unfoldable pub messagesOf : List ℕ → List Sent
 messagesOf file = split (length file) file
 
--- What the reader's answer `Next` says, case by case, of the messages from its place on: at the end none; cut short, the one message that is
--- answered 1; else the L bytes of a message, and those that follow it.
+-- What the reader's answer `Next` says, case by case, of the messages from its place on: at the end none; cut short,
+-- the one message that is answered 1; else the L bytes of a message, and those that follow it.
 abbrev pub yielded : List ℕ → Next → List Sent
 yielded file End = []
 yielded file Cut = cut ∷ []
@@ -105,13 +105,19 @@ unfoldable pub tally : List Turn → Tally → Tally
 tally [] n = n
 tally (t ∷ ts) n = tally ts (counted n (isRefusal (t .outcome)) (laidBy (t .outcome)))
 
+-- whether one of the messages moved the tables: where none did, they are those that came in (`unmoved-end`,
+-- `unmoved-after`)
+unfoldable pub movedIn : List Turn → Bool
+movedIn [] = false
+movedIn (t ∷ ts) = movedBy (t .outcome) || movedIn ts
+
 -- ---- a part of a run: its replies one behind the other, as far as the buffer takes them
 
 abbrev pub joinedReplies : ℕ → List Turn → List ℕ
 joinedReplies room ts = flatten (replies room ts)
 
--- A buffer of which so many bytes are used is full where fewer than 70 are left. One below 70 bytes takes no reply, so that none
--- are ever used, and it is never full.
+-- A buffer of which so many bytes are used is full where fewer than 70 are left. One below 70 bytes takes no reply, so
+-- that none are ever used, and it is never full.
 abbrev pub full : ℕ → ℕ → Bool
 full room used = ltb (room - 70) used
 

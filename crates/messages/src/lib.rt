@@ -28,9 +28,9 @@ pub const UNKNOWN_KIND: u8 = 3;
 pub const WRONG_LENGTH: u8 = 4;
 
 // The number of a message whose reply buffer is below 70 bytes.
-pub const SHORT_SLIP: u8 = 18;
+pub const SHORT_BUFFER: u8 = 18;
 
-// A message's own bytes: turned back with 2, 3 or 4, or a call.
+// What a message's own bytes come to: a number that turns it back, 1 to 4, or a call.
 pub enum Parsed {
     Refused { number: u8 },
     Asked { call: Call },
@@ -61,9 +61,9 @@ pub struct Tally {
     pub laid: u32,
 }
 
-// What a message comes to: its number, the length of its reply, the bytes laid, and the tables; where `moved` is false they
-// are as they were. Here and below `tables` stands before `moved`: a byte before the tables would be padded, at the price
-// of one more copy of them.
+// What a message comes to: its number, the length of its reply, the bytes laid, the tables, and whether it moved them;
+// where it did not they are as they were. Here and below `tables` stands before `moved`: a byte before the tables would
+// be padded, at the price of one more copy of them.
 pub struct Answered {
     pub number: u8,
     pub len: usize,
@@ -72,14 +72,15 @@ pub struct Answered {
     pub moved: bool,
 }
 
-// What a run leaves.
+// What a run leaves: the tables, whether one of its messages moved them, and the tally.
 pub struct Ran {
     pub tables: Tables,
     pub moved: bool,
     pub tally: Tally,
 }
 
-// What a part of a run leaves: the place of the file that it reached, and the bytes of the reply buffer that it used.
+// What a part of a run leaves: the place of the file that it reached, the bytes of the reply buffer that it used, and
+// what a run leaves.
 pub struct Filled {
     pub at: usize,
     pub used: usize,

@@ -5,7 +5,7 @@ use crate::Filled;
 use crate::Next;
 use crate::Parsed;
 use crate::Ran;
-use crate::SHORT_SLIP;
+use crate::SHORT_BUFFER;
 use crate::Tally;
 use crate::parse::parse;
 use crate::parse::write_bytes;
@@ -16,13 +16,14 @@ use crate::replies::reply_refusal;
 use crate::tallies::tally_after;
 use steps::ACCEPTED;
 use steps::Call;
+use steps::decide;
+use steps::decide_any;
 use steps::form_of;
-use steps::judge;
-use steps::judge_any;
 use steps::rules;
 use steps::settle;
 use tables::Tables;
 ghost use mathlib.Core.Path.{_≡_};
+ghost use mathlib.Core.Bool.{false};
 ghost use lib.ListN.{length};
 ghost use Rattle.steps.specs.Promises.{stateOf};
 ghost use Prim.Native.Nat.{_+_, _-_, _<_};
@@ -35,7 +36,7 @@ fn early_number(parsed: Parsed, known: u8, room: usize) -> u8
     ensures { λ r. ⌜ r ≡ earlyNumber parsed known room ⌝ }
 {
     if room < 70 {
-        return SHORT_SLIP;
+        return SHORT_BUFFER;
     }
     match parsed {
         Parsed::Refused { number } => number,
@@ -107,7 +108,7 @@ pub fn answer(
     }
     let call = call_in(parsed);
     let bytes = write_bytes(m);
-    let d = judge_any(tables, call, bytes.len(), fast.len(), slow.len());
+    let d = decide_any(tables, call, bytes.len(), fast.len(), slow.len());
     reply_decided(d, bytes, fast, slow, out);
     if d.moved {
         let left = settle(tables, d);
@@ -174,9 +175,9 @@ fn ahead(keep: bool, used: usize, len: usize) -> usize
     if keep { used + len } else { used }
 }
 
-// Message after message from a place of the file on, each on the tables and stores that the one before it left; the tally
-// is brought up to date after each. Replies that are kept go one behind the other, until the buffer is full; else each
-// goes to the front. The rules are tested once for all of them: every step keeps them.
+// Message after message from a place of the file on, each on the tables and stores that the one before it left; the
+// tally is brought up to date after each. Replies that are kept go one behind the other, until the buffer is full; else
+// each goes to the front. The rules are tested once for all of them: every step keeps them.
 fn serve(
     mut tables: Tables,
     fast: &mut [u8],
@@ -188,7 +189,7 @@ fn serve(
     keep: bool,
 ) -> Filled
     ensures { λ r. ⌜ ServeEnded keep (now (file .entry))
-        (serving at 0 (stateOf tables (now (fast .entry)) (now (slow .entry))) (now (out .entry)) tally)
+        (serving at 0 (stateOf tables (now (fast .entry)) (now (slow .entry))) (now (out .entry)) tally false)
         (stateOf (r .tables) (now (fast .exit)) (now (slow .exit))) (now (out .exit)) r ⌝ }
 {
     let known = rules(tables, fast.len(), slow.len());
@@ -219,7 +220,7 @@ fn serve(
         } else {
             let call = call_in(parsed);
             let bytes = write_bytes(m);
-            let d = judge(tables, call, bytes.len());
+            let d = decide(tables, call, bytes.len());
             reply_decided(d, bytes, fast, slow, slip);
             used = ahead(keep, used, 6 + d.len);
             tally = tally_after(tally, d.number != ACCEPTED, d.laid);

@@ -1,5 +1,5 @@
 -- The reader. In order: the numbers of the table; the data of a look at a page; what is known of a reply, and where the reader accepts one; a
--- reply at the front of bytes.
+-- reply at the front of bytes; what is read of it, case by case.
 use Prim.Native.Nat.{ℕ, _+_, _-_, _*_, _/_, _%_, _≤_, _<_}
 use mathlib.Core.Path.{_≡_, refl, sym, ap, subst, _∙_}
 use mathlib.Core.Bool.{Bool, true, false, not, _&&_, _||_, cond, true≢false}
@@ -18,12 +18,17 @@ use Rattle.steps.specs.declared.Data.the-variants.{Empty, Bytes, Copies, Holder
 use Rattle.steps.specs.Kinds.{tells, isUnknown, kindOf}
 use Rattle.steps.specs.Data.{isMark, copyMarked, eachIs, many, formed}
 use Rattle.steps.specs.Stores.{part}
+use Rattle.steps.specs.Steps.{accept, test}
 use Rattle.steps.proofs.StoreLaws.{part-part}
 use Rattle.messages.specs.declared.Next.{Next}
 use Rattle.messages.specs.declared.Next.the-variants.{Message, Cut, End}
 use Rattle.messages.specs.Messages.{isForeign, nextAt}
+use Rattle.messages.specs.Run.{whole}
+use Rattle.messages.specs.Promises.{sentBy, sentAlone}
+use Rattle.stations.specs.declared.Reading.{Reading}
 use Rattle.stations.specs.declared.Reading.the-variants.{Refused, Reply}
-use Rattle.stations.specs.Reader.{numberIn, laidTold, dataIn, isRefusalReply, isReply, readBody, readNext, readReply}
+use Rattle.stations.specs.Reader.{numberIn, laidTold, dataIn, isRefusalReply, isReply, readBody, readNext, readReply, told, readingOf, replyTold}
+use Rattle.stations.specs.Promises.{ReadOf}
 use Rattle.stations.proofs.FrontLaws.{next-front, part-front, Front, front-of, front-taken}
 
 -- ---- the table
@@ -211,17 +216,21 @@ read-ends kind l number laid start len e = ends-of (accepted-of kind l number la
         let end : a .end ≡ start + len = omega (arith, a .front .ends, a .front .long, a .start-is, a .len-is, length-drop 4 m) in
         record { start = a .at; len = a .size; found = subst (λ (n : ℕ). nextAt l 0 ≡ Message (a .at) (a .size) n) end (a .found) }
 
--- where they stand
+-- where the data of a reply stand
+data-front : (k : Kind) (l : List ℕ) (at size end : ℕ) → Front l at size end → isReply k (part l 2 size) ≡ true
+    → drop 4 (part l 2 size) ≡ part l 6 (length (drop 4 (part l 2 size)))
+unfolding part
+data-front k l at size end f is =
+    let m = part l 2 size in
+    let long = f .long in
+    let least = reply-long k m is in
+    let inside : 2 + size ≤ length l = omega (arith, ap length (f .is), length-append m (f .rest)) in
+    sym (take-length (drop 4 m)) ∙ part-part l 2 size 4 (length (drop 4 m)) inside (omega (arith, length-drop 4 m))
+
 data-at : (kind : ℕ) (l : List ℕ) (number laid start len : ℕ) (a : Accepted kind l number laid start len)
     → drop 4 (part l 2 (a .size)) ≡ part l start len
-unfolding part
 data-at kind l number laid start len a =
-    let f = a .front in
-    let m = part l 2 (a .size) in
-    let long = f .long in
-    let least = reply-long (kindOf kind) m (a .is-reply) in
-    let inside : 2 + a .size ≤ length l = omega (arith, ap length (f .is), length-append m (f .rest)) in
-    sym (take-length (drop 4 m)) ∙ part-part l 2 (a .size) 4 (length (drop 4 m)) inside (omega (arith, length-drop 4 m)) ∙ rw (a .start-is, a .len-is) refl
+    data-front (kindOf kind) l (a .at) (a .size) (a .end) (a .front) (a .is-reply) ∙ rw (a .start-is, a .len-is) refl
 
 -- and they all stand there
 pub read-long : (kind : ℕ) (l : List ℕ) (number laid start len : ℕ) → readReply kind l ≡ Reply number laid start len → length (part l start len) ≡ len
@@ -267,3 +276,31 @@ read-whole kind l number laid start len bytes e = whole-of (accepted-of kind l n
         ap (λ (n : ℕ). take n l) end ∙ front-taken l (a .at) (a .size) (a .end) f
         ∙ ap (λ (x : List ℕ). f .high ∷ f .low ∷ x) (four-first m least)
         ∙ rw (high, low, version, first, second, ← a .number-is) (ap (λ (x : List ℕ). 0 ∷ (4 + len) ∷ 1 ∷ number ∷ laid / 256 ∷ laid % 256 ∷ x) (data-at kind l number laid start len a))
+
+-- ---- what is read, case by case
+
+reading-meant : (kind : ℕ) (l : List ℕ) → readingOf l (readReply kind l) ≡ replyTold kind (sentAlone l)
+unfolding readReply
+reading-meant kind l = next (nextAt l 0) refl
+  where
+    body : (m : List ℕ) (a b c : Bool) → (c ≡ true → dataIn m ≡ part l 6 (length (dataIn m)))
+        → readingOf l (cond a (Refused foreignVersion)
+        (cond b (Refused unknownKind) (cond c (Reply (numberIn m) (laidTold m) 6 (length (dataIn m))) (Refused wrongLength))))
+        ≡ test a foreignVersion (test b unknownKind (test (not c) wrongLength (accept (told (numberIn m) (laidTold m) (dataIn m)))))
+    body m true b c k = refl
+    body m false true c k = refl
+    body m false false false k = refl
+    body m false false true k = ap (λ (d : List ℕ). accept (told (numberIn m) (laidTold m) d)) (sym (k refl))
+
+    next : (n : Next) → nextAt l 0 ≡ n → readingOf l (readNext kind l n) ≡ replyTold kind (sentBy l n)
+    next (Message at size end) e =
+        let f = front-of l at size end e in
+        let m = part l 2 size in
+        subst (λ (x : ℕ). readingOf l (readBody kind (part l x size)) ≡ replyTold kind (whole (part l x size))) (sym (f .starts))
+        (body m (isForeign m) (isUnknown kind) (isReply (kindOf kind) m) (data-front (kindOf kind) l at size end f))
+    next Cut e = refl
+    next End e = refl
+
+-- so the answer has what `read_reply` promises
+pub read-of : (kind : ℕ) (l : List ℕ) (r : Reading) → r ≡ readReply kind l → ReadOf kind l r
+read-of kind l r e = record { told = e; meant = ap (readingOf l) e ∙ reading-meant kind l }

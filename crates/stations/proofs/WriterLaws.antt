@@ -11,19 +11,19 @@ use lib.Seq.{length-take-le, take-append-add, take-all, drop-drop, drop-cons}
 use lib.Dec.{leb, ltb, eqb}
 use borrow.Author.Tests.{lt-ltb, le-ltb, ltb-true, ltb-false, leb-true, eqb-true, eqb-false}
 use Rattle.tables.specs.Lists.{all}
-use Rattle.tables.specs.Numbers.{unknownKind, outOfRange, shortSlip}
+use Rattle.tables.specs.Numbers.{accepted, unknownKind, shortBuffer}
 use Rattle.tables.proofs.ListLaws.{and-left, and-right, or-left, or-right, all-at}
 use Rattle.steps.specs.declared.Kind.{Kind}
 use Rattle.steps.specs.declared.Kind.the-variants.{Create, DeletePage, Grant, Read, Write, MakeCopy, DeleteCopy, SetCurrent, RemoveCurrent, LookPage, LookFrame, Retire}
 use Rattle.steps.specs.declared.Call.{Call}
 use Rattle.steps.specs.Kinds.{Name, offset, bytes, names, kinds, kindNumber, isUnknown, kindOf, code, among, has, leastLength, mostLength, argument, callOf, value, values}
-use Rattle.steps.specs.Calls.{nameOutside, frameOutside, badSpan, spanOutside, outside}
-use Rattle.steps.specs.Stores.{splice, over}
-use Rattle.steps.specs.Steps.{Outcome, refuse, accept, test, ranged}
+use Rattle.steps.specs.Calls.{badSpan, outside}
+use Rattle.steps.specs.Stores.{splice, splicedWithin, over}
+use Rattle.steps.specs.Steps.{Outcome, refuse, accept, guarded}
 use Rattle.steps.proofs.KindLaws.{kind-numbered, number-known, each-kind, number-kind}
-use Rattle.steps.proofs.StoreLaws.{splice-front, splice-right}
-use Rattle.steps.proofs.RangeLaws.{ranged-once}
-use Rattle.steps.proofs.DecideLaws.{span-within}
+use Rattle.steps.proofs.StoreLaws.{length-splice, laid-fitting, splice-front, splice-right}
+use Rattle.steps.proofs.GuardLaws.{turned-back, passed}
+use Rattle.steps.proofs.RangeLaws.{span-within, ranged}
 use Rattle.messages.specs.Replies.{be16}
 use Rattle.stations.specs.declared.Written.{Written}
 use Rattle.stations.specs.Writer.{messageOf, named, composed, written, writtenAs, messageIn}
@@ -84,16 +84,16 @@ pub count-least : (k : Kind) (b : Bool) → has bytes k ≡ b → count k ≡ co
 count-least k b q = ap (λ (x : Bool). cond x (leastLength k - 3) (leastLength k - 2)) (longer k ∙ q)
 
 -- the bytes of a call in range are 1 to 64
-pub span-short : (c : Call) (size : ℕ) → outside 254 size c ≡ false → has bytes (c .kind) ≡ true → (1 ≤ size) × (size ≤ 64)
+pub span-short : (c : Call) (size : ℕ) → outside 254 size c ≡ accepted → has bytes (c .kind) ≡ true → (1 ≤ size) × (size ≤ 64)
 span-short c size e q =
-    let span : spanOutside size c ≡ false = or-right (frameOutside 254 c) _ (or-right (nameOutside c) _ e) in
+    let span = ranged 254 size c e .span-in in
     let bad : badSpan (c .offset) size ≡ false = rw (and-left (has offset (c .kind)) _ (with-bytes (c .kind) q), q) at span in
     let w = span-within (c .offset) size bad in
     let some = eqb-false size 0 (or-left (eqb size 0) _ (or-right (ltb 63 (c .offset)) _ bad)) in
     (omega arith, omega arith)
 
 -- so a message in range has 71 bytes at the most, and as many as its kind's have
-pub short-message : (c : Call) (bs : List ℕ) → outside 254 (length bs) c ≡ false → count (c .kind) + length (ending (c .kind) bs) ≤ 67
+pub short-message : (c : Call) (bs : List ℕ) → outside 254 (length bs) c ≡ accepted → count (c .kind) + length (ending (c .kind) bs) ≤ 67
 short-message c bs e = go (has bytes (c .kind)) refl
   where
     go : (b : Bool) → has bytes (c .kind) ≡ b → count (c .kind) + length (ending (c .kind) bs) ≤ 67
@@ -103,7 +103,7 @@ short-message c bs e = go (has bytes (c .kind)) refl
         rw (ending-is (c .kind) bs true q) (omega arith)
     go false q = rw (ending-is (c .kind) bs false q) (omega (arith, few-singles (c .kind)))
 
-pub length-fits : (c : Call) (bs : List ℕ) → outside 254 (length bs) c ≡ false
+pub length-fits : (c : Call) (bs : List ℕ) → outside 254 (length bs) c ≡ accepted
     → (leastLength (c .kind) ≤ 2 + (count (c .kind) + length (ending (c .kind) bs)))
     × (2 + (count (c .kind) + length (ending (c .kind) bs)) ≤ mostLength (c .kind))
 length-fits c bs e = go (has bytes (c .kind)) refl
@@ -212,9 +212,12 @@ four-long c = simp (length-drop, length-set) (omega (arith, few-singles (c .kind
 -- ---- a message as the code lays it
 
 -- its first bytes, and then those that end it
-pub parts-laid : (h t out mid last : List ℕ) (n : ℕ) → length h ≡ n → mid ≡ splice out 0 h → last ≡ splice mid n t → last ≡ over (h ++ t) out
-parts-laid h t out mid last n e first second =
-    second ∙ ap (λ (l : List ℕ). splice l n t) (first ∙ splice-front out h)
+pub parts-laid : (h t out mid last : List ℕ) (n : ℕ) → mid ≡ splicedWithin out 0 h → last ≡ splicedWithin mid n t
+    → length h ≡ n → n + length t ≤ length out → last ≡ over (h ++ t) out
+parts-laid h t out mid last n first second e room =
+    let one : mid ≡ splice out 0 h = first ∙ laid-fitting out 0 h (omega arith) in
+    let kept : length mid ≡ length out = ap length one ∙ length-splice out 0 h (omega arith) in
+    second ∙ laid-fitting mid n t (omega arith) ∙ ap (λ (l : List ℕ). splice l n t) (one ∙ splice-front out h)
     ∙ ap (λ (k : ℕ). splice (over h out) k t) (let k : n ≡ length h + 0 = omega arith in k) ∙ splice-right h (drop (length h) out) 0 t
     ∙ ap (λ (l : List ℕ). h ++ l) (splice-front (drop (length h) out) t ∙ ap (λ (l : List ℕ). t ++ l) (drop-drop (length t) (length h) out))
     ∙ sym (append-assoc h t (drop (length h + length t) out)) ∙ ap (λ (k : ℕ). (h ++ t) ++ drop k out) (sym (length-append h t))
@@ -232,7 +235,7 @@ module _ (k : Kind) (r bs : List ℕ) where
       ∙ ap (λ (n : ℕ). n + length (ending k bs)) (simp length-take (omega arith))
 
   -- its message
-  pub message-of : outside 254 (length bs) (callOf k r) ≡ false → count k ≤ length r
+  pub message-of : outside 254 (length bs) (callOf k r) ≡ accepted → count k ≤ length r
       → messageOf (callOf k r) bs ≡ laidMessage (kindNumber k) (leastLength k) (mostLength k) r bs
   unfolding callOf
   message-of e h =
@@ -248,7 +251,7 @@ module _ (k : Kind) (r bs : List ℕ) where
       (take-append-add (0 ∷ (2 + count k + length (ending k bs)) ∷ 1 ∷ kindNumber k ∷ []) r (count k))))
 
   -- there is room for it
-  pub room-for : (out : List ℕ) → outside 254 (length bs) (callOf k r) ≡ false → 71 ≤ length out → MessageRoom (leastLength k) (mostLength k) bs out
+  pub room-for : (out : List ℕ) → outside 254 (length bs) (callOf k r) ≡ accepted → 71 ≤ length out → MessageRoom (leastLength k) (mostLength k) bs out
   unfolding callOf
   room-for out e h = record { lengths = lengths k; few = few-singles k; short = short-message (callOf k r) bs e; room = h }
 
@@ -256,20 +259,17 @@ module _ (k : Kind) (r bs : List ℕ) where
   unfolding callOf
   named-made = kind-laws k (callOf k r) r bs .made-again
 
-composed-once : (c : Call) (bs : List ℕ) → composed c bs ≡ test (outside 254 (length bs) (named c)) outOfRange (accept (messageOf c bs))
-composed-once c bs = ranged-once 254 (length bs) (named c) (accept (messageOf c bs))
-
-pub written-inside : (room : ℕ) (c : Call) (bs : List ℕ) → 71 ≤ room → outside 254 (length bs) (named c) ≡ false
+pub written-inside : (room : ℕ) (c : Call) (bs : List ℕ) → 71 ≤ room → outside 254 (length bs) (named c) ≡ accepted
     → written room c bs ≡ accept (messageOf c bs)
 unfolding written
-written-inside room c bs h e = rw (le-ltb room 71 h) (composed-once c bs ∙ rw e refl)
+written-inside room c bs h e = rw (le-ltb room 71 h) (passed _ (accept (messageOf c bs)) e)
 
 -- of a kind byte, with arguments r
 module _ (room kind : ℕ) (r bs : List ℕ) where
   abbrev k : Kind
   k = kindOf kind
 
-  pub as-short : room < 71 → writtenAs room kind r bs ≡ refuse shortSlip
+  pub as-short : room < 71 → writtenAs room kind r bs ≡ refuse shortBuffer
   unfolding writtenAs
   as-short h = rw (lt-ltb room 71 h)
 
@@ -278,31 +278,36 @@ module _ (room kind : ℕ) (r bs : List ℕ) where
   as-unknown h e = rw (le-ltb room 71 h, e)
 
   as-known : 71 ≤ room → isUnknown kind ≡ false
-      → writtenAs room kind r bs ≡ test (outside 254 (length bs) (callOf k r)) outOfRange (accept (messageOf (callOf k r) bs))
+      → writtenAs room kind r bs ≡ guarded (outside 254 (length bs) (callOf k r)) (accept (messageOf (callOf k r) bs))
   unfolding writtenAs
   as-known h e =
       rw (le-ltb room 71 h, e)
-      (composed-once (callOf k r) bs
-      ∙ ap (λ (d : Call). test (outside 254 (length bs) d) outOfRange (accept (messageOf (callOf k r) bs))) (named-made k r bs))
+      (ap (λ (d : Call). guarded (outside 254 (length bs) d) (accept (messageOf (callOf k r) bs))) (named-made k r bs))
 
-  pub as-outside : 71 ≤ room → isUnknown kind ≡ false → outside 254 (length bs) (callOf k r) ≡ true → writtenAs room kind r bs ≡ refuse outOfRange
-  as-outside h e o = as-known h e ∙ rw o refl
+  pub as-outside : 71 ≤ room → isUnknown kind ≡ false → (n : ℕ) → n ≡ outside 254 (length bs) (callOf k r) → (n ≡ accepted → ⊥)
+      → writtenAs room kind r bs ≡ refuse n
+  as-outside h e n is o = as-known h e ∙ rw (← is) (turned-back n (accept (messageOf (callOf k r) bs)) o)
 
-  pub as-inside : 71 ≤ room → isUnknown kind ≡ false → outside 254 (length bs) (callOf k r) ≡ false → count k ≤ length r
+  pub as-inside : 71 ≤ room → isUnknown kind ≡ false → outside 254 (length bs) (callOf k r) ≡ accepted → count k ≤ length r
       → writtenAs room kind r bs ≡ accept (laidMessage kind (leastLength k) (mostLength k) r bs)
   as-inside h e o n =
-      as-known h e ∙ rw (o, message-of k r bs o n) (ap (λ (x : ℕ). accept (laidMessage x (leastLength k) (mostLength k) r bs)) (number-kind kind e))
+      as-known h e ∙ passed _ (accept (messageOf (callOf k r) bs)) o ∙ rw (message-of k r bs o n) (ap (λ (x : ℕ). accept (laidMessage x (leastLength k) (mostLength k) r bs)) (number-kind kind e))
 
 -- a message has 71 bytes at the most
 laid-short : (room kind : ℕ) (r bs : List ℕ) → 4 ≤ length r → length (messageIn (writtenAs room kind r bs)) ≤ 71
-laid-short room kind r bs h = go (ltb room 71) refl (isUnknown kind) refl (outside 254 (length bs) (callOf (kindOf kind) r)) refl
+laid-short room kind r bs h =
+    go (ltb room 71) refl (isUnknown kind) refl (eqb (outside 254 (length bs) (callOf (kindOf kind) r)) accepted) refl
   where
-    go : (a : Bool) → ltb room 71 ≡ a → (b : Bool) → isUnknown kind ≡ b → (c : Bool) → outside 254 (length bs) (callOf (kindOf kind) r) ≡ c
+    go : (a : Bool) → ltb room 71 ≡ a → (b : Bool) → isUnknown kind ≡ b
+        → (c : Bool) → eqb (outside 254 (length bs) (callOf (kindOf kind) r)) accepted ≡ c
         → length (messageIn (writtenAs room kind r bs)) ≤ 71
     go true e b f c g = subst (λ (o : Outcome (List ℕ)). length (messageIn o) ≤ 71) (sym (as-short room kind r bs (ltb-true room 71 e))) (omega arith)
     go false e true f c g = subst (λ (o : Outcome (List ℕ)). length (messageIn o) ≤ 71) (sym (as-unknown room kind r bs (ltb-false room 71 e) f)) (omega arith)
-    go false e false f true g = subst (λ (o : Outcome (List ℕ)). length (messageIn o) ≤ 71) (sym (as-outside room kind r bs (ltb-false room 71 e) f g)) (omega arith)
     go false e false f false g =
+        subst (λ (o : Outcome (List ℕ)). length (messageIn o) ≤ 71)
+        (sym (as-outside room kind r bs (ltb-false room 71 e) f _ refl (eqb-false _ accepted g))) (omega arith)
+    go false e false f true g′ =
+        let g = eqb-true (outside 254 (length bs) (callOf (kindOf kind) r)) accepted g′ in
         let few = few-singles (kindOf kind) in
         let short = room-for (kindOf kind) r bs (replicate 71 0) g (omega arith) .short in
         subst (λ (o : Outcome (List ℕ)). length (messageIn o) ≤ 71)
@@ -333,8 +338,8 @@ same-message c bs =
 
 composed-named : (c : Call) (bs : List ℕ) → composed (named c) bs ≡ composed c bs
 composed-named c bs =
-    ap (λ (d : Call). ranged 254 (length bs) d (accept (messageOf (named c) bs))) (named-made (c .kind) (values (names (c .kind)) c []) bs)
-    ∙ ap (λ (m : List ℕ). ranged 254 (length bs) (named c) (accept m)) (same-message c bs)
+    ap (λ (d : Call). guarded (outside 254 (length bs) d) (accept (messageOf (named c) bs))) (named-made (c .kind) (values (names (c .kind)) c []) bs)
+    ∙ ap (λ (m : List ℕ). guarded (outside 254 (length bs) (named c)) (accept m)) (same-message c bs)
 
 -- of a known kind byte
 pub written-known : (room kind : ℕ) (r bs : List ℕ) → isUnknown kind ≡ false → writtenAs room kind r bs ≡ written room (callOf (kindOf kind) r) bs

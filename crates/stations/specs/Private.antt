@@ -1,4 +1,5 @@
--- What the private functions of this layer ask of each other and promise. For the proofs alone: no exported contract names it.
+-- What the private functions of this layer ask of each other and promise. For the proofs alone: no exported contract
+-- names it.
 use Prim.Native.Nat.{ℕ, _+_, _-_, _<_, _≤_}
 use mathlib.Core.Bool.{cond}
 use mathlib.Core.List.{List, [], _∷_, _++_}

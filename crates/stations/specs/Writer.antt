@@ -3,13 +3,15 @@ use Prim.Native.Nat.{ℕ}
 use mathlib.Core.List.{List, [], _∷_, _++_}
 use lib.ListN.{length}
 use lib.Dec.{ltb}
-use Rattle.tables.specs.Numbers.{unknownKind, shortSlip}
+use Rattle.tables.specs.Numbers.{unknownKind, shortBuffer}
 use Rattle.steps.specs.declared.Call.{Call}
 use Rattle.steps.specs.Kinds.{names, kindNumber, isUnknown, kindOf, callOf, values}
-use Rattle.steps.specs.Steps.{Outcome, refuse, accept, test, ranged}
+use Rattle.steps.specs.Calls.{outside}
+use Rattle.steps.specs.Steps.{Outcome, refuse, accept, test, guarded}
 use Rattle.messages.specs.Replies.{be16}
 
--- Document 01: "a version byte 1, a kind byte .., then the arguments in the order above, one byte each; write ends with 1 to 64 bytes"
+-- Document 01: "a version byte 1, a kind byte .., then the arguments in the order above, one byte each; write ends with
+-- 1 to 64 bytes"
 abbrev pub body : Call → List ℕ → List ℕ
 body c bs = 1 ∷ kindNumber (c .kind) ∷ values (names (c .kind)) c bs
 
@@ -23,16 +25,17 @@ named c = callOf (c .kind) (values (names (c .kind)) c [])
 
 -- "7 as document 01 does, with frames up to 253 in range", or the message
 abbrev pub composed : Call → List ℕ → Outcome (List ℕ)
-composed c bs = ranged 254 (length bs) (named c) (accept (messageOf c bs))
+composed c bs = guarded (outside 254 (length bs) (named c)) (accept (messageOf c bs))
 
--- "The writer gives 18 for a buffer below 71 bytes, then 7": what a call with a write's bytes bs comes to in a buffer of `room` bytes
+-- "The writer gives 18 for a buffer below 71 bytes, then 7": what a call with a write's bytes bs comes to in a buffer
+-- of `room` bytes
 unfoldable pub written : ℕ → Call → List ℕ → Outcome (List ℕ)
-written room c bs = test (ltb room 71) shortSlip (composed c bs)
+written room c bs = test (ltb room 71) shortBuffer (composed c bs)
 
 -- The same of a kind byte and arguments in their order: 3 for a byte that is no kind's, after 18 and before 7.
 unfoldable pub writtenAs : ℕ → ℕ → List ℕ → List ℕ → Outcome (List ℕ)
 writtenAs room kind arguments bs =
-    test (ltb room 71) shortSlip (test (isUnknown kind) unknownKind (composed (callOf (kindOf kind) arguments) bs))
+    test (ltb room 71) shortBuffer (test (isUnknown kind) unknownKind (composed (callOf (kindOf kind) arguments) bs))
 
 -- the message that is laid: "refused, it writes nothing"
 abbrev pub messageIn : Outcome (List ℕ) → List ℕ

@@ -1,4 +1,5 @@
-// For stations: a writer for calls and a reader for replies, of document 02, request [4]. It needs no tables and no stores.
+// For stations: a writer for calls and a reader for replies, of document 02, request [4]. It needs no tables and no
+// stores.
 mod reader;
 mod writer;
 
@@ -21,8 +22,8 @@ pub struct Written {
     pub len: usize,
 }
 
-// What the reader gives: its own refusal, or what a reply tells: the number that it carries, the bytes laid, and where its
-// data stand in the lent bytes.
+// What the reader gives: its own refusal, or what a reply tells: the number that it carries, the bytes laid, and where
+// its data stand in the lent bytes.
 pub enum Reading {
     Refused {
         number: u8,

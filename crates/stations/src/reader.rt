@@ -20,7 +20,8 @@ ghost use Rattle.steps.specs.declared.Data.the-variants.{Copies};
 ghost use Rattle.steps.specs.Kinds.{kindOf};
 ghost use Rattle.steps.specs.Data.{copyMarked, eachIs, formed};
 ghost use Rattle.stations.specs.declared.Reading.the-variants.{Refused};
-ghost use Rattle.stations.specs.Reader.{laidTold, isReply, readBody, readReply};
+ghost use Rattle.stations.specs.Promises.{ReadOf};
+ghost use Rattle.stations.specs.Reader.{laidTold, isReply, readBody};
 
 // Whether a number is in the papers' table.
 fn is_listed(number: u8) -> bool
@@ -130,7 +131,7 @@ fn read_body(kind: u8, m: &[u8]) -> Reading
 
 // Reads the reply to a message of the kind that is told. Bytes past the reply are not looked at.
 pub fn read_reply(kind: u8, bytes: &[u8]) -> Reading
-    ensures { λ r. ⌜ r ≡ readReply kind (now (bytes .entry)) ⌝ }
+    ensures { λ r. ⌜ ReadOf kind (now (bytes .entry)) r ⌝ }
 {
     match message_at(bytes, 0) {
         Next::Message { start, next, .. } => read_body(kind, &bytes[start..next]),

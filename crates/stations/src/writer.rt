@@ -2,35 +2,23 @@
 use crate::FRAME_NUMBERS;
 use crate::MESSAGE_SIZE;
 use crate::Written;
-use messages::SHORT_SLIP;
+use messages::SHORT_BUFFER;
 use messages::UNKNOWN_KIND;
 use steps::ACCEPTED;
 use steps::Call;
-use steps::OUT_OF_RANGE;
 use steps::form_of;
 use steps::is_unknown;
+use steps::lay_bytes;
 use steps::number_of;
 use steps::outside;
 ghost use Prim.Native.Nat.{_+_, _<_, _≤_};
 ghost use mathlib.Core.Path.{_≡_};
 ghost use mathlib.Core.List.{[], _∷_};
 ghost use lib.ListN.{length, set};
-ghost use Rattle.steps.specs.Stores.{splice, over};
+ghost use Rattle.steps.specs.Stores.{over};
 ghost use Rattle.stations.specs.Writer.{written, writtenAs};
 ghost use Rattle.stations.specs.Promises.{Wrote};
 ghost use Rattle.stations.specs.Private.{singles, tail, Lengths, laidMessage, MessageRoom, Within, atPlaces};
-
-// Lays all of src into dst from index at on.
-fn lay(dst: &mut [u8], at: usize, src: &[u8])
-    requires { ⌜ at + length (now src) ≤ length (now dst) ⌝ }
-    ensures { λ _. ⌜ now (dst .exit) ≡ splice (now (dst .entry)) at (now (src .entry)) ⌝ }
-{
-    let mut i = 0;
-    while i < src.len() {
-        dst[at + i] = src[i];
-        i += 1;
-    }
-}
 
 fn refused(number: u8) -> Written
     ensures { λ r. ⌜ r ≡ record { number = number; len = 0 } ⌝ }
@@ -59,8 +47,8 @@ fn tail_of(least: u8, most: u8, bytes: &[u8]) -> &[u8]
     &bytes[..0]
 }
 
-// Lays the message of a kind with messages of these lengths to the front of the buffer, and gives its length. `bytes` end it
-// where its kind has them.
+// Lays the message of a kind with messages of these lengths to the front of the buffer, and gives its length. `bytes`
+// end it where its kind has them.
 fn lay_message(
     kind: u8,
     least: u8,
@@ -80,13 +68,13 @@ fn lay_message(
     let tail = tail_of(least, most, bytes);
     let len = 2 + count + tail.len();
     let head = [0, len as u8, 1, kind, first, second, third, fourth];
-    lay(out, 0, &head[..4 + count]);
-    lay(out, 4 + count, tail);
+    lay_bytes(out, 0, &head[..4 + count]);
+    lay_bytes(out, 4 + count, tail);
     2 + len
 }
 
-// Writes the call of a kind byte with its arguments in their order, those past its last one playing no part, and with the
-// bytes of a write.
+// Writes the call of a kind byte with its arguments in their order, those past its last one playing no part, and with
+// the bytes of a write.
 pub fn write_kind(
     kind: u8,
     first: u8,
@@ -100,15 +88,16 @@ pub fn write_kind(
         (now (out .entry)) (now (out .exit)) r ⌝ }
 {
     if out.len() < MESSAGE_SIZE {
-        return refused(SHORT_SLIP);
+        return refused(SHORT_BUFFER);
     }
     if is_unknown(kind) {
         return refused(UNKNOWN_KIND);
     }
     let f = form_of(kind, first, second, third, fourth);
     let call = f.call;
-    if outside(call, FRAME_NUMBERS, bytes.len()) {
-        return refused(OUT_OF_RANGE);
+    let number = outside(call, FRAME_NUMBERS, bytes.len());
+    if number != ACCEPTED {
+        return refused(number);
     }
     let len = lay_message(
         kind,

@@ -1,22 +1,24 @@
--- The bytes of a frame in the joined stores. In order: a list in three pieces; bytes laid into one frame; bytes laid into
--- the frames of some copies.
+-- The bytes of a frame in the joined stores. In order: a list in three pieces; bytes laid into one frame; into each of some frames;
+-- into the frames of some copies.
 use Prim.Native.Nat.{ℕ, _+_, _-_, _*_, _≤_, _<_}
 use mathlib.Core.Path.{_≡_, refl, sym, ap, ap₂, _∙_}
 use mathlib.Core.Logic.{_≢_}
-use mathlib.Core.Bool.{Bool, true, false, _&&_, cond}
+use mathlib.Core.Bool.{Bool, true, false, _&&_, _||_, cond}
 use mathlib.Core.List.{List, [], _∷_, _++_}
 use native.Mathlib.Decide.{decLt}
+use native.Mathlib.Nat.{zero-add}
 use native.Mathlib.Omega.{arith}
 use lib.ListN.{length, take, drop, take-append-drop}
 use lib.Seq.{length-take-le, take-at, drop-at}
-use lib.Dec.{leb}
-use borrow.Author.Tests.{eqb-true, eqb-false, leb-false, not-true}
+use lib.Dec.{leb, ltb, eqb}
+use borrow.Author.Tests.{eqb-true, eqb-false, ltb-true, lt-ltb, leb-false, ne-eqb, not-true}
 use Rattle.tables.specs.declared.Copy.{Copy}
-use Rattle.tables.specs.Lists.{all, count}
+use Rattle.tables.specs.Lists.{all, count, listed}
 use Rattle.tables.specs.Model.{onFrame}
-use Rattle.tables.proofs.ListLaws.{and-left, and-right, not-so, all-first, all-rest, count-hit, count-miss, count-rest}
-use Rattle.steps.specs.Stores.{part, splice, block, lay, layEach}
+use Rattle.tables.proofs.ListLaws.{and-intro, and-left, and-right, or-left, or-right, all-first, all-rest}
+use Rattle.steps.specs.Stores.{part, splice, block, lay, framesOf, layAll}
 use Rattle.steps.specs.Promises.{frameWithin}
+use Rattle.steps.specs.Private.{layEach}
 use Rattle.steps.proofs.StoreLaws.{length-part, part-left, part-right, length-splice, splice-all, splice-left, splice-right}
 
 -- ---- a list in three pieces: a, then m, then z
@@ -88,7 +90,77 @@ pub block-lay-whole : (st : List ℕ) (x : ℕ) → 64 * x + 64 ≤ length st �
 block-lay-whole st x inside b e =
     block-lay-own st x inside 0 b (omega arith) ∙ splice-all (block st x) b (e ∙ sym (length-part st (64 * x) 64 inside))
 
--- ---- the bytes laid into the frame of each copy that is one of `those`: of a write, the CURRENT ones
+-- ---- bytes laid into each of some frames
+
+abbrev pub below : ℕ → ℕ → Bool
+below limit f = ltb f limit
+
+abbrev pub isFrame : ℕ → ℕ → Bool
+isFrame x f = eqb f x
+
+-- a frame that none of them is
+none-listed : (x : ℕ) (fs : List ℕ) → count (isFrame x) fs ≡ 0 → listed x fs ≡ false
+unfolding count
+none-listed x [] e = refl
+none-listed x (f ∷ fs) e = go (eqb f x) refl e (none-listed x fs)
+  where
+    go : (v : Bool) → eqb f x ≡ v → cond v 1 0 + count (isFrame x) fs ≡ 0 → (count (isFrame x) fs ≡ 0 → listed x fs ≡ false)
+        → (eqb x f || listed x fs) ≡ false
+    go true q e later = absurd (omega arith)
+    go false q e later = rw (ne-eqb x f (λ z. eqb-false f x q (sym z))) (later (omega arith))
+
+module _ (limit o : ℕ) (b : List ℕ) (span : o + length b ≤ 64) where
+  module _ (st : List ℕ) (long : length st ≡ 64 * limit) (f : ℕ) (low : below limit f ≡ true) where
+    inside : 64 * f + 64 ≤ length st
+    inside = let h = ltb-true f limit low in omega arith
+
+    next-long : length (lay st f o b) ≡ 64 * limit
+    next-long = length-lay st f inside o b span ∙ long
+
+  pub length-all : (fs st : List ℕ) → length st ≡ 64 * limit → all (below limit) fs ≡ true → length (layAll fs o b st) ≡ 64 * limit
+  unfolding layAll
+  length-all [] st long low = long
+  length-all (f ∷ fs) st long low =
+      length-all fs (lay st f o b) (next-long st long f (all-first (below limit) f fs low)) (all-rest (below limit) f fs low)
+
+  -- every other frame keeps its bytes
+  pub all-other : (fs st : List ℕ) → length st ≡ 64 * limit → all (below limit) fs ≡ true → (x : ℕ) → listed x fs ≡ false
+      → block (layAll fs o b st) x ≡ block st x
+  unfolding layAll
+  all-other [] st long low x none = refl
+  all-other (f ∷ fs) st long low x none =
+      let one = all-first (below limit) f fs low in
+      all-other fs (lay st f o b) (next-long st long f one) (all-rest (below limit) f fs low) x (or-right (eqb x f) _ none)
+      ∙ block-lay-other st f (inside st long f one) o b span x (λ e. eqb-false x f (or-left (eqb x f) _ none) (sym e))
+
+  -- one of them, once, takes the bytes
+  pub all-own : (fs st : List ℕ) → length st ≡ 64 * limit → all (below limit) fs ≡ true → (x : ℕ) → count (isFrame x) fs ≡ 1
+      → block (layAll fs o b st) x ≡ splice (block st x) o b
+  unfolding layAll count
+  all-own [] st long low x once = absurd (omega arith)
+  all-own (f ∷ fs) st long low x once =
+      go (eqb f x) refl once (all-own fs (lay st f o b) (next-long st long f (all-first (below limit) f fs low)) (all-rest (below limit) f fs low) x)
+    where
+      one : below limit f ≡ true
+      one = all-first (below limit) f fs low
+
+      rest : all (below limit) fs ≡ true
+      rest = all-rest (below limit) f fs low
+
+      long′ : length (lay st f o b) ≡ 64 * limit
+      long′ = next-long st long f one
+
+      go : (v : Bool) → eqb f x ≡ v → cond v 1 0 + count (isFrame x) fs ≡ 1
+          → (count (isFrame x) fs ≡ 1 → block (layAll fs o b (lay st f o b)) x ≡ splice (block (lay st f o b) x) o b)
+          → block (layAll fs o b (lay st f o b)) x ≡ splice (block st x) o b
+      go true e n later =
+          all-other fs (lay st f o b) long′ rest x (none-listed x fs (omega arith))
+          ∙ rw (← eqb-true f x e) (block-lay-own st f (inside st long f one) o b span)
+      go false e n later =
+          later (omega arith)
+          ∙ ap (λ (l : List ℕ). splice l o b) (block-lay-other st f (inside st long f one) o b span x (eqb-false f x e))
+
+-- ---- the frames of the copies that are some of `those`: of a write, the CURRENT ones
 
 -- one of those on frame x
 abbrev pub oneOn : (Copy → Bool) → ℕ → Copy → Bool
@@ -100,80 +172,78 @@ within-low those limit c e u =
     let k : leb limit (c .frame) ≡ false = rw u at (not-true (those c && leb limit (c .frame)) e) in
     leb-false limit (c .frame) k
 
-module _ (those : Copy → Bool) (limit : ℕ) (o : ℕ) (b : List ℕ) (span : o + length b ≤ 64) where
-  -- one copy
-  abbrev layOne : List ℕ → Copy → List ℕ
-  layOne st c = cond (those c) (lay st (c .frame) o b) st
-
-  module _ (st : List ℕ) (long : length st ≡ 64 * limit) (c : Copy) (rule : frameWithin those limit c ≡ true) where
-    inside : those c ≡ true → 64 * c .frame + 64 ≤ length st
-    inside u = let k = within-low those limit c rule u in omega arith
-
-    length-one : length (layOne st c) ≡ 64 * limit
-    length-one = go (those c) inside
-      where
-        go : (u : Bool) → (u ≡ true → 64 * c .frame + 64 ≤ length st) → length (cond u (lay st (c .frame) o b) st) ≡ 64 * limit
-        go true h = length-lay st (c .frame) (h refl) o b span ∙ long
-        go false h = long
-
-    one-other : (x : ℕ) → oneOn those x c ≡ false → block (layOne st c) x ≡ block st x
-    one-other x e = go (those c) inside e
-      where
-        go : (u : Bool) → (u ≡ true → 64 * c .frame + 64 ≤ length st) → (u && onFrame x c) ≡ false
-            → block (cond u (lay st (c .frame) o b) st) x ≡ block st x
-        go true h z = block-lay-other st (c .frame) (h refl) o b span x (eqb-false (c .frame) x z)
-        go false h z = refl
-
-    one-own : (x : ℕ) → oneOn those x c ≡ true → block (layOne st c) x ≡ splice (block st x) o b
-    one-own x e =
-        let one = and-left (those c) (onFrame x c) e in
-        let same : c .frame ≡ x = eqb-true (c .frame) x (and-right (those c) (onFrame x c) e) in
-        rw (one, ← same) (block-lay-own st (c .frame) (inside one) o b span)
-
-  pub length-each : (cs : List Copy) (st : List ℕ) → length st ≡ 64 * limit → all (frameWithin those limit) cs ≡ true
-      → length (layEach those st cs o b) ≡ 64 * limit
-  unfolding layEach
-  length-each [] st long rules = long
-  length-each (c ∷ cs) st long rules =
-      length-each cs (layOne st c) (length-one st long c (all-first (frameWithin those limit) c cs rules)) (all-rest (frameWithin those limit) c cs rules)
-
-  -- a frame of no copy of the page keeps its bytes
-  pub each-other : (cs : List Copy) (st : List ℕ) → length st ≡ 64 * limit → all (frameWithin those limit) cs ≡ true
-      → (x : ℕ) → count (onFrame x) cs ≡ 0 → block (layEach those st cs o b) x ≡ block st x
-  unfolding layEach
-  each-other [] st long rules x none = refl
-  each-other (c ∷ cs) st long rules x none =
-      let rule = all-first (frameWithin those limit) c cs rules in
-      each-other cs (layOne st c) (length-one st long c rule) (all-rest (frameWithin those limit) c cs rules) x
-      (omega (arith, count-rest (onFrame x) c cs))
-      ∙ one-other st long c rule x (not-so (oneOn those x c) (λ e.
-      let hit = count-hit (onFrame x) c cs (and-right (those c) (onFrame x c) e) in
-      omega arith))
-
-  -- the frame of one of those, which no other copy of the page has, takes the bytes
-  pub each-own : (cs : List Copy) (st : List ℕ) → length st ≡ 64 * limit → all (frameWithin those limit) cs ≡ true
-      → (x : ℕ) → count (onFrame x) cs ≤ 1 → 1 ≤ count (oneOn those x) cs → block (layEach those st cs o b) x ≡ splice (block st x) o b
-  unfolding layEach count
-  each-own [] st long rules x once some = absurd (omega arith)
-  each-own (c ∷ cs) st long rules x once some = go (oneOn those x c) refl (each-own cs (layOne st c) long′ others x)
+module _ (those : Copy → Bool) where
+  pub frames-low : (limit : ℕ) (cs : List Copy) → all (frameWithin those limit) cs ≡ true → all (below limit) (framesOf those cs) ≡ true
+  unfolding all framesOf
+  frames-low limit [] e = refl
+  frames-low limit (c ∷ cs) e = go (those c) refl (frames-low limit cs (and-right (frameWithin those limit c) _ e))
     where
-      rule : frameWithin those limit c ≡ true
-      rule = all-first (frameWithin those limit) c cs rules
+      go : (u : Bool) → those c ≡ u → all (below limit) (framesOf those cs) ≡ true
+          → all (below limit) (cond u (c .frame ∷ framesOf those cs) (framesOf those cs)) ≡ true
+      go true q later = and-intro (lt-ltb (c .frame) limit (within-low those limit c (and-left (frameWithin those limit c) _ e) q)) later
+      go false q later = later
 
-      others : all (frameWithin those limit) cs ≡ true
-      others = all-rest (frameWithin those limit) c cs rules
+  pub frames-count : (x : ℕ) (cs : List Copy) → count (isFrame x) (framesOf those cs) ≡ count (oneOn those x) cs
+  unfolding count framesOf
+  frames-count x [] = refl
+  frames-count x (c ∷ cs) = go (those c) (frames-count x cs)
+    where
+      go : (u : Bool) → count (isFrame x) (framesOf those cs) ≡ count (oneOn those x) cs
+          → count (isFrame x) (cond u (c .frame ∷ framesOf those cs) (framesOf those cs)) ≡ cond (u && onFrame x c) 1 0 + count (oneOn those x) cs
+      go true later = ap (λ (n : ℕ). cond (onFrame x c) 1 0 + n) later
+      go false later = later ∙ sym (zero-add _)
 
-      long′ : length (layOne st c) ≡ 64 * limit
-      long′ = length-one st long c rule
+  -- no more of them are on a frame than copies are
+  fewer : (x : ℕ) (cs : List Copy) → count (oneOn those x) cs ≤ count (onFrame x) cs
+  unfolding count
+  fewer x [] = omega arith
+  fewer x (c ∷ cs) = go (those c) (onFrame x c) (fewer x cs)
+    where
+      go : (u v : Bool) → count (oneOn those x) cs ≤ count (onFrame x) cs
+          → cond (u && v) 1 0 + count (oneOn those x) cs ≤ cond v 1 0 + count (onFrame x) cs
+      go true true h = omega arith
+      go true false h = omega arith
+      go false true h = omega arith
+      go false false h = omega arith
 
-      go : (v : Bool) → oneOn those x c ≡ v
-          → (count (onFrame x) cs ≤ 1 → 1 ≤ count (oneOn those x) cs
-          → block (layEach those (layOne st c) cs o b) x ≡ splice (block (layOne st c) x) o b)
-          → block (layEach those (layOne st c) cs o b) x ≡ splice (block st x) o b
-      go true e later =
-          let hit = count-hit (onFrame x) c cs (and-right (those c) (onFrame x c) e) in
-          each-other cs (layOne st c) long′ others x (omega arith) ∙ one-own st long c rule x e
-      go false e later =
-          let rest = count-rest (onFrame x) c cs in
-          let miss = count-miss (oneOn those x) c cs e in
-          later (omega arith) (omega arith) ∙ ap (λ (l : List ℕ). splice l o b) (one-other st long c rule x e)
+  -- a frame that no copy is on is none of theirs
+  pub off-frames : (x : ℕ) (cs : List Copy) → count (onFrame x) cs ≡ 0 → listed x (framesOf those cs) ≡ false
+  off-frames x cs none =
+      let few = fewer x cs in
+      let same = frames-count x cs in
+      none-listed x (framesOf those cs) (omega arith)
+
+  -- as many as there are such copies
+  pub frames-length : (cs : List Copy) → length (framesOf those cs) ≡ count those cs
+  unfolding count framesOf
+  frames-length [] = refl
+  frames-length (c ∷ cs) = go (those c) (frames-length cs)
+    where
+      go : (u : Bool) → length (framesOf those cs) ≡ count those cs
+          → length (cond u (c .frame ∷ framesOf those cs) (framesOf those cs)) ≡ cond u 1 0 + count those cs
+      go true later = omega arith
+      go false later = omega arith
+
+  module _ (limit o : ℕ) (b : List ℕ) (span : o + length b ≤ 64) (cs : List Copy) (st : List ℕ) (long : length st ≡ 64 * limit)
+      (rules : all (frameWithin those limit) cs ≡ true) (x : ℕ) where
+    -- a frame of no copy of the page keeps its bytes
+    pub each-other : count (onFrame x) cs ≡ 0 → block (layAll (framesOf those cs) o b st) x ≡ block st x
+    each-other none = all-other limit o b span (framesOf those cs) st long (frames-low limit cs rules) x (off-frames x cs none)
+
+    -- the frame of one of those, which no other copy of the page has, takes the bytes
+    pub each-own : count (onFrame x) cs ≤ 1 → 1 ≤ count (oneOn those x) cs → block (layAll (framesOf those cs) o b st) x ≡ splice (block st x) o b
+    each-own once some =
+        let few = fewer x cs in
+        let same = frames-count x cs in
+        all-own limit o b span (framesOf those cs) st long (frames-low limit cs rules) x (omega arith)
+
+  -- the loop over the copies lays into these frames
+  pub lay-each-is : (st : List ℕ) (cs : List Copy) (o : ℕ) (b : List ℕ) → layEach those st cs o b ≡ layAll (framesOf those cs) o b st
+  unfolding layEach layAll framesOf
+  lay-each-is st [] o b = refl
+  lay-each-is st (c ∷ cs) o b = go (those c) (λ st′. lay-each-is st′ cs o b)
+    where
+      go : (u : Bool) → ((st′ : List ℕ) → layEach those st′ cs o b ≡ layAll (framesOf those cs) o b st′)
+          → layEach those (cond u (lay st (c .frame) o b) st) cs o b ≡ layAll (cond u (c .frame ∷ framesOf those cs) (framesOf those cs)) o b st
+      go true later = later (lay st (c .frame) o b)
+      go false later = later st

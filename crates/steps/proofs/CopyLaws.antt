@@ -8,18 +8,19 @@ use native.Mathlib.Omega.{arith}
 use lib.ListN.{length, drop, getD}
 use Rattle.tables.specs.declared.Copy.{Copy}
 use Rattle.tables.specs.declared.Page.{Page}
-use Rattle.tables.specs.Model.{inUse, noCopyEntry}
+use Rattle.tables.specs.Model.{inUse, zeroCopy}
 use Rattle.tables.proofs.ListLaws.{and-intro}
 use Rattle.tables.proofs.Loops.{drop-end, use-more}
 use Rattle.steps.specs.Data.{isMark, copyMarked, eachIs}
-use Rattle.steps.specs.Stores.{splice, layEach}
+use Rattle.steps.specs.Stores.{splice}
 use Rattle.steps.specs.Effects.{bit, entries}
+use Rattle.steps.specs.Private.{layEach}
 use Rattle.steps.proofs.StoreLaws.{splice-next, splice-none}
 
 module _ (g : Page) (j : ℕ) where
   -- ---- bytes laid into the frame of each copy that is one of `those`
   module _ (those : Copy → Bool) (o : ℕ) (b : List ℕ) where
-    pub lay-turn : (st st′ all : List ℕ) → j < length (inUse g) → st′ ≡ layEach those st (getD (g .copies) j noCopyEntry ∷ []) o b
+    pub lay-turn : (st st′ all : List ℕ) → j < length (inUse g) → st′ ≡ layEach those st (getD (g .copies) j zeroCopy ∷ []) o b
         → layEach those st (drop j (inUse g)) o b ≡ all → layEach those st′ (drop (j + 1) (inUse g)) o b ≡ all
     unfolding layEach
     lay-turn st st′ all h e r = rw e (sym (ap (λ (cs : List Copy). layEach those st cs o b) (use-more g j h)) ∙ r)
@@ -30,11 +31,11 @@ module _ (g : Page) (j : ℕ) where
 
   -- ---- the entries that show the copies, three bytes each
   pub entries-turn : (out out′ all : List ℕ) → j < length (inUse g) → 1 + 3 * j + 3 ≤ length out
-      → out′ ≡ splice out (1 + 3 * j) (entries (getD (g .copies) j noCopyEntry ∷ []))
+      → out′ ≡ splice out (1 + 3 * j) (entries (getD (g .copies) j zeroCopy ∷ []))
       → splice out (1 + 3 * j) (entries (drop j (inUse g))) ≡ all → splice out′ (1 + 3 * (j + 1)) (entries (drop (j + 1) (inUse g))) ≡ all
   unfolding entries
   entries-turn out out′ all h w e r =
-      let b = entries (getD (g .copies) j noCopyEntry ∷ []) in
+      let b = entries (getD (g .copies) j zeroCopy ∷ []) in
       let s : 1 + 3 * (j + 1) ≡ 1 + 3 * j + 3 = omega arith in
       rw (e, s)
       (splice-next out (1 + 3 * j) b (entries (drop (j + 1) (inUse g))) w
@@ -45,16 +46,16 @@ module _ (g : Page) (j : ℕ) where
   entries-ended out all h r =
       sym (splice-none out (1 + 3 * j)) ∙ sym (ap (λ (cs : List Copy). splice out (1 + 3 * j) (entries cs)) (drop-end (inUse g) j h)) ∙ r
 
-pub length-entries : (cs : List Copy) → length (entries cs) ≡ 3 * length cs
+pub length-shown : (cs : List Copy) → length (entries cs) ≡ 3 * length cs
 unfolding entries
-length-entries [] = refl
-length-entries (c ∷ cs) = let k = length-entries cs in omega arith
+length-shown [] = refl
+length-shown (c ∷ cs) = let k = length-shown cs in omega arith
 
 -- both marks of each are 0 or 1
-pub entries-marked : (cs : List Copy) → eachIs (length cs) 3 copyMarked (entries cs) ≡ true
+pub shown-marked : (cs : List Copy) → eachIs (length cs) 3 copyMarked (entries cs) ≡ true
 unfolding entries eachIs
-entries-marked [] = refl
-entries-marked (c ∷ cs) = and-intro (and-intro (is-mark (c .current)) (is-mark (c .recent))) (entries-marked cs)
+shown-marked [] = refl
+shown-marked (c ∷ cs) = and-intro (and-intro (is-mark (c .current)) (is-mark (c .recent))) (shown-marked cs)
   where
     is-mark : (b : Bool) → isMark (bit b) ≡ true
     is-mark true = refl

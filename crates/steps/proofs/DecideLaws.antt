@@ -1,52 +1,61 @@
 -- What is to be known of a call's plan, from one walk over the kinds. In order: what holds of an outcome if it is accepted; the
 -- copies of a page; one plan of each form; the walk; the call on tables that keep the rules.
 use Prim.Native.Nat.{ℕ, _+_, _*_, _≤_, _<_, zero-le}
-use mathlib.Core.Path.{_≡_, refl, ap, subst, _∙_}
+use mathlib.Core.Path.{_≡_, refl, sym, ap, subst, _∙_}
 use mathlib.Core.Logic.{_≢_}
 use mathlib.Core.Bool.{Bool, true, false, not, _&&_, _||_, cond, false≢true}
 use mathlib.Core.List.{List, [], _∷_}
-use native.Mathlib.Nat.{mul-le-mul}
+use native.Mathlib.Nat.{add-zero, mul-comm, mul-le-mul}
 use native.Mathlib.Omega.{arith}
 use lib.ListN.{length}
 use lib.Dec.{leb, ltb, eqb}
-use borrow.Author.Tests.{ltb-false, leb-false, eqb-false, eq-eqb, lt-ltb, le-leb, lt-leb, not-true, not-false}
+use borrow.Author.Tests.{ltb-false, leb-false, eqb-true, eqb-false, eq-eqb, lt-ltb, le-leb, lt-leb, not-true, not-false}
 use Rattle.tables.specs.declared.Copy.{Copy}
 use Rattle.tables.specs.declared.Page.{Page}
 use Rattle.tables.specs.declared.Tables.{Tables}
 use Rattle.tables.specs.declared.Edit.{Edit}
-use Rattle.tables.specs.declared.Edit.the-variants.{Kept, Created, Deleted, Granted, Staled, Placed, Added, Removed, Marked, Retired}
+use Rattle.tables.specs.declared.Edit.the-variants.{Kept, Created, Deleted, Granted, Staled, Placed, Added, Removed, Marked}
 use Rattle.tables.specs.Lists.{all, count, listed}
-use Rattle.tables.specs.Numbers.{noPage, noRight, noCopy, frameHeld, table}
+use Rattle.tables.specs.Numbers.{accepted, noPage, noRight, noCopy, frameHeld, table}
 use Rattle.tables.specs.Model.{frames, isNull, inUse, absent, pageAt}
 use Rattle.tables.specs.Rules.{free, isCurrent, copyRule, sound}
 use Rattle.tables.specs.Search.{isFree, isRetired}
 use Rattle.tables.specs.Register.{registered}
-use Rattle.tables.specs.Changes.{changed, retiredBy}
+use Rattle.tables.specs.Changes.{changed}
 use Rattle.tables.proofs.ListLaws.{and-intro, and-left, and-right, or-left, or-right, all-imp, count-le, not-so}
-use Rattle.tables.proofs.RuleLaws.{GoodCopy, good-copy, current-placed, StandingPage, copy-at, length-in-use, Sound, sound-of, standing-at}
+use Rattle.tables.proofs.RuleLaws.{GoodCopy, good-copy, current-placed, StandingPage, copy-at, length-in-use, Sound, sound-of, few-frames, standing-at}
 use Rattle.tables.proofs.HolderLaws.{three-shown}
 use Rattle.tables.proofs.RegisterLaws.{registered-free}
-use Rattle.tables.proofs.Allowed.{FrameOk, RemoveOk, Allowed}
-use Rattle.tables.proofs.UsesLaws.{uses-at}
+use Rattle.tables.proofs.Allowed.{FrameOk, RemoveOk, Allowed, MayRetire, retires-none, retires-free}
+use Rattle.tables.proofs.UsesLaws.{holders-at}
 use Rattle.tables.proofs.PageChanges.{removed-ok, staled-on, marked-on, removed-on, added-on}
 use Rattle.steps.specs.declared.Kind.{Kind}
 use Rattle.steps.specs.declared.Kind.the-variants.{Create, DeletePage, Grant, Read, Write, MakeCopy, DeleteCopy, SetCurrent, RemoveCurrent, LookPage, LookFrame, Retire}
 use Rattle.steps.specs.declared.Data.{Data}
 use Rattle.steps.specs.declared.Data.the-variants.{Empty}
+use Rattle.steps.specs.declared.Act.{Act}
+use Rattle.steps.specs.declared.Act.the-variants as Act
 use Rattle.steps.specs.declared.Call.{Call}
 use Rattle.steps.specs.declared.View.{View}
+use Rattle.steps.specs.declared.Lay.{Lay}
+use Rattle.steps.specs.declared.Lay.the-variants.{Nothing, Zeros, ZerosEach, Duplicate, Spread}
+use Rattle.steps.specs.declared.Show.{Show}
+use Rattle.steps.specs.declared.Show.the-variants as Show
 use Rattle.steps.specs.declared.Work.{Work}
-use Rattle.steps.specs.declared.Work.the-variants.{Nothing, Clear, ClearPage, Duplicate, Spread, Show, ShowPage, ShowHolder}
+use Rattle.steps.specs.declared.Work.the-variants.{Shows, Lays}
 use Rattle.steps.specs.Kinds.{offset, bytes, frame, names, tells, isRetire, code, among, has, leastLength}
-use Rattle.steps.specs.Calls.{nameOutside, frameOutside, badSpan, spanOutside}
-use Rattle.steps.specs.Steps.{Outcome, refuse, accept, test, Plan, editing, showing, laying, mayRead, mayWrite, owns, isPlaced, copyAt, currents, recents, placed, firstCurrent, standing, numbered, copying, perform, decideOn, decide}
+use Rattle.steps.specs.Calls.{badSpan, outside}
+use Rattle.steps.specs.Steps.{Outcome, refuse, accept, test, guarded, Plan, planOf, planned, noWork, editing, retiring, showing, laying, clearing, may, owns, isPlaced, copyAt, currents, recents, placed, firstCurrent, lacksRight, lacksOwner, lacksCopy, copying, perform, decideOn, pageFor, viewOf, decide}
 use Rattle.steps.specs.Data.{copyMarked, eachIs, formed}
-use Rattle.steps.specs.Stores.{block, zeros}
-use Rattle.steps.specs.Effects.{entries, laidIn, shownOf}
-use Rattle.steps.specs.Promises.{frameWithin, workWithin}
+use Rattle.steps.specs.Stores.{block}
+use Rattle.steps.specs.Effects.{entries, laidFrames, shownOf, bytesLaid, told}
+use Rattle.steps.specs.Promises.{frameWithin, layWithin, showWithin, workWithin}
+use Rattle.steps.proofs.RangeLaws.{NamesNear, span-within, outside-listed, ranged}
+use Rattle.steps.proofs.DecisionLaws.{page-near}
 use Rattle.steps.proofs.StoreLaws.{length-part, length-frame-part}
-use Rattle.steps.proofs.CopyLaws.{length-entries, entries-marked}
-use Rattle.steps.proofs.ClearLaws.{on, Clears, kept-clears, written-clears, made-clears, removed-clears, deleted-clears, created-over, kept-on, retired-on, granted-on, null-placed}
+use Rattle.steps.proofs.Blocks.{frames-length}
+use Rattle.steps.proofs.CopyLaws.{length-shown, shown-marked}
+use Rattle.steps.proofs.ClearLaws.{on, Frees, kept-frees, written-frees, made-frees, removed-frees, deleted-frees, created-over, kept-on, granted-on, null-placed}
 
 -- ---- what holds of an outcome if it is accepted
 
@@ -61,30 +70,44 @@ pub past : {A : Type 0} {P : A → Type 0} {o : Outcome A} (b : Bool) (n : ℕ) 
 past true n row h = if-refused row
 past false n row h = h refl
 
--- behind 9 and 10
-past-standing : {P : Plan → Type 0} {o : Outcome Plan} (g : Page) (may : Bool) → (absent g ≡ false → IfAccepted P o)
-    → IfAccepted P (standing g may o)
-past-standing g may h = past (absent g) noPage refl (λ some. past (not may) noRight refl (λ _. h some))
+-- behind a number that is 0 or one of the table
+pub past-number : {A : Type 0} {P : A → Type 0} {o : Outcome A} (n : ℕ) → listed n (accepted ∷ table) ≡ true → (n ≡ accepted → IfAccepted P o)
+    → IfAccepted P (guarded n o)
+past-number {A} {P} {o} n row h = go (eqb n accepted) refl row
+  where
+    go : (b : Bool) → eqb n accepted ≡ b → (b || listed n table) ≡ true → IfAccepted P (test (not b) n o)
+    go true e row = h (eqb-true n accepted e)
+    go false e row = if-refused row
 
--- behind 9 and 12
-past-numbered : {P : Plan → Type 0} {o : Outcome Plan} (g : Page) (k : ℕ) → (absent g ≡ false → k < g .n → IfAccepted P o)
-    → IfAccepted P (numbered g k o)
-past-numbered g k h = past (absent g) noPage refl (λ some. past (leb (g .n) k) noCopy refl (λ less. h some (leb-false (g .n) k less)))
+-- behind 9 and 10
+module _ {P : Plan → Type 0} {o : Outcome Plan} (g : Page) where
+  past-nine : (b : Bool) → (absent g ≡ false → b ≡ true → IfAccepted P o) → IfAccepted P (guarded (cond (absent g) noPage (cond b accepted noRight)) o)
+  past-nine b h = go (absent g) b refl refl
+    where
+      go : (a c : Bool) → absent g ≡ a → b ≡ c → IfAccepted P (guarded (cond a noPage (cond c accepted noRight)) o)
+      go true c e q = if-refused refl
+      go false true e q = h e q
+      go false false e q = if-refused refl
+
+  past-owner : (station : ℕ) → (absent g ≡ false → IfAccepted P o) → IfAccepted P (guarded (lacksOwner g station) o)
+  past-owner station h = past-nine (owns g station) (λ some _. h some)
+
+  past-right : (station : ℕ) (act : Act) → (absent g ≡ false → IfAccepted P o) → IfAccepted P (guarded (lacksRight g station act) o)
+  past-right station act h = past-nine (may g station act) (λ some _. h some)
+
+  -- behind 9 and 12
+  past-copy : (k : ℕ) → (absent g ≡ false → k < g .n → IfAccepted P o) → IfAccepted P (guarded (lacksCopy g k) o)
+  past-copy k h = go (absent g) (leb (g .n) k) refl refl
+    where
+      go : (a c : Bool) → absent g ≡ a → leb (g .n) k ≡ c → IfAccepted P (guarded (cond a noPage (cond c noCopy accepted)) o)
+      go true c e q = if-refused refl
+      go false true e q = if-refused refl
+      go false false e q = h e (leb-false (g .n) k q)
 
 -- what follows from it
 pub then-keeps : {A : Type 0} {P Q : A → Type 0} {o : Outcome A} → ((a : A) → P a → Q a) → IfAccepted P o → IfAccepted Q o
 then-keeps h (if-refused row) = if-refused row
 then-keeps h (if-accepted k) = if-accepted (h _ k)
-
--- ---- the names of a call that passes number 7
-
-pub page-near : (c : Call) → nameOutside c ≡ false → c .page < 64
-page-near c e =
-    let k = ltb-false 63 (c .page) (or-right (ltb 15 (c .station)) _ (or-left (ltb 15 (c .station) || ltb 63 (c .page)) _ e)) in
-    omega arith
-
-pub span-within : (o n : ℕ) → badSpan o n ≡ false → o + n ≤ 64
-span-within o n e = ltb-false 64 (o + n) (or-right (eqb n 0) _ (or-right (ltb 63 o) _ e))
 
 -- ---- the copies of a page that stands
 
@@ -135,77 +158,97 @@ module _ {limit : ℕ} where
 abbrev pub FrameNear : Tables → Call → Kind → Type 0
 FrameNear t c k = (has frame k && leb (frames t) (c .frame)) ≡ false
 
--- what is known of the plan of a call of kind k on page g of tables t: its edit is allowed, what it lays and shows fits, and lies within the
+-- what is known of the plan of a call of kind k on page g of tables t: its edit is allowed, and what it retires, what it lays and shows fits, and lies within the
 -- frames; its data have the form of the kind's; it clears the frames that it frees; its reply has at most 35 bytes for each 4 of its
 -- message; the frame that it names is in range, and it is retired by that kind alone, where it is not already
 pub record PlanOk (t : Tables) (c : Call) (size : ℕ) (k : Kind) (plan : Plan) : Type 0 where
-  pub near : c .page < 64
   pub frame-near : FrameNear t c k
-  pub allowed : Allowed t (c .page) (plan .edit)
-  pub marks : retiredBy (plan .edit) ≡ cond (isRetire k && not (isRetired (registered t (c .frame)))) (c .frame) 255
+  pub allowed : Allowed t (pageFor c) (plan .edit)
+  pub may-retire : MayRetire t (pageFor c) (plan .edit) (plan .retires)
+  pub marks : plan .retires ≡ cond (isRetire k && not (isRetired (registered t (c .frame)))) (c .frame) 255
   pub short : plan .len ≤ 64
   pub paid : 4 * (6 + plan .len) ≤ 35 * (2 + leastLength k)
   pub laid-fits : plan .laid ≤ 512
-  pub inside : workWithin (pageAt t (c .page)) (plan .len) (frames t) size (plan .work) ≡ true
-  pub shows : (st : List ℕ) → length st ≡ 64 * frames t → length (shownOf (pageAt t (c .page)) (plan .work) (plan .len) st) ≡ plan .len
+  pub inside : workWithin (pageAt t (pageFor c)) (plan .len) (frames t) size (plan .work) ≡ true
+  pub shows : (st : List ℕ) → length st ≡ 64 * frames t → length (told (pageAt t (pageFor c)) (plan .work) (plan .len) st) ≡ plan .len
   pub as-told : (st : List ℕ) → length st ≡ 64 * frames t
-      → formed (tells k) (shownOf (pageAt t (c .page)) (plan .work) (plan .len) st) ≡ true
-  pub clears : (bs st : List ℕ) → length bs ≡ size → length st ≡ 64 * frames t
-      → Clears (frames t) (pageAt t (c .page)) (changed (pageAt t (c .page)) (plan .edit)) st (laidIn (pageAt t (c .page)) (plan .work) bs st)
+      → formed (tells k) (told (pageAt t (pageFor c)) (plan .work) (plan .len) st) ≡ true
+  pub laid-is : (bs st : List ℕ) → length bs ≡ size → length st ≡ 64 * frames t
+      → plan .laid ≡ bytesLaid (pageAt t (pageFor c)) (plan .work) bs st
+  pub frees : Frees (frames t) size (pageAt t (pageFor c)) (changed (pageAt t (pageFor c)) (plan .edit)) (plan .work)
 
-module _ (t : Tables) (c : Call) (size : ℕ) (near : c .page < 64) (rules : Sound t)
-    (told : (f : ℕ) → f < frames t → free t f ≡ isFree (registered t f)) where
+module _ (t : Tables) (c : Call) (size : ℕ) (rules : Sound t)
+    (told-free : (f : ℕ) → f < frames t → free t f ≡ isFree (registered t f)) where
+  abbrev p : ℕ
+  p = pageFor c
+
   abbrev g : Page
-  g = pageAt t (c .page)
+  g = pageAt t p
 
   stands : absent g ≡ false → StandingPage (frames t) g
-  stands some = standing-at t (c .page) rules near some
+  stands some = standing-at t p rules (page-near c) some
 
-  few-frames : frames t ≤ 254
-  few-frames = omega (arith, rules .fast-ok, rules .slow-ok)
+  small : frames t ≤ 254
+  small = few-frames rules
 
-  -- what a plan with this edit and this work leaves in the frames
-  abbrev Leaves : Edit → Work → Type 0
-  Leaves e w = (bs st : List ℕ) → length bs ≡ size → length st ≡ 64 * frames t → Clears (frames t) g (changed g e) st (laidIn g w bs st)
+  -- so many bytes are what a work lays
+  abbrev Exact : ℕ → Work → Type 0
+  Exact laid w = (bs st : List ℕ) → length bs ≡ size → length st ≡ 64 * frames t → laid ≡ bytesLaid g w bs st
 
-  -- what a plan with this edit retires
-  abbrev Marks : Kind → Edit → Type 0
-  Marks k e = retiredBy e ≡ cond (isRetire k && not (isRetired (registered t (c .frame)))) (c .frame) 255
+  -- what a plan of this kind retires
+  abbrev Marks : Kind → ℕ → Type 0
+  Marks k x = x ≡ cond (isRetire k && not (isRetired (registered t (c .frame)))) (c .frame) 255
 
   module _ (kind : Kind) (far : FrameNear t c kind) where
-    -- one that only edits, shows or lays
-    edit-ok : tells kind ≡ Empty → (e : Edit) → Marks kind e → Allowed t (c .page) e → ((f : ℕ) → f < frames t → on f (changed g e) ≡ on f g)
-        → IfAccepted (PlanOk t c size kind) (editing e)
-    unfolding shownOf laidIn formed
-    edit-ok is e m a same =
+    -- one that shows nothing
+    lay-ok : tells kind ≡ Empty → (e : Edit) (x : ℕ) → Marks kind x → (laid : ℕ) (l : Lay) (f : ℕ) → Allowed t p e → MayRetire t p e x
+        → laid ≤ 512 → Exact laid (Lays l f) → workWithin g 0 (frames t) size (Lays l f) ≡ true
+        → Frees (frames t) size g (changed g e) (Lays l f)
+        → IfAccepted (PlanOk t c size kind) (planned e x laid 0 (Lays l f))
+    unfolding formed
+    lay-ok is e x m laid l f a may few exact inside frees =
         if-accepted
         (record {
-          near = near;
           frame-near = far;
           allowed = a;
+          may-retire = may;
           marks = m;
           short = zero-le;
           paid = omega arith;
-          laid-fits = zero-le;
-          inside = refl;
+          laid-fits = few;
+          inside = inside;
           shows = λ st l. refl;
           as-told = λ st l. ap (λ (x : Data). formed x []) is;
-          clears = λ bs st _ l. kept-clears (frames t) g (changed g e) st same;
+          laid-is = exact;
+          frees = frees;
         })
 
-    show-ok : isRetire kind ≡ false → (len : ℕ) (w : Work) → len ≤ 64 → 4 * (6 + len) ≤ 35 * (2 + leastLength kind) → workWithin g len (frames t) size w ≡ true
-        → ((st : List ℕ) → length st ≡ 64 * frames t → length (shownOf g w len st) ≡ len)
-        → ((st : List ℕ) → length (shownOf g w len st) ≡ len → formed (tells kind) (shownOf g w len st) ≡ true)
-        → ((bs st : List ℕ) → laidIn g w bs st ≡ st)
-        → IfAccepted (PlanOk t c size kind) (showing len w)
+    -- one that only changes the tables
+    change-ok : tells kind ≡ Empty → (e : Edit) (x : ℕ) → Marks kind x → Allowed t p e → MayRetire t p e x
+        → ((f : ℕ) → f < frames t → on f (changed g e) ≡ on f g)
+        → IfAccepted (PlanOk t c size kind) (planned e x 0 0 noWork)
+    unfolding laidFrames
+    change-ok is e x m a may same =
+        lay-ok is e x m 0 Nothing 255 a may zero-le (λ bs st _ l. refl) refl (kept-frees (frames t) size g (changed g e) noWork refl same)
+
+    edit-ok : tells kind ≡ Empty → (e : Edit) → Marks kind 255 → Allowed t p e → ((f : ℕ) → f < frames t → on f (changed g e) ≡ on f g)
+        → IfAccepted (PlanOk t c size kind) (editing e)
+    edit-ok is e m a same = change-ok is e 255 m a (retires-none t p e) same
+
+    -- one that shows
+    show-ok : isRetire kind ≡ false → (len : ℕ) (s : Show) → len ≤ 64 → 4 * (6 + len) ≤ 35 * (2 + leastLength kind)
+        → showWithin len (frames t) s ≡ true
+        → ((st : List ℕ) → length st ≡ 64 * frames t → length (shownOf g s len st) ≡ len)
+        → ((st : List ℕ) → length (shownOf g s len st) ≡ len → formed (tells kind) (shownOf g s len st) ≡ true)
+        → IfAccepted (PlanOk t c size kind) (showing len s)
     unfolding changed
-    show-ok other len w short paid inside shows form still =
-        let m : Marks kind Kept = rw other in
+    show-ok other len s short paid inside shows form =
+        let m : Marks kind 255 = rw other in
         if-accepted
         (record {
-          near = near;
           frame-near = far;
           allowed = tt;
+          may-retire = retires-none t p Kept;
           marks = m;
           short = short;
           paid = paid;
@@ -213,34 +256,22 @@ module _ (t : Tables) (c : Call) (size : ℕ) (near : c .page < 64) (rules : Sou
           inside = inside;
           shows = shows;
           as-told = λ st l. form st (shows st l);
-          clears = λ bs st _ l f low none. ap (λ (x : List ℕ). block x f) (still bs st) ∙ kept-clears (frames t) g g st (λ y _. refl) f low none;
+          laid-is = λ bs st _ l. refl;
+          frees = kept-frees (frames t) size g g (Shows s) refl (λ y _. refl);
         })
 
-    lay-ok : tells kind ≡ Empty → (e : Edit) → Marks kind e → (laid : ℕ) (w : Work) → Allowed t (c .page) e → laid ≤ 512
-        → workWithin g 0 (frames t) size w ≡ true → ((st : List ℕ) → shownOf g w 0 st ≡ []) → Leaves e w
-        → IfAccepted (PlanOk t c size kind) (laying e laid w)
-    unfolding formed
-    lay-ok is e m laid w a few inside none clears =
-        if-accepted
-        (record {
-          near = near;
-          frame-near = far;
-          allowed = a;
-          marks = m;
-          short = zero-le;
-          paid = omega arith;
-          laid-fits = few;
-          inside = inside;
-          shows = λ st l. ap length (none st);
-          as-told = λ st l. rw (is, none st) refl;
-          clears = clears;
-        })
+    -- one that lays, and fills no other frame
+    only-ok : tells kind ≡ Empty → (e : Edit) → Marks kind 255 → (laid : ℕ) (l : Lay) → Allowed t p e → laid ≤ 512
+        → Exact laid (Lays l 255) → layWithin g (frames t) size l ≡ true → Frees (frames t) size g (changed g e) (Lays l 255)
+        → IfAccepted (PlanOk t c size kind) (laying e laid l)
+    only-ok is e m laid l a few exact inside frees =
+        lay-ok is e 255 m laid l 255 a (retires-none t p e) few exact (and-intro inside refl) frees
 
   -- ---- the walk
 
   copy-ok : (kind : Kind) → FrameNear t c kind → tells kind ≡ Empty → isRetire kind ≡ false → (k f : ℕ) → k < g .n → f < frames t → free t f ≡ true → absent g ≡ false
       → g .n ≢ 8 → IfAccepted (PlanOk t c size kind) (copying (copyAt g k) f)
-  unfolding shownOf laidIn
+  unfolding laidFrames
   copy-ok kind far is other k f less low spare some room =
       go (isNull (copyAt g k)) refl (copy-at (stands some) k less .placed)
     where
@@ -248,86 +279,97 @@ module _ (t : Tables) (c : Call) (size : ℕ) (near : c .page < 64) (rules : Sou
       onto = record { in-range = low; unused = spare }
 
       go : (z : Bool) → isNull (copyAt g k) ≡ z → (z ≡ false → copyAt g k .frame < frames t)
-          → IfAccepted (PlanOk t c size kind) (cond z (laying (Placed f) 64 (Clear f))
+          → IfAccepted (PlanOk t c size kind) (cond z (laying (Placed f) 64 (Zeros f))
           (laying (Added f (copyAt g k .recent)) 64 (Duplicate (copyAt g k .frame) f)))
       go true e at =
-          lay-ok kind far is (Placed f) (rw other) 64 (Clear f) (record { onto = onto; stands = some }) (omega arith) (lt-ltb f (frames t) low) (λ st. refl)
-          (λ bs st _ l. made-clears (frames t) g (changed g (Placed f)) st l f low
-          (λ y near. null-placed (stands some) k less e f y (omega (arith, few-frames))) zeros refl)
+          only-ok kind far is (Placed f) (rw other) 64 (Zeros f) (record { onto = onto; stands = some }) (omega arith) (λ bs st _ l. refl)
+          (lt-ltb f (frames t) low)
+          (made-frees (frames t) size g (changed g (Placed f)) f (Zeros f) refl
+          (λ y near. null-placed (stands some) k less e f y (omega (arith, small))))
       go false e at =
-          lay-ok kind far is (Added f _) (rw other) 64 (Duplicate _ f)
+          only-ok kind far is (Added f _) (rw other) 64 (Duplicate _ f)
           (record { onto = onto; room = omega (arith, stands some .most); from = k; from-in = less; from-placed = e }) (omega arith)
-          (and-intro (lt-ltb _ (frames t) (at refl)) (lt-ltb f (frames t) low)) (λ st. refl)
           (λ bs st _ l.
           let from = at refl in
-          made-clears (frames t) g (changed g (Added f (copyAt g k .recent))) st l f low
-          (λ y _. added-on (stands some) f (copyAt g k .recent) y (omega (arith, stands some .most))) (block st (copyAt g k .frame))
-          (length-part st (64 * copyAt g k .frame) 64 (omega arith)))
+          let b = length-part st (64 * copyAt g k .frame) 64 (omega arith) in
+          omega arith)
+          (and-intro (lt-ltb _ (frames t) (at refl)) (lt-ltb f (frames t) low))
+          (made-frees (frames t) size g (changed g (Added f (copyAt g k .recent))) f (Duplicate _ f) refl
+          (λ y _. added-on (stands some) f (copyAt g k .recent) y (omega (arith, stands some .most))))
 
-  perform-ok : (k : Kind) → nameOutside c ≡ false → FrameNear t c k
+  -- delete copy fills the frame that it frees
+  remove-ok : FrameNear t c DeleteCopy → (k : ℕ) → absent g ≡ false → k < g .n → RemoveOk g k
+      → IfAccepted (PlanOk t c size DeleteCopy) (clearing (Removed k) (copyAt g k .frame))
+  unfolding laidFrames tells
+  remove-ok far k some less ok =
+      let placed = removed-placed (stands some) k ok in
+      let low = copy-at (stands some) k less .placed placed in
+      let one = eqb-false (copyAt g k .frame) 255 placed in
+      lay-ok DeleteCopy far refl (Removed k) 255 refl 64 Nothing (copyAt g k .frame) ok (retires-none t p (Removed k)) (omega arith)
+      (λ bs st _ l. rw placed refl) (rw placed (lt-ltb _ (frames t) low))
+      (removed-frees (frames t) size g (changed g (Removed k)) (copyAt g k .frame) low placed (λ f. removed-on (stands some) k f less))
+
+  perform-ok : (k : Kind) → NamesNear c k → FrameNear t c k
       → (has offset k && badSpan (c .offset) (cond (has bytes k) size (c .count))) ≡ false
-      → IfAccepted (PlanOk t c size k)
-      (perform (record { frames = frames t; page = g; holder = registered t (c .frame) }) c size k)
-  unfolding perform shownOf laidIn names tells code among formed
+      → IfAccepted (PlanOk t c size k) (perform (viewOf t c) c size k)
+  unfolding perform shownOf laidFrames names tells code among formed
   perform-ok Create name far span =
       let low = ltb-false 15 (c .station) (or-left (ltb 15 (c .station)) _ (or-left (ltb 15 (c .station) || ltb 63 (c .page)) _ name)) in
       past (not (absent g)) _ refl (λ none. edit-ok Create far refl (Created (c .station)) refl (omega arith) (λ f l.
-      created-over g (not-false _ none) (c .station) f (omega (arith, few-frames))))
+      created-over g (not-false _ none) (c .station) f (omega (arith, small))))
   perform-ok DeletePage name far span =
-      past-standing g (owns g (c .station)) (λ some.
+      past-owner g (c .station) (λ some.
       let few = count-le isPlaced (inUse g) in
       let most = stands some .most in
       let long = length-in-use (stands some) in
-      lay-ok DeletePage far refl Deleted refl (64 * placed g) ClearPage tt (omega arith) (placed-within (stands some)) (λ st. refl)
-      (λ bs st _ l. deleted-clears (frames t) (omega (arith, few-frames)) g (changed g Deleted) st l (placed-within (stands some))
-      (λ f near. omega (arith, uses-at f (t .pages) (c .page), rules .once f near))))
+      let all = frames-length isPlaced (inUse g) in
+      only-ok DeletePage far refl Deleted refl (64 * placed g) ZerosEach tt (omega arith) (λ bs st _ l. omega arith)
+      (placed-within (stands some))
+      (deleted-frees (frames t) size (omega (arith, small)) g (changed g Deleted) (placed-within (stands some))
+      (λ f near. omega (arith, holders-at t f p, rules .once f near))))
   perform-ok Grant name far span =
       let low = ltb-false 2 (c .right) (or-right (ltb 15 (c .other)) _ (or-right (ltb 15 (c .station) || ltb 63 (c .page)) _ name)) in
-      past-standing g (owns g (c .station)) (λ some.
+      past-owner g (c .station) (λ some.
       edit-ok Grant far refl (Granted (c .other) (c .right)) refl (record { stands = some; low = low }) (λ f _. granted-on g (c .other) (c .right) f))
   perform-ok Read name far span =
-      past-standing g (mayRead g (c .station)) (λ some.
+      past-right g (c .station) Act.Read (λ some.
       past (eqb (currents g) 0) _ refl (λ e.
       let ne = eqb-false (currents g) 0 e in
       let low = first-low (inUse g) (currents-within (stands some)) (omega arith) in
       let some-bytes = eqb-false (c .count) 0 (or-left (eqb (c .count) 0) _ (or-right (ltb 63 (c .offset)) _ span)) in
       let span = span-within (c .offset) (c .count) span in
-      show-ok Read far refl (c .count) (Show _ (c .offset)) (omega arith) (omega arith) (and-intro (lt-ltb _ (frames t) low) (le-leb (c .offset + c .count) 64 span))
+      show-ok Read far refl (c .count) (Show.Frame _ (c .offset)) (omega arith) (omega arith) (and-intro (lt-ltb _ (frames t) low) (le-leb (c .offset + c .count) 64 span))
       (λ st l. length-frame-part st _ (c .offset) (c .count) (omega arith) span)
-      (λ st l. rw l (and-intro (le-leb 1 (c .count) (omega arith)) (le-leb (c .count) 64 (omega arith)))) (λ bs st. refl)))
+      (λ st l. rw l (and-intro (le-leb 1 (c .count) (omega arith)) (le-leb (c .count) 64 (omega arith))))))
   perform-ok Write name far span =
-      past-standing g (mayWrite g (c .station)) (λ some.
+      past-right g (c .station) Act.Write (λ some.
       past (eqb (currents g) 0) _ refl (λ e.
       let ne = eqb-false (currents g) 0 e in
       let span = span-within (c .offset) size span in
       let few = count-le isCurrent (inUse g) in
       let most = stands some .most in
       let long = length-in-use (stands some) in
-      lay-ok Write far refl Staled refl (size * currents g) (Spread (c .offset)) (record { stands = some; written = omega arith })
+      only-ok Write far refl Staled refl (size * currents g) (Spread (c .offset)) (record { stands = some; written = omega arith })
       (mul-le-mul {n₂ = 64} {m₂ = 8} (omega arith) (omega arith))
-      (and-intro (le-leb (c .offset + size) 64 span) (currents-within (stands some))) (λ st. refl)
-      (λ bs st b l. written-clears (frames t) g (changed g Staled) st l (λ f. staled-on (stands some) f) isCurrent (c .offset) bs
-      (omega arith) (currents-within (stands some)))))
+      (λ bs st b l. rw (frames-length isCurrent (inUse g), b) (mul-comm size (currents g) ∙ sym (add-zero _)))
+      (and-intro (le-leb (c .offset + size) 64 span) (currents-within (stands some)))
+      (written-frees (frames t) size g (changed g Staled) (c .offset) (λ f. staled-on (stands some) f))))
   perform-ok MakeCopy name far span =
-      past-numbered g (c .copy) (λ some less. past (isRetired (registered t (c .frame))) _ refl (λ kept.
+      past-copy g (c .copy) (λ some less. past (isRetired (registered t (c .frame))) _ refl (λ kept.
       past (not (isFree (registered t (c .frame)))) _ refl (λ is. past (eqb (g .n) 8) _ refl (λ room.
       let low = leb-false (frames t) (c .frame) far in
-      copy-ok MakeCopy far refl refl (c .copy) (c .frame) less low (told (c .frame) low ∙ not-false _ is) some (eqb-false (g .n) 8 room)))))
+      copy-ok MakeCopy far refl refl (c .copy) (c .frame) less low (told-free (c .frame) low ∙ not-false _ is) some (eqb-false (g .n) 8 room)))))
   perform-ok DeleteCopy name far span =
-      past-numbered g (c .copy) (λ some less.
+      past-copy g (c .copy) (λ some less.
       past (copyAt g (c .copy) .recent && eqb (recents g) 1) _ refl (λ last.
-      let ok : RemoveOk g (c .copy) = record { in-use = less; not-last = last } in
-      lay-ok DeleteCopy far refl (Removed (c .copy)) refl 64 (Clear (copyAt g (c .copy) .frame)) ok (omega arith)
-      (lt-ltb _ (frames t) (copy-at (stands some) (c .copy) less .placed (removed-placed (stands some) (c .copy) ok))) (λ st. refl)
-      (λ bs st _ l. removed-clears (frames t) g (changed g (Removed (c .copy))) st l (copyAt g (c .copy) .frame)
-      (copy-at (stands some) (c .copy) less .placed (removed-placed (stands some) (c .copy) ok)) (λ f. removed-on (stands some) (c .copy) f less))))
+      remove-ok far (c .copy) some less (record { in-use = less; not-last = last })))
   perform-ok SetCurrent name far span =
-      past-numbered g (c .copy) (λ some less. past (isNull (copyAt g (c .copy))) _ refl (λ full.
+      past-copy g (c .copy) (λ some less. past (isNull (copyAt g (c .copy))) _ refl (λ full.
       past (not (copyAt g (c .copy) .recent)) _ refl (λ new.
       edit-ok SetCurrent far refl (Marked (c .copy) true) refl (record { in-use = less; fresh = λ _. not-false _ new; placed = λ _. full })
       (λ f _. marked-on (stands some) (c .copy) true f less))))
   perform-ok RemoveCurrent name far span =
-      past-numbered g (c .copy) (λ some less.
+      past-copy g (c .copy) (λ some less.
       edit-ok RemoveCurrent far refl (Marked (c .copy) false) refl (record { in-use = less; fresh = λ e. absurd (false≢true e); placed = λ e. absurd (false≢true e) })
       (λ f _. marked-on (stands some) (c .copy) false f less))
   perform-ok LookPage name far span =
@@ -335,51 +377,52 @@ module _ (t : Tables) (c : Call) (size : ℕ) (near : c .page < 64) (rules : Sou
       let least = stands some .some in
       let most = stands some .most in
       let long = length-in-use (stands some) in
-      let data-long = length-entries (inUse g) in
-      show-ok LookPage far refl (1 + 3 * length (inUse g)) ShowPage (omega arith) (omega arith) refl (λ st l. omega arith)
+      let data-long = length-shown (inUse g) in
+      show-ok LookPage far refl (1 + 3 * length (inUse g)) Show.Page (omega arith) (omega arith) refl (λ st l. omega arith)
       (λ st l. and-intro (and-intro (le-leb 1 (g .n) (omega arith)) (le-leb (g .n) 8 most))
-      (and-intro (eq-eqb _ (1 + 3 * g .n) (omega arith)) (subst (λ (n : ℕ). eachIs n 3 copyMarked (entries (inUse g)) ≡ true) long (entries-marked (inUse g)))))
-      (λ bs st. refl))
-  perform-ok LookFrame name far span = show-ok LookFrame far refl 3 (ShowHolder _) (omega arith) (omega arith) refl
-      (λ st l. three-shown (registered t (c .frame))) (λ st l. eq-eqb _ 3 l) (λ bs st. refl)
+      (and-intro (eq-eqb _ (1 + 3 * g .n) (omega arith)) (subst (λ (n : ℕ). eachIs n 3 copyMarked (entries (inUse g)) ≡ true) long (shown-marked (inUse g))))))
+  perform-ok LookFrame name far span = show-ok LookFrame far refl 3 (Show.Holder _) (omega arith) (omega arith) refl
+      (λ st l. three-shown (registered t (c .frame))) (λ st l. eq-eqb _ 3 l)
   perform-ok Retire name far span = by (isRetired (registered t (c .frame))) refl
     where
       by : (b : Bool) → isRetired (registered t (c .frame)) ≡ b → IfAccepted (PlanOk t c size Retire)
-          (cond b (editing Kept) (test (not (isFree (registered t (c .frame)))) frameHeld (editing (Retired (c .frame)))))
+          (cond b (editing Kept) (test (not (isFree (registered t (c .frame)))) frameHeld (retiring (c .frame))))
       by true e = edit-ok Retire far refl Kept (rw e) tt (λ f _. kept-on g f)
       by false e =
           past (not (isFree (registered t (c .frame)))) _ refl (λ is.
           let low = leb-false (frames t) (c .frame) far in
-          edit-ok Retire far refl (Retired (c .frame)) (rw e) (record { in-range = low; unused = told (c .frame) low ∙ not-false _ is })
-          (λ f _. retired-on g (c .frame) f))
+          change-ok Retire far refl Kept (c .frame) (rw e) tt
+          (retires-free t p (c .frame) (record { in-range = low; unused = told-free (c .frame) low ∙ not-false _ is })) (λ f _. kept-on g f))
 
 -- ---- a call on tables that keep the rules
+
+-- 0 or 7 is 0 or a number of the table
+range-listed : (frames size : ℕ) (c : Call) → listed (outside frames size c) (accepted ∷ table) ≡ true
+range-listed frames size c = outside-listed frames size c (λ (n : ℕ). listed n (accepted ∷ table) ≡ true) refl refl
 
 pub decide-ok : (t : Tables) (c : Call) (size : ℕ) → sound t ≡ true → IfAccepted (PlanOk t c size (c .kind)) (decide t c size)
 unfolding decideOn
 decide-ok t c size e =
-    past (nameOutside c) _ refl (λ name. past (frameOutside (frames t) c) _ refl (λ far. past (spanOutside size c) _ refl (λ span.
-    let near = page-near c name in
-    perform-ok t c size near (sound-of t e) (λ f l. registered-free t f e l) (c .kind) name far span)))
+    past-number (outside (frames t) size c) (range-listed (frames t) size c) (λ z.
+    let r = ranged (frames t) size c z in
+    perform-ok t c size (sound-of t e) (λ f l. registered-free t f e l) (c .kind) (r .names-in) (r .frame-in) (r .span-in))
 
 -- an accepted read shows bytes of the lowest-numbered CURRENT copy
 pub read-shows : (v : View) (c : Call) (size : ℕ) → c .kind ≡ Read
-    → IfAccepted (λ (plan : Plan). plan .work ≡ Show (firstCurrent (inUse (v .page))) (c .offset)) (decideOn v c size)
+    → IfAccepted (λ (plan : Plan). plan .work ≡ Shows (Show.Frame (firstCurrent (inUse (v .page))) (c .offset))) (decideOn v c size)
 unfolding decideOn perform
 read-shows v c size is =
-    past (nameOutside c) _ refl (λ _. past (frameOutside (v .frames) c) _ refl (λ _. past (spanOutside size c) _ refl (λ _.
-    rw is (past-standing (v .page) (mayRead (v .page) (c .station)) (λ _. past (eqb (currents (v .page)) 0) _ refl (λ _. if-accepted refl))))))
+    past-number (outside (v .frames) size c) (range-listed (v .frames) size c) (λ _.
+    rw is (past-right (v .page) (c .station) Act.Read (λ _. past (eqb (currents (v .page)) 0) _ refl (λ _. if-accepted refl))))
 
--- an accepted retire edits the tables and does nothing else
+-- an accepted retire retires the frame, where it is not already, and does nothing else
 pub retire-plans : (v : View) (c : Call) (size : ℕ) → c .kind ≡ Retire
-    → IfAccepted (λ (plan : Plan). plan ≡ record { edit = cond (isRetired (v .holder)) Kept (Retired (c .frame)); laid = 0; len = 0; work = Nothing })
-    (decideOn v c size)
+    → IfAccepted (λ (plan : Plan). plan ≡ planOf Kept (cond (isRetired (v .holder)) 255 (c .frame)) 0 0 noWork) (decideOn v c size)
 unfolding decideOn perform
 retire-plans v c size is =
-    past (nameOutside c) _ refl (λ _. past (frameOutside (v .frames) c) _ refl (λ _. past (spanOutside size c) _ refl (λ _.
-    rw is (by (isRetired (v .holder))))))
+    past-number (outside (v .frames) size c) (range-listed (v .frames) size c) (λ _. rw is (by (isRetired (v .holder))))
   where
-    by : (b : Bool) → IfAccepted (λ (plan : Plan). plan ≡ record { edit = cond b Kept (Retired (c .frame)); laid = 0; len = 0; work = Nothing })
-        (cond b (editing Kept) (test (not (isFree (v .holder))) frameHeld (editing (Retired (c .frame)))))
+    by : (b : Bool) → IfAccepted (λ (plan : Plan). plan ≡ planOf Kept (cond b 255 (c .frame)) 0 0 noWork)
+        (cond b (editing Kept) (test (not (isFree (v .holder))) frameHeld (retiring (c .frame))))
     by true = if-accepted refl
     by false = past (not (isFree (v .holder))) _ refl (λ _. if-accepted refl)

@@ -2,14 +2,15 @@ pub mod KindLaws
 pub mod RangeLaws
 pub mod RightLaws
 pub mod CountLaws
-pub mod VerdictLaws
-pub mod JudgeLaws
+pub mod GuardLaws
+pub mod DecisionLaws
 pub mod Rows
 pub mod StoreLaws
 pub mod CopyLaws
 pub mod DataLaws
 pub mod Blocks
 pub mod ClearLaws
+pub mod WorkLaws
 pub mod CarryLaws
 pub mod DecideLaws
 pub mod StepLaws

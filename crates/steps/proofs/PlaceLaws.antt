@@ -2,7 +2,7 @@
 -- place of a read, which lies within its store and has the data of the step.
 use Prim.Native.Nat.{ℕ, _+_, _-_, _*_, _≤_, _<_, zero-le}
 use mathlib.Core.Path.{_≡_, refl, sym, ap, subst, _∙_}
-use mathlib.Core.Bool.{Bool, true, false, not, cond}
+use mathlib.Core.Bool.{Bool, true, false, cond}
 use mathlib.Core.List.{List, [], _++_}
 use native.Mathlib.Omega.{arith}
 use lib.ListN.{length}
@@ -10,22 +10,22 @@ use lib.Dec.{ltb}
 use borrow.Author.Tests.{ltb-true, ltb-false, leb-true}
 use Rattle.tables.specs.declared.Tables.{Tables}
 use Rattle.tables.specs.Model.{frames, inUse, pageAt}
-use Rattle.tables.specs.Rules.{sound}
 use Rattle.tables.proofs.ListLaws.{and-left, and-right}
 use Rattle.steps.specs.declared.Kind.the-variants.{Read}
 use Rattle.steps.specs.declared.Call.{Call}
 use Rattle.steps.specs.declared.Place.{Place}
 use Rattle.steps.specs.declared.Work.{Work}
-use Rattle.steps.specs.declared.Work.the-variants.{Nothing, Clear, ClearPage, Duplicate, Spread, Show, ShowPage, ShowHolder}
+use Rattle.steps.specs.declared.Work.the-variants.{Shows}
+use Rattle.steps.specs.declared.Show.the-variants as Show
 use Rattle.steps.specs.declared.Decision.{Decision}
-use Rattle.steps.specs.Stores.{fits, part, block}
-use Rattle.steps.specs.Steps.{Outcome, refuse, accept, mapped, Plan, firstCurrent, viewOf, decideAny}
-use Rattle.steps.specs.Effects.{shownOf, State, carriedOut, step, dataOf, framePlace, noPlace, shownAt, placeOf, readPlace}
+use Rattle.steps.specs.Stores.{part, block}
+use Rattle.steps.specs.Steps.{Outcome, refuse, accept, mapped, Plan, firstCurrent, pageFor, viewOf, rulesNumber, decideAny}
+use Rattle.steps.specs.Effects.{shownOf, State, carriedOut, step, dataOf, framePlace, workAt, placeOf, readPlace}
 use Rattle.steps.specs.Promises.{decisionOf, workOf, lenOf, bytesAt, pointerAt, ReadPart}
 use Rattle.steps.specs.Private.{Room, PlaceIn}
 use Rattle.steps.proofs.StoreLaws.{length-part, part-fast, part-slow, part-block}
-use Rattle.steps.proofs.DecideLaws.{IfAccepted, if-accepted, past, read-shows}
-use Rattle.steps.proofs.StepLaws.{fit-lengths, Sure, sure}
+use Rattle.steps.proofs.DecideLaws.{IfAccepted, if-accepted, past-number, read-shows}
+use Rattle.steps.proofs.StepLaws.{fit-lengths, rules-listed, Sure, sure}
 
 -- ---- bytes of a frame
 
@@ -64,30 +64,16 @@ place-low place x y limit h k l = go (place .slow) h
 
 -- ---- what a decision shows
 
--- of a work that shows no bytes of a frame
-none-shown : (p : ℕ) (w : Work) (len : ℕ) → ((f o : ℕ) → w ≡ Show f o → ⊥) → shownAt p w len ≡ noPlace
-none-shown p Nothing len none = refl
-none-shown p (Clear f) len none = refl
-none-shown p ClearPage len none = refl
-none-shown p (Duplicate from to) len none = refl
-none-shown p (Spread o) len none = refl
-none-shown p (Show f o) len none = absurd (none f o refl)
-none-shown p ShowPage len none = refl
-none-shown p (ShowHolder h) len none = refl
-
 module _ (t : Tables) (fast slow : ℕ) (c : Call) (d : Decision) (is : d ≡ decisionOf t c (decideAny t fast slow c 0)) where
-  place-told : shownAt (t .shared .p) (d .work) (d .len) ≡ readPlace t fast slow c
-  place-told = ap (λ (e : Decision). shownAt (t .shared .p) (e .work) (e .len)) is ∙ go (decideAny t fast slow c 0)
+  -- the place of what it shows or lays is that of the read
+  pub place-told : (w : Work) → d .work ≡ w → workAt (t .shared .p) w (d .len) ≡ readPlace t fast slow c
+  place-told w e =
+      ap (λ (x : Work). workAt (t .shared .p) x (d .len)) (sym e) ∙ ap (λ (e : Decision). workAt (t .shared .p) (e .work) (e .len)) is
+      ∙ go (decideAny t fast slow c 0)
     where
-      go : (o : Outcome Plan) → shownAt (t .shared .p) (workOf o) (lenOf o) ≡ placeOf (t .shared .p) o
+      go : (o : Outcome Plan) → workAt (t .shared .p) (workOf o) (lenOf o) ≡ placeOf (t .shared .p) o
       go (refuse n) = refl
       go (accept plan) = refl
-
-  pub place-shown : (f a : ℕ) → d .work ≡ Show f a → framePlace (t .shared .p) f a (d .len) ≡ readPlace t fast slow c
-  place-shown f a e = ap (λ (w : Work). shownAt (t .shared .p) w (d .len)) (sym e) ∙ place-told
-
-  pub place-none : ((f a : ℕ) → d .work ≡ Show f a → ⊥) → noPlace ≡ readPlace t fast slow c
-  place-none none = sym (none-shown (t .shared .p) (d .work) (d .len) none) ∙ place-told
 
 -- ---- a read
 
@@ -96,13 +82,13 @@ module _ (s : State) (c : Call) (kind : c .kind ≡ Read) where
   abbrev o : Outcome Plan
   o = decideAny (s .tables) (length (s .fast)) (length (s .slow)) c 0
 
-  shows : IfAccepted (λ (plan : Plan). plan .work ≡ Show (firstCurrent (inUse (pageAt (s .tables) (c .page)))) (c .offset)) o
+  shows : IfAccepted (λ (plan : Plan). plan .work ≡ Shows (Show.Frame (firstCurrent (inUse (pageAt (s .tables) (pageFor c)))) (c .offset))) o
   shows =
-      past (not (sound (s .tables))) _ refl (λ _. past (not (fits (s .tables) (length (s .fast)) (length (s .slow)))) _ refl (λ _.
-      read-shows (viewOf (s .tables) c) c 0 kind))
+      past-number (rulesNumber (s .tables) (length (s .fast)) (length (s .slow))) (rules-listed (s .tables) (length (s .fast)) (length (s .slow))) (λ _.
+      read-shows (viewOf (s .tables) c) c 0 kind)
 
   -- the bytes that an accepted one shows are those of a frame
-  shown-room : (plan : Plan) → Sure s c [] plan → (f a : ℕ) → plan .work ≡ Show f a
+  shown-room : (plan : Plan) → Sure s c [] plan → (f a : ℕ) → plan .work ≡ Shows (Show.Frame f a)
       → Room (s .fast) (s .slow) (s .tables .shared .p) f × (a + plan .len ≤ 64)
   shown-room plan u f a w =
       let i = rw w at (u .plan-ok .inside) in
@@ -115,7 +101,7 @@ module _ (s : State) (c : Call) (kind : c .kind ≡ Read) where
   read-in = go o (sure s c []) shows
     where
       go : (o : Outcome Plan) → IfAccepted (Sure s c []) o
-          → IfAccepted (λ (plan : Plan). plan .work ≡ Show (firstCurrent (inUse (pageAt (s .tables) (c .page)))) (c .offset)) o
+          → IfAccepted (λ (plan : Plan). plan .work ≡ Shows (Show.Frame (firstCurrent (inUse (pageAt (s .tables) (pageFor c)))) (c .offset))) o
           → PlaceIn (placeOf (s .tables .shared .p) o) (s .fast) (s .slow)
       go (refuse n) k w = zero-le
       go (accept plan) (if-accepted u) (if-accepted w) =
@@ -128,7 +114,7 @@ module _ (s : State) (c : Call) (kind : c .kind ≡ Read) where
   read-bytes = go o (sure s c []) shows
     where
       go : (o : Outcome Plan) → IfAccepted (Sure s c []) o
-          → IfAccepted (λ (plan : Plan). plan .work ≡ Show (firstCurrent (inUse (pageAt (s .tables) (c .page)))) (c .offset)) o
+          → IfAccepted (λ (plan : Plan). plan .work ≡ Shows (Show.Frame (firstCurrent (inUse (pageAt (s .tables) (pageFor c)))) (c .offset))) o
           → bytesAt (placeOf (s .tables .shared .p) o) (s .fast) (s .slow) ≡ dataOf (mapped (carriedOut s c []) o)
       go (refuse n) k w = refl
       go (accept plan) (if-accepted u) (if-accepted w) =

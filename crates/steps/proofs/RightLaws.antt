@@ -9,7 +9,7 @@ use Rattle.tables.specs.declared.Page.{Page}
 use Rattle.steps.specs.declared.Act.{Act}
 use Rattle.steps.specs.declared.Act.the-variants.{Read, Write}
 use Rattle.steps.specs.Rights.{allows}
-use Rattle.steps.specs.Steps.{rightOf, mayRead, mayWrite}
+use Rattle.steps.specs.Steps.{rightOf, may}
 
 -- the least right that allows an act
 abbrev least : Act → ℕ
@@ -40,9 +40,9 @@ not-least-two (suc zero) = refl
 not-least-two (suc (suc r)) = rw (le-leb 2 (suc (suc r)) (omega arith), le-ltb (suc (suc r)) 2 (omega arith))
 
 -- "read with right 0"
-pub lacks-read : (g : Page) (station : ℕ) → not (mayRead g station) ≡ eqb (rightOf g station) 0
+pub lacks-read : (g : Page) (station : ℕ) → not (may g station Read) ≡ eqb (rightOf g station) 0
 lacks-read g station = ap not (allows-least (rightOf g station) Read) ∙ not-least-one (rightOf g station)
 
 -- "write with right below 2"
-pub lacks-write : (g : Page) (station : ℕ) → not (mayWrite g station) ≡ ltb (rightOf g station) 2
+pub lacks-write : (g : Page) (station : ℕ) → not (may g station Write) ≡ ltb (rightOf g station) 2
 lacks-write g station = ap not (allows-least (rightOf g station) Write) ∙ not-least-two (rightOf g station)

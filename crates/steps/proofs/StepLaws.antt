@@ -16,25 +16,25 @@ use Rattle.tables.specs.Numbers.{accepted, brokenTables, misfitStore, table}
 use Rattle.tables.specs.Model.{frames, isNull, inUse, absent, pageAt}
 use Rattle.tables.specs.Rules.{isCurrent, sound}
 use Rattle.tables.specs.Changes.{after}
+use Rattle.tables.specs.Keep.{unchanged}
 use Rattle.tables.proofs.ListLaws.{and-intro, and-left, and-right}
 use Rattle.tables.proofs.RuleLaws.{StandingPage, copy-at, sound-of, standing-at}
 use Rattle.tables.proofs.ChangeSound.{sound-after}
 use Rattle.steps.specs.declared.Call.{Call}
-use Rattle.steps.specs.declared.Work.{Work}
-use Rattle.steps.specs.declared.Work.the-variants.{Nothing, Clear, ClearPage, Duplicate, Spread, Show, ShowPage, ShowHolder}
 use Rattle.steps.specs.declared.Decision.{Decision}
 use Rattle.steps.specs.Kinds.{tells, leastLength}
 use Rattle.steps.specs.Data.{formed}
-use Rattle.steps.specs.Stores.{fits, block, held, zeros, over}
-use Rattle.steps.specs.Steps.{Outcome, refuse, accept, test, mapped, Plan, isPlaced, copyAt, decide, decideAny, numberOf}
-use Rattle.steps.specs.Effects.{laidIn, shownOf, State, joined, Result, carriedOut, step, left, laidBy, dataOf}
-use Rattle.steps.specs.Promises.{stateOf, rulesNumber, decisionOf, Lent, lent, workWithin, within, carried, Stepped, settled}
-use Rattle.steps.specs.Private.{framesIn, Decides}
-use Rattle.steps.proofs.JudgeLaws.{decides-any}
+use Rattle.steps.specs.Stores.{fits, block, held, zeros, layAll, over}
+use Rattle.steps.specs.Steps.{Outcome, refuse, accept, mapped, Plan, noWork, copyAt, pageFor, decide, rulesNumber, decideAny, numberOf}
+use Rattle.steps.specs.Effects.{laidFrames, stored, told, State, joined, Result, carriedOut, step, left, movedBy, laidBy, dataOf}
+use Rattle.steps.specs.Promises.{stateOf, decisionOf, Lent, lent, workWithin, within, carried, Stepped, settled}
+use Rattle.steps.specs.Private.{framesIn, DecisionTold}
+use Rattle.steps.proofs.GuardLaws.{turned-back, passed}
+use Rattle.steps.proofs.DecisionLaws.{page-near, decides-any}
 use Rattle.steps.proofs.StoreLaws.{length-part}
-use Rattle.steps.proofs.Blocks.{length-lay, length-each}
+use Rattle.steps.proofs.WorkLaws.{length-stored}
 use Rattle.steps.proofs.CarryLaws.{lent-same}
-use Rattle.steps.proofs.DecideLaws.{IfAccepted, if-refused, if-accepted, past, then-keeps, PlanOk, decide-ok}
+use Rattle.steps.proofs.DecideLaws.{IfAccepted, if-refused, if-accepted, past-number, then-keeps, PlanOk, decide-ok}
 
 -- ---- tables and stores that keep the rules
 
@@ -69,7 +69,16 @@ length-held {limit} {g} d st long k h = go (isNull (copyAt g k)) (copy-at d k h 
 
 -- ---- 5 and 6
 
-ruled : (t : Tables) (x y : ℕ) → rulesNumber t x y ≡ accepted → (sound t ≡ true) × (fits t x y ≡ true)
+-- 0, 5 or 6 is 0 or a number of the table
+pub rules-listed : (t : Tables) (x y : ℕ) → listed (rulesNumber t x y) (accepted ∷ table) ≡ true
+rules-listed t x y = go (sound t) (fits t x y)
+  where
+    go : (a b : Bool) → listed (cond a (cond b accepted misfitStore) brokenTables) (accepted ∷ table) ≡ true
+    go true true = refl
+    go true false = refl
+    go false b = refl
+
+pub ruled : (t : Tables) (x y : ℕ) → rulesNumber t x y ≡ accepted → (sound t ≡ true) × (fits t x y ≡ true)
 ruled t x y e = go (sound t) (fits t x y) e
   where
     go : (a b : Bool) → cond a (cond b accepted misfitStore) brokenTables ≡ accepted → (a ≡ true) × (b ≡ true)
@@ -88,43 +97,15 @@ good-rules i = rw (i .tables-sound, i .stores-fit)
 
 -- a decision then needs no test of them
 pub decide-ruled : (t : Tables) (fl sl : ℕ) (c : Call) (size : ℕ) → rulesNumber t fl sl ≡ accepted → decideAny t fl sl c size ≡ decide t c size
-decide-ruled t fl sl c size e = let k = ruled t fl sl e in rw (k .0, k .1)
+decide-ruled t fl sl c size e = passed (rulesNumber t fl sl) (decide t c size) e
 
 -- where one applies, it is the number of every call
 pub step-unruled : (s : State) (c : Call) (bs : List ℕ) (n : ℕ) → rulesNumber (s .tables) (length (s .fast)) (length (s .slow)) ≡ n
     → (n ≡ accepted → ⊥) → step s c bs ≡ refuse n
 unfolding step
-step-unruled s c bs n = go (sound (s .tables)) (fits (s .tables) (length (s .fast)) (length (s .slow))) (decide (s .tables) c (length bs))
-  where
-    go : (a b : Bool) (o : Outcome Plan) → cond a (cond b accepted misfitStore) brokenTables ≡ n → (n ≡ accepted → ⊥)
-        → mapped (carriedOut s c bs) (test (not a) brokenTables (test (not b) misfitStore o)) ≡ refuse n
-    go true true o e ne = absurd (ne (sym e))
-    go true false o e ne = ap refuse e
-    go false b o e ne = ap refuse e
+step-unruled s c bs n e ne = rw (e, turned-back n (decide (s .tables) c (length bs)) ne)
 
 -- ---- a plan carried out
-
--- a work within the frames keeps the length of the stores
-length-laid : (g : Page) (w : Work) (len limit : ℕ) (bs st : List ℕ) → length st ≡ 64 * limit → workWithin g len limit (length bs) w ≡ true
-    → length (laidIn g w bs st) ≡ length st
-unfolding laidIn
-length-laid g Nothing len limit bs st l e = refl
-length-laid g (Clear f) len limit bs st l e =
-    let h = ltb-true f limit e in
-    length-lay st f (omega arith) 0 zeros (omega arith)
-length-laid g ClearPage len limit bs st l e = length-each isPlaced limit 0 zeros (omega arith) (inUse g) st l e ∙ sym l
-length-laid g (Duplicate from to) len limit bs st l e =
-    let h = ltb-true from limit (and-left (ltb from limit) _ e) in
-    let k = ltb-true to limit (and-right (ltb from limit) _ e) in
-    let b = length-part st (64 * from) 64 (omega arith) in
-    length-lay st to (omega arith) 0 (block st from) (omega arith)
-length-laid g (Spread o) len limit bs st l e =
-    length-each isCurrent limit o bs (leb-true (o + length bs) 64 (and-left (leb (o + length bs) 64) _ e)) (inUse g) st l
-    (and-right (leb (o + length bs) 64) _ e)
-    ∙ sym l
-length-laid g (Show f o) len limit bs st l e = refl
-length-laid g ShowPage len limit bs st l e = refl
-length-laid g (ShowHolder h) len limit bs st l e = refl
 
 -- of an accepted call: the rules hold before it, and its plan is in order
 pub record Sure (s : State) (c : Call) (bs : List ℕ) (plan : Plan) : Type 0 where
@@ -134,17 +115,18 @@ pub record Sure (s : State) (c : Call) (bs : List ℕ) (plan : Plan) : Type 0 wh
 module _ (s : State) (c : Call) (bs : List ℕ) where
   pub sure : IfAccepted (Sure s c bs) (decideAny (s .tables) (length (s .fast)) (length (s .slow)) c (length bs))
   sure =
-      past (not (sound (s .tables))) _ refl (λ e₅. past (not (fits (s .tables) (length (s .fast)) (length (s .slow)))) _ refl (λ e₆.
-      then-keeps (λ plan k. record { good = record { tables-sound = not-false _ e₅; stores-fit = not-false _ e₆ }; plan-ok = k })
-      (decide-ok (s .tables) c (length bs) (not-false _ e₅))))
+      past-number (rulesNumber (s .tables) (length (s .fast)) (length (s .slow))) (rules-listed (s .tables) (length (s .fast)) (length (s .slow))) (λ z.
+      let i = rules-good z in
+      then-keeps (λ plan k. record { good = i; plan-ok = k }) (decide-ok (s .tables) c (length bs) (i .tables-sound)))
 
   abbrev laidOut : Plan → List ℕ
-  laidOut plan = laidIn (pageAt (s .tables) (c .page)) (plan .work) bs (joined s)
+  laidOut plan = stored (pageAt (s .tables) (pageFor c)) (plan .work) bs (joined s)
 
   both-long : (plan : Plan) → Sure s c bs plan
       → (length (take (length (s .fast)) (laidOut plan)) ≡ length (s .fast)) × (length (drop (length (s .fast)) (laidOut plan)) ≡ length (s .slow))
   both-long plan u =
-      let l = length-laid (pageAt (s .tables) (c .page)) (plan .work) (plan .len) (frames (s .tables)) bs (joined s) (joined-long (u .good)) (u .plan-ok .inside) in
+      let long = joined-long (u .good) in
+      let l = length-stored (pageAt (s .tables) (pageFor c)) (frames (s .tables)) (plan .len) bs (joined s) long (plan .work) (u .plan-ok .inside) in
       let j = length-append (s .fast) (s .slow) in
       (length-take-le (length (s .fast)) (laidOut plan) (omega arith), length-drop (length (s .fast)) (laidOut plan) ∙ omega arith)
 
@@ -172,7 +154,7 @@ module _ (s : State) (c : Call) (bs : List ℕ) where
           let l = fit-lengths (s .tables) (length (s .fast)) (length (s .slow)) (i .stores-fit) in
           let b = both-long plan u in
           record {
-            tables-sound = sound-after (s .tables) (c .page) (plan .edit) (u .plan-ok .near) (i .tables-sound) (u .plan-ok .allowed);
+            tables-sound = sound-after (s .tables) (pageFor c) (plan .edit) (plan .retires) (page-near c) (i .tables-sound) (u .plan-ok .allowed) (u .plan-ok .may-retire);
             stores-fit = and-intro (eq-eqb _ _ (b .0 ∙ l .0)) (eq-eqb _ _ (b .1 ∙ l .1));
           }
 
@@ -232,6 +214,7 @@ module _ (s : State) (c : Call) (bs : List ℕ) where
 
 pub record Carries (s : State) (c : Call) (bs out : List ℕ) (d : Decision) : Type 0 where
   pub number-is : d .number ≡ numberOf (step s c bs)
+  pub moved-is : d .moved ≡ movedBy (step s c bs)
   pub laid-is : d .laid ≡ laidBy (step s c bs)
   pub len-is : d .len ≡ length (dataOf (step s c bs))
   pub tables-is : settled (s .tables) d ≡ left s (step s c bs) .tables
@@ -239,62 +222,70 @@ pub record Carries (s : State) (c : Call) (bs out : List ℕ) (d : Decision) : T
       ≡ lent (left s (step s c bs) .fast) (left s (step s c bs) .slow) (over (dataOf (step s c bs)) out)
 
 -- one with nothing to do leaves all as lent
-carried-nothing : (d : Decision) (bs x y out : List ℕ) → d .work ≡ Nothing → carried d bs (lent x y out) ≡ lent x y out
-unfolding carried laidIn shownOf
+carried-nothing : (d : Decision) (bs x y out : List ℕ) → d .work ≡ noWork → carried d bs (lent x y out) ≡ lent x y out
+unfolding carried laidFrames layAll
 carried-nothing d bs x y out e = go (within d (length bs) (lent x y out))
   where
     go : (b : Bool)
-        → cond b (lent (take (length x) (laidIn (d .before) (d .work) bs (x ++ y))) (drop (length x) (laidIn (d .before) (d .work) bs (x ++ y)))
-        (over (shownOf (d .before) (d .work) (d .len) (x ++ y)) out)) (lent x y out)
+        → cond b (lent (take (length x) (stored (d .before) (d .work) bs (x ++ y))) (drop (length x) (stored (d .before) (d .work) bs (x ++ y)))
+        (over (told (d .before) (d .work) (d .len) (x ++ y)) out)) (lent x y out)
         ≡ lent x y out
     go true = rw e (lent-same (take-append-seam x y) (drop-append-seam x y) refl)
     go false = refl
 
 -- one made on what keeps the rules lies within it
 pub decided-within : (s : State) (c : Call) (size : ℕ) (out : List ℕ) (d : Decision) → Good s → 64 ≤ length out
-    → Decides (s .tables) c (decide (s .tables) c size) d → within d size (lent (s .fast) (s .slow) out) ≡ true
+    → DecisionTold (s .tables) c (decide (s .tables) c size) d → within d size (lent (s .fast) (s .slow) out) ≡ true
 decided-within s c size out d i room q =
     let l = fit-lengths (s .tables) (length (s .fast)) (length (s .slow)) (i .stores-fit) in
     let same : framesIn (s .fast) (s .slow) ≡ frames (s .tables) = omega arith in
     and-intro (le-leb 64 (length out) room) (and-intro (eq-eqb (length (s .fast) % 64) 0 (omega arith))
     (rw same (go _ (decide-ok (s .tables) c size (i .tables-sound)) q)))
   where
-    go : (o : Outcome Plan) → IfAccepted (PlanOk (s .tables) c size (c .kind)) o → Decides (s .tables) c o d
+    go : (o : Outcome Plan) → IfAccepted (PlanOk (s .tables) c size (c .kind)) o → DecisionTold (s .tables) c o d
         → workWithin (d .before) (d .len) (frames (s .tables)) size (d .work) ≡ true
     go (refuse n) k q = rw (q .work-told) refl
-    go (accept plan) (if-accepted u) q = rw (q .before-told refl, q .len-told, q .work-told) (u .inside)
+    go (accept plan) (if-accepted u) q = rw (q .before-told, q .len-told, q .work-told) (u .inside)
 
 -- and a decision on any tables and stores, carried out, is the step
 pub carries : (s : State) (c : Call) (bs out : List ℕ) (d : Decision) → 64 ≤ length out
     → d ≡ decisionOf (s .tables) c (decideAny (s .tables) (length (s .fast)) (length (s .slow)) c (length bs)) → Carries s c bs out d
-unfolding step carried
+unfolding step carried unchanged
 carries s c bs out d room is = go _ refl (sure s c bs) q
   where
-    q : Decides (s .tables) c (decideAny (s .tables) (length (s .fast)) (length (s .slow)) c (length bs)) d
+    q : DecisionTold (s .tables) c (decideAny (s .tables) (length (s .fast)) (length (s .slow)) c (length bs)) d
     q = decides-any (s .tables) c (length (s .fast)) (length (s .slow)) (length bs) d is
 
-    told : (r : Outcome Result) → step s c bs ≡ r → d .number ≡ numberOf r → d .laid ≡ laidBy r → d .len ≡ length (dataOf r)
+    so-told : (r : Outcome Result) → step s c bs ≡ r → d .number ≡ numberOf r → d .moved ≡ movedBy r → d .laid ≡ laidBy r → d .len ≡ length (dataOf r)
         → settled (s .tables) d ≡ left s r .tables
         → carried d bs (lent (s .fast) (s .slow) out) ≡ lent (left s r .fast) (left s r .slow) (over (dataOf r) out) → Carries s c bs out d
-    told r e n l k t w =
+    so-told r e n m l k t w =
         record {
           number-is = n ∙ sym (ap numberOf e);
+          moved-is = m ∙ sym (ap movedBy e);
           laid-is = l ∙ sym (ap laidBy e);
           len-is = k ∙ sym (ap (λ (o : Outcome Result). length (dataOf o)) e);
           tables-is = t ∙ sym (ap (λ (o : Outcome Result). left s o .tables) e);
           left-is = w ∙ sym (ap (λ (o : Outcome Result). lent (left s o .fast) (left s o .slow) (over (dataOf o) out)) e);
         }
 
-    go : (o : Outcome Plan) → step s c bs ≡ mapped (carriedOut s c bs) o → IfAccepted (Sure s c bs) o → Decides (s .tables) c o d
+    go : (o : Outcome Plan) → step s c bs ≡ mapped (carriedOut s c bs) o → IfAccepted (Sure s c bs) o → DecisionTold (s .tables) c o d
         → Carries s c bs out d
     go (refuse n) e k p =
-        told (refuse n) e (p .number-told) (p .laid-told) (p .len-told) (p .tables-told) (carried-nothing d bs (s .fast) (s .slow) out (p .work-told))
+        so-told (refuse n) e (p .number-told) (p .moved-told) (p .laid-told) (p .len-told) (p .tables-told) (carried-nothing d bs (s .fast) (s .slow) out (p .work-told))
     go (accept plan) e (if-accepted u) p =
         let inside = decided-within s c (length bs) out d (u .good) room
-        (subst (λ (o : Outcome Plan). Decides (s .tables) c o d) (decide-ruled (s .tables) _ _ c (length bs) (good-rules (u .good))) q) in
-        told (accept (carriedOut s c bs plan)) e (p .number-told) (p .laid-told)
+        (subst (λ (o : Outcome Plan). DecisionTold (s .tables) c o d) (decide-ruled (s .tables) _ _ c (length bs) (good-rules (u .good))) q) in
+        so-told (accept (carriedOut s c bs plan)) e (p .number-told) (p .moved-told) (p .laid-told)
         (p .len-told ∙ sym (u .plan-ok .shows (joined s) (joined-long (u .good)))) (p .tables-told)
-        (rw (inside, p .before-told refl, p .work-told, p .len-told))
+        (rw (inside, p .before-told, p .work-told, p .len-told))
+
+-- a step that did not move the tables leaves those that came in
+pub step-unmoved : (s : State) (c : Call) (bs : List ℕ) → movedBy (step s c bs) ≡ false → left s (step s c bs) .tables ≡ s .tables
+step-unmoved s c bs e =
+    let d = decisionOf (s .tables) c (decideAny (s .tables) (length (s .fast)) (length (s .slow)) c (length bs)) in
+    let k = carries s c bs zeros d (omega arith) refl in
+    sym (k .tables-is) ∙ ap (λ (m : Bool). cond m (after (s .tables) (d .change)) (s .tables)) (k .moved-is ∙ e)
 
 -- so it has what `step` promises, with the tables that it leaves
 pub stepped : (s : State) (c : Call) (bs out : List ℕ) (d : Decision) → Carries s c bs out d → (t′ : Tables) (x′ y′ out′ : List ℕ)

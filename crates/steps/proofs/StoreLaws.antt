@@ -6,7 +6,8 @@ use native.Mathlib.Nat.{add-assoc, zero-add, add-zero}
 use native.Mathlib.Omega.{arith}
 use lib.ListN.{length, take, drop, set, length-append, length-take, length-drop, drop-of-length-le, take-append-drop}
 use lib.Seq.{take-append-le, drop-append-le, take-append-add, drop-append-add, drop-drop, take-at, drop-at, take-length, paste}
-use Rattle.steps.specs.Stores.{part, splice, block, lay, over}
+use borrow.Author.Tests.{le-leb}
+use Rattle.steps.specs.Stores.{part, splice, splicedWithin, block, lay, over}
 
 -- ---- a part of a list
 
@@ -61,6 +62,10 @@ length-splice l at b h = simp (length-append, length-take, length-drop) (omega a
 pub pasted : (l : List ℕ) (at : ℕ) (b : List ℕ) → paste l at b (length b) ≡ splice l at b
 unfolding splice
 pasted l at b = rw (take-length b) (append-assoc (take at l) b (drop (at + length b) l))
+
+-- bytes that fit are laid
+pub laid-fitting : (l : List ℕ) (at : ℕ) (b : List ℕ) → at + length b ≤ length l → splicedWithin l at b ≡ splice l at b
+laid-fitting l at b h = rw (le-leb (at + length b) (length l) h)
 
 -- all of a list laid over
 pub splice-all : (l b : List ℕ) → length b ≡ length l → splice l 0 b ≡ b

@@ -24,8 +24,8 @@ eachIs (suc k) size test bytes = test bytes && eachIs k size test (drop size byt
 abbrev pub many : ℕ → ℕ → ℕ → Bool
 many least most n = leb least n && leb n most
 
--- Whether data are of a form: of a read 1 to 64 bytes; of a look at a page "n, then for each copy the frame .., CURRENT and MOST RECENT", with
--- "n from 1 to 8"; of a look at a frame three bytes; of all others none.
+-- Whether data are of a form: of a read 1 to 64 bytes; of a look at a page "n, then for each copy the frame .., CURRENT
+-- and MOST RECENT", with "n from 1 to 8"; of a look at a frame three bytes; of all others none.
 unfoldable pub formed : Data → List ℕ → Bool
 formed Empty d = eqb (length d) 0
 formed Bytes d = many 1 64 (length d)

@@ -1,5 +1,6 @@
--- Document 01, "The steps": the table of kinds, a row a kind in each column: what its calls name, what its replies tell, and its number. The
--- lengths of its messages, its arguments, what it is tested for and the form of its replies follow.
+-- Document 01, "The steps": the table of kinds, a row a kind in each column: what its calls name, what its replies
+-- tell, and its number. The lengths of its messages, its arguments, what it is tested for and the form of its replies
+-- follow.
 use Prim.Native.Nat.{ℕ, _+_, _-_}
 use mathlib.Core.Bool.{Bool, false, _||_, cond}
 use mathlib.Core.List.{List, [], _∷_, _++_}
@@ -118,7 +119,8 @@ leastLength k = 2 + length (names k)
 abbrev pub mostLength : Kind → ℕ
 mostLength k = leastLength k + cond (has bytes k) 63 0
 
--- "then the arguments in the order above, one byte each": the argument x among the bytes bs from index i on; 0 where there is none
+-- "then the arguments in the order above, one byte each": the argument x among the bytes bs from index i on; 0 where
+-- there is none
 unfoldable pub argument : Name → ℕ → List Name → List ℕ → ℕ
 argument x i [] bs = 0
 argument x i (y ∷ ys) bs = cond (same x y) (getD bs i 0) (argument x (i + 1) ys bs)

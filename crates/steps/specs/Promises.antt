@@ -1,7 +1,7 @@
 -- What the functions that this layer exports promise.
 use Prim.Native.Nat.{ℕ, _+_, _/_, _%_}
 use mathlib.Core.Path.{_≡_}
-use mathlib.Core.Bool.{Bool, true, not, _&&_, cond}
+use mathlib.Core.Bool.{Bool, true, not, _&&_, _||_, cond}
 use mathlib.Core.List.{List, [], _∷_, _++_}
 use lib.ListN.{length, take, drop}
 use lib.Dec.{leb, ltb, eqb}
@@ -11,22 +11,24 @@ use Rattle.tables.specs.declared.Tables.{Tables}
 use Rattle.tables.specs.declared.Edit.{Edit}
 use Rattle.tables.specs.declared.Edit.the-variants.{Kept}
 use Rattle.tables.specs.Lists.{all}
-use Rattle.tables.specs.Numbers.{accepted, brokenTables, misfitStore}
-use Rattle.tables.specs.Model.{inUse, pageAt}
-use Rattle.tables.specs.Rules.{isCurrent, sound}
-use Rattle.tables.specs.Changes.{changed, retiredBy, after}
-use Rattle.tables.specs.Keep.{unchanged}
+use Rattle.tables.specs.Model.{nullFrame, inUse, pageAt}
+use Rattle.tables.specs.Rules.{isCurrent}
+use Rattle.tables.specs.Changes.{changed, changeTo, after}
 use Rattle.steps.specs.declared.Call.{Call}
 use Rattle.steps.specs.declared.Form.{Form}
+use Rattle.steps.specs.declared.Lay.{Lay}
+use Rattle.steps.specs.declared.Lay.the-variants.{Nothing, Zeros, ZerosEach, Duplicate, Spread}
+use Rattle.steps.specs.declared.Show.{Show}
+use Rattle.steps.specs.declared.Show.the-variants as Show
 use Rattle.steps.specs.declared.Work.{Work}
-use Rattle.steps.specs.declared.Work.the-variants.{Nothing, Clear, ClearPage, Duplicate, Spread, Show, ShowPage, ShowHolder}
+use Rattle.steps.specs.declared.Work.the-variants.{Shows, Lays}
 use Rattle.steps.specs.declared.Decision.{Decision}
 use Rattle.steps.specs.declared.Done.{Done}
 use Rattle.steps.specs.declared.Place.{Place}
 use Rattle.steps.specs.Kinds.{kindOf, tells, leastLength, mostLength, callOf}
-use Rattle.steps.specs.Stores.{fits, part, over}
-use Rattle.steps.specs.Steps.{Outcome, refuse, accept, Plan, isPlaced, numberOf}
-use Rattle.steps.specs.Effects.{laidIn, shownOf, State, Result, left, laidBy, dataOf}
+use Rattle.steps.specs.Stores.{part, over}
+use Rattle.steps.specs.Steps.{Outcome, refuse, accept, Plan, noWork, isPlaced, pageFor, numberOf}
+use Rattle.steps.specs.Effects.{stored, told, moves, State, Result, left, laidBy, dataOf}
 
 -- the state of tables and two lent stores
 abbrev pub stateOf : Tables → List ℕ → List ℕ → State
@@ -46,10 +48,6 @@ formOf number a b c d =
 
 -- ---- what a call comes to
 
--- 5 or 6, and else 0
-abbrev pub rulesNumber : Tables → ℕ → ℕ → ℕ
-rulesNumber t fast slow = cond (sound t) (cond (fits t fast slow) accepted misfitStore) brokenTables
-
 abbrev pub laidOf : Outcome Plan → ℕ
 laidOf (refuse n) = 0
 laidOf (accept plan) = plan .laid
@@ -59,26 +57,39 @@ lenOf (refuse n) = 0
 lenOf (accept plan) = plan .len
 
 abbrev pub workOf : Outcome Plan → Work
-workOf (refuse n) = Nothing
+workOf (refuse n) = noWork
 workOf (accept plan) = plan .work
 
 abbrev pub editOf : Outcome Plan → Edit
 editOf (refuse n) = Kept
 editOf (accept plan) = plan .edit
 
--- The decision of a call c on tables t that comes to o, with the record of the page that it names: a number above 63 is refused whatever
--- the record is. The tables need not be moved where the edit is seen at a glance to leave them as they are.
-abbrev pub decisionOf : Tables → Call → Outcome Plan → Decision
-decisionOf t c o =
+abbrev pub retiresOf : Outcome Plan → ℕ
+retiresOf (refuse n) = nullFrame
+retiresOf (accept plan) = plan .retires
+
+-- a decision, with the record of page p before it and after
+abbrev pub decisionWith : ℕ → Bool → ℕ → ℕ → ℕ → Page → Page → ℕ → Work → Decision
+decisionWith number moved laid len p before becomes retires work =
     record {
-      number = numberOf o;
-      moved = not (unchanged (pageAt t (c .page % 64)) (editOf o));
-      laid = laidOf o;
-      len = lenOf o;
-      change = record { page = c .page; becomes = changed (pageAt t (c .page % 64)) (editOf o); retires = retiredBy (editOf o) };
-      before = pageAt t (c .page % 64);
-      work = workOf o;
+      number = number;
+      moved = moved;
+      laid = laid;
+      len = len;
+      work = work;
+      change = changeTo p becomes retires;
+      before = before;
     }
+
+-- the decision of a call on page p, whose record is g, that comes to o. The tables need not be moved where the edit is
+-- seen at a glance to leave them as they are.
+abbrev pub decisionOn : ℕ → Page → Outcome Plan → Decision
+decisionOn p g o =
+    decisionWith (numberOf o) (moves g (editOf o) (retiresOf o)) (laidOf o) (lenOf o) p g (changed g (editOf o)) (retiresOf o) (workOf o)
+
+-- the decision of a call c on tables t that comes to o
+abbrev pub decisionOf : Tables → Call → Outcome Plan → Decision
+decisionOf t c o = decisionOn (pageFor c) (pageAt t (pageFor c)) o
 
 -- the tables after a decision: with its change put into them, where they move
 abbrev pub settled : Tables → Decision → Tables
@@ -99,31 +110,49 @@ lent fast slow out = record { fast = fast; slow = slow; out = out }
 abbrev pub frameWithin : (Copy → Bool) → ℕ → Copy → Bool
 frameWithin those frames c = not (those c && leb frames (c .frame))
 
--- a work on page g lies within stores of so many frames, and what it shows within a page
-abbrev pub workWithin : Page → ℕ → ℕ → ℕ → Work → Bool
-workWithin g len frames size Nothing = true
-workWithin g len frames size (Clear f) = ltb f frames
-workWithin g len frames size ClearPage = all (frameWithin isPlaced frames) (inUse g)
-workWithin g len frames size (Duplicate from to) = ltb from frames && ltb to frames
-workWithin g len frames size (Spread offset) = leb (offset + size) 64 && all (frameWithin isCurrent frames) (inUse g)
-workWithin g len frames size (Show f offset) = ltb f frames && leb (offset + len) 64
-workWithin g len frames size ShowPage = true
-workWithin g len frames size (ShowHolder h) = true
+-- what is laid on page g lies within stores of so many frames, where a write has so many bytes
+abbrev pub layWithin : Page → ℕ → ℕ → Lay → Bool
+layWithin g frames size Nothing = true
+layWithin g frames size (Zeros f) = ltb f frames
+layWithin g frames size ZerosEach = all (frameWithin isPlaced frames) (inUse g)
+layWithin g frames size (Duplicate from to) = ltb from frames && ltb to frames
+layWithin g frames size (Spread offset) = leb (offset + size) 64 && all (frameWithin isCurrent frames) (inUse g)
 
--- a decision lies within what is lent; one that was made on sound tables, with stores that fit them, does (`decided-within`)
+-- `len` bytes that are shown lie within them, and within a page
+abbrev pub showWithin : ℕ → ℕ → Show → Bool
+showWithin len frames (Show.Frame f offset) = ltb f frames && leb (offset + len) 64
+showWithin len frames Show.Page = true
+showWithin len frames (Show.Holder h) = true
+
+-- the frame that is filled is one of them, or none
+abbrev pub clearWithin : ℕ → ℕ → Bool
+clearWithin frames f = eqb f nullFrame || ltb f frames
+
+-- what a work lays or shows lies within the stores
+abbrev pub workWithin : Page → ℕ → ℕ → ℕ → Work → Bool
+workWithin g len frames size (Shows s) = showWithin len frames s
+workWithin g len frames size (Lays l f) = layWithin g frames size l && clearWithin frames f
+
+-- the fast store is whole frames: then slow frames begin where the slow store does
+abbrev pub wholeFrames : List ℕ → Bool
+wholeFrames fast = eqb (length fast % 64) 0
+
+-- a decision lies within what is lent; one that was made on sound tables, with stores that fit them, does
+-- (`decided-within`)
 abbrev pub within : Decision → ℕ → Lent → Bool
 within d size l =
-    leb 64 (length (l .out)) && (eqb (length (l .fast) % 64) 0
+    leb 64 (length (l .out)) && (wholeFrames (l .fast)
     && workWithin (d .before) (d .len) (length (l .fast) / 64 + length (l .slow) / 64) size (d .work))
 
--- what a decision leaves: each store by itself, and the data at the front of the buffer. One that does not lie within leaves all as lent.
+-- what a decision leaves: each store by itself, and the data at the front of the buffer. One that does not lie within
+-- leaves all as lent.
 unfoldable pub carried : Decision → List ℕ → Lent → Lent
 carried d bs l =
     cond (within d (length bs) l)
     (record {
-      fast = take (length (l .fast)) (laidIn (d .before) (d .work) bs (l .fast ++ l .slow));
-      slow = drop (length (l .fast)) (laidIn (d .before) (d .work) bs (l .fast ++ l .slow));
-      out = over (shownOf (d .before) (d .work) (d .len) (l .fast ++ l .slow)) (l .out);
+      fast = take (length (l .fast)) (stored (d .before) (d .work) bs (l .fast ++ l .slow));
+      slow = drop (length (l .fast)) (stored (d .before) (d .work) bs (l .fast ++ l .slow));
+      out = over (told (d .before) (d .work) (d .len) (l .fast ++ l .slow)) (l .out);
     })
     l
 
@@ -143,7 +172,8 @@ pub record Stepped (s : State) (o : Outcome Result) (out : List ℕ) (s′ : Sta
 abbrev pub bytesAt : Place → List ℕ → List ℕ → List ℕ
 bytesAt place fast slow = part (cond (place .slow) slow fast) (place .start) (place .len)
 
--- where a reference to them points, if those to the stores point at `fast` and `slow`: a block of memory and an offset in it
+-- where a reference to them points, if those to the stores point at `fast` and `slow`: a block of memory and an offset
+-- in it
 abbrev pub pointerAt : Place → ℕ × ℕ → ℕ × ℕ → ℕ × ℕ
 pointerAt place fast slow = cond (place .slow) (slow .0, place .start + slow .1) (fast .0, place .start + fast .1)
 

@@ -1,4 +1,5 @@
--- Document 01's rights beside the two acts that a right is asked for; document 02, request [3]: "the six pairs of right and act .. as cases".
+-- Document 01's rights beside the two acts that a right is asked for; document 02, request [3]: "the six pairs of right
+-- and act .. as cases".
 use Prim.Native.Nat.{ℕ, zero, suc}
 use mathlib.Core.Bool.{Bool, true, false}
 use Rattle.steps.specs.declared.Act.{Act}

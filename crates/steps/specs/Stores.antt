@@ -1,9 +1,10 @@
--- Document 01, "The tables and the two stores": the stores. Both stand as one list, the fast store's bytes and then the slow one's.
+-- Document 01, "The tables and the two stores": the stores. Both stand as one list, the fast store's bytes and then the
+-- slow one's.
 use Prim.Native.Nat.{ℕ, _+_, _*_}
 use mathlib.Core.Bool.{Bool, _&&_, cond}
 use mathlib.Core.List.{List, [], _∷_, _++_}
 use lib.ListN.{length, take, drop, replicate}
-use lib.Dec.{eqb}
+use lib.Dec.{leb, eqb}
 use Rattle.tables.specs.declared.Copy.{Copy}
 use Rattle.tables.specs.declared.Tables.{Tables}
 use Rattle.tables.specs.Model.{isNull}
@@ -15,6 +16,10 @@ part l at n = take n (drop at l)
 -- l with the bytes b from index at on, and the rest as it was
 unfoldable pub splice : List ℕ → ℕ → List ℕ → List ℕ
 splice l at b = take at l ++ (b ++ drop (at + length b) l)
+
+-- the same for any lengths: where b does not fit, l as it was
+abbrev pub splicedWithin : List ℕ → ℕ → List ℕ → List ℕ
+splicedWithin l at b = cond (leb (at + length b) (length l)) (splice l at b) l
 
 -- "The fast store is exactly 64 × P lent bytes, the slow one 64 × S": whether stores of these lengths are
 unfoldable pub fits : Tables → ℕ → ℕ → Bool
@@ -35,10 +40,15 @@ zeros = replicate 64 0
 abbrev pub held : List ℕ → Copy → List ℕ
 held st c = cond (isNull c) zeros (block st (c .frame))
 
--- the stores with b laid, from offset o on, into the frame of each copy that is one of `those`
-unfoldable pub layEach : (Copy → Bool) → List ℕ → List Copy → ℕ → List ℕ → List ℕ
-layEach those st [] o b = st
-layEach those st (c ∷ cs) o b = layEach those (cond (those c) (lay st (c .frame) o b) st) cs o b
+-- the frames of the copies that are some of `those`
+unfoldable pub framesOf : (Copy → Bool) → List Copy → List ℕ
+framesOf those [] = []
+framesOf those (c ∷ cs) = cond (those c) (c .frame ∷ framesOf those cs) (framesOf those cs)
+
+-- the stores with b laid, from offset o on, into each of some frames
+unfoldable pub layAll : List ℕ → ℕ → List ℕ → List ℕ → List ℕ
+layAll [] o b st = st
+layAll (f ∷ fs) o b st = layAll fs o b (lay st f o b)
 
 -- a lent buffer with b at its front, and the rest as lent
 abbrev pub over : List ℕ → List ℕ → List ℕ

@@ -1,23 +1,26 @@
 // Steps 4 and 5: a station reads and writes.
+use crate::ACCEPTED;
 use crate::Act;
 use crate::Call;
+use crate::Lay;
 use crate::NO_PAGE;
 use crate::NO_RIGHT;
 use crate::NOTHING_CURRENT;
+use crate::Show;
 use crate::Verdict;
 use crate::View;
 use crate::Which;
-use crate::Work;
+use crate::decisions::laying;
+use crate::decisions::refused;
+use crate::decisions::showing;
 use crate::each::count_of;
-use crate::judgement::accepted;
-use crate::judgement::refused;
 use tables::Edit;
 use tables::Page;
 ghost use mathlib.Core.Path.{_≡_};
 ghost use Prim.Native.Nat.{ℕ, _≤_};
 ghost use Rattle.steps.specs.declared.Kind.the-variants.{Read, Write};
 ghost use Rattle.steps.specs.Rights.{allows};
-ghost use Rattle.steps.specs.Steps.{rightOf, perform};
+ghost use Rattle.steps.specs.Steps.{rightOf, lacksRight, perform};
 ghost use Rattle.steps.specs.Private.{FirstCurrent, verdictOf};
 
 // The right of a station at a page.
@@ -66,27 +69,36 @@ fn first_current(page: Page) -> usize
     8
 }
 
+// 9 and 10 of an act on a page; 0 where the station may.
+fn lacks_right(page: Page, station: u8, act: Act) -> u8
+    ensures { λ r. ⌜ r ≡ lacksRight page station act ⌝ }
+{
+    if page.n == 0 {
+        return NO_PAGE;
+    }
+    let right = right_of(page, station);
+    if !allows(right, act) {
+        return NO_RIGHT;
+    }
+    ACCEPTED
+}
+
 pub(crate) fn read_page(view: View, call: Call) -> Verdict
     ensures { λ r. ⌜ ((size : ℕ) → r ≡ verdictOf (perform view call size Read)) ⌝ }
 {
     let page = view.page;
-    if page.n == 0 {
-        return refused(NO_PAGE);
-    }
-    let right = right_of(page, call.station);
-    if !allows(right, Act::Read) {
-        return refused(NO_RIGHT);
+    let number = lacks_right(page, call.station, Act::Read);
+    if number != ACCEPTED {
+        return refused(number);
     }
     let k = first_current(page);
     if k >= 8 {
         return refused(NOTHING_CURRENT);
     }
     let c = page.copies[k];
-    accepted(
-        0,
+    showing(
         call.count as usize,
-        Edit::Kept,
-        Work::Show {
+        Show::Frame {
             frame: c.frame,
             offset: call.offset,
         },
@@ -98,23 +110,19 @@ pub(crate) fn write_page(view: View, call: Call, size: usize) -> Verdict
     ensures { λ r. ⌜ r ≡ verdictOf (perform view call size Write) ⌝ }
 {
     let page = view.page;
-    if page.n == 0 {
-        return refused(NO_PAGE);
-    }
-    let right = right_of(page, call.station);
-    if !allows(right, Act::Write) {
-        return refused(NO_RIGHT);
+    let number = lacks_right(page, call.station, Act::Write);
+    if number != ACCEPTED {
+        return refused(number);
     }
     let k = count_of(page, Which::Current);
     if k == 0 {
         return refused(NOTHING_CURRENT);
     }
     let laid = size * k;
-    accepted(
-        laid as u16,
-        0,
+    laying(
         Edit::Staled,
-        Work::Spread {
+        laid as u16,
+        Lay::Spread {
             offset: call.offset,
         },
     )

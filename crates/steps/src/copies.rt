@@ -4,6 +4,7 @@ use crate::Call;
 use crate::EIGHT_COPIES;
 use crate::FRAME_HELD;
 use crate::LAST_RECENT;
+use crate::Lay;
 use crate::NO_COPY;
 use crate::NO_FRAME;
 use crate::NO_PAGE;
@@ -12,10 +13,11 @@ use crate::STALE;
 use crate::Verdict;
 use crate::View;
 use crate::Which;
-use crate::Work;
+use crate::decisions::clearing;
+use crate::decisions::editing;
+use crate::decisions::laying;
+use crate::decisions::refused;
 use crate::each::count_of;
-use crate::judgement::accepted;
-use crate::judgement::refused;
 use tables::Copy;
 use tables::Edit;
 use tables::NULL_FRAME;
@@ -23,8 +25,8 @@ use tables::Page;
 ghost use mathlib.Core.Path.{_≡_};
 ghost use Prim.Native.Nat.{ℕ};
 ghost use Rattle.steps.specs.declared.Kind.the-variants.{MakeCopy, DeleteCopy, SetCurrent, RemoveCurrent};
-ghost use Rattle.steps.specs.Steps.{copyAt, copying, perform};
-ghost use Rattle.steps.specs.Private.{Numbered, verdictOf};
+ghost use Rattle.steps.specs.Steps.{copyAt, lacksCopy, copying, perform};
+ghost use Rattle.steps.specs.Private.{verdictOf};
 
 // Copy k of the page.
 fn copy_at(page: Page, k: u8) -> Copy
@@ -42,8 +44,8 @@ fn copy_at(page: Page, k: u8) -> Copy
 }
 
 // Numbers 9 and 12 of a step on copy k; 0 where the page has that copy.
-fn unnumbered(page: Page, k: u8) -> u8
-    ensures { λ r. ⌜ Numbered page k r ⌝ }
+fn lacks_copy(page: Page, k: u8) -> u8
+    ensures { λ r. ⌜ r ≡ lacksCopy page k ⌝ }
 {
     if page.n == 0 {
         return NO_PAGE;
@@ -60,16 +62,15 @@ fn copied(c: Copy, frame: u8) -> Verdict
 {
     let from = c.frame;
     if from == NULL_FRAME {
-        return accepted(64, 0, Edit::Placed { frame }, Work::Clear { frame });
+        return laying(Edit::Placed { frame }, 64, Lay::Zeros { frame });
     }
-    accepted(
-        64,
-        0,
+    laying(
         Edit::Added {
             frame,
             recent: c.recent,
         },
-        Work::Duplicate { from, to: frame },
+        64,
+        Lay::Duplicate { from, to: frame },
     )
 }
 
@@ -78,7 +79,7 @@ pub(crate) fn make_copy(view: View, call: Call) -> Verdict
 {
     let page = view.page;
     let holder = view.holder;
-    let number = unnumbered(page, call.copy);
+    let number = lacks_copy(page, call.copy);
     if number != ACCEPTED {
         return refused(number);
     }
@@ -99,7 +100,7 @@ pub(crate) fn delete_copy(view: View, call: Call) -> Verdict
     ensures { λ r. ⌜ ((size : ℕ) → r ≡ verdictOf (perform view call size DeleteCopy)) ⌝ }
 {
     let page = view.page;
-    let number = unnumbered(page, call.copy);
+    let number = lacks_copy(page, call.copy);
     if number != ACCEPTED {
         return refused(number);
     }
@@ -108,19 +109,14 @@ pub(crate) fn delete_copy(view: View, call: Call) -> Verdict
     if c.recent & (recents == 1) {
         return refused(LAST_RECENT);
     }
-    accepted(
-        64,
-        0,
-        Edit::Removed { copy: call.copy },
-        Work::Clear { frame: c.frame },
-    )
+    clearing(Edit::Removed { copy: call.copy }, c.frame)
 }
 
 pub(crate) fn set_current(view: View, call: Call) -> Verdict
     ensures { λ r. ⌜ ((size : ℕ) → r ≡ verdictOf (perform view call size SetCurrent)) ⌝ }
 {
     let page = view.page;
-    let number = unnumbered(page, call.copy);
+    let number = lacks_copy(page, call.copy);
     if number != ACCEPTED {
         return refused(number);
     }
@@ -131,32 +127,22 @@ pub(crate) fn set_current(view: View, call: Call) -> Verdict
     if !c.recent {
         return refused(STALE);
     }
-    accepted(
-        0,
-        0,
-        Edit::Marked {
-            copy: call.copy,
-            current: true,
-        },
-        Work::Nothing,
-    )
+    editing(Edit::Marked {
+        copy: call.copy,
+        current: true,
+    })
 }
 
 pub(crate) fn remove_current(view: View, call: Call) -> Verdict
     ensures { λ r. ⌜ ((size : ℕ) → r ≡ verdictOf (perform view call size RemoveCurrent)) ⌝ }
 {
     let page = view.page;
-    let number = unnumbered(page, call.copy);
+    let number = lacks_copy(page, call.copy);
     if number != ACCEPTED {
         return refused(number);
     }
-    accepted(
-        0,
-        0,
-        Edit::Marked {
-            copy: call.copy,
-            current: false,
-        },
-        Work::Nothing,
-    )
+    editing(Edit::Marked {
+        copy: call.copy,
+        current: false,
+    })
 }

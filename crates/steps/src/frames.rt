@@ -3,9 +3,9 @@ use crate::Call;
 use crate::FRAME_HELD;
 use crate::Verdict;
 use crate::View;
-use crate::Work;
-use crate::judgement::accepted;
-use crate::judgement::refused;
+use crate::decisions::editing;
+use crate::decisions::refused;
+use crate::decisions::retiring;
 use tables::Edit;
 ghost use mathlib.Core.Path.{_≡_};
 ghost use Prim.Native.Nat.{ℕ};
@@ -18,10 +18,10 @@ pub(crate) fn retire(view: View, call: Call) -> Verdict
 {
     let holder = view.holder;
     if holder.is_retired() {
-        return accepted(0, 0, Edit::Kept, Work::Nothing);
+        return editing(Edit::Kept);
     }
     if !holder.is_free() {
         return refused(FRAME_HELD);
     }
-    accepted(0, 0, Edit::Retired { frame: call.frame }, Work::Nothing)
+    retiring(call.frame)
 }

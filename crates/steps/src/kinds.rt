@@ -42,9 +42,9 @@ fn row(
     }
 }
 
-// The form of a kind's messages and replies, and the call of a message with the arguments a, b, c, d, as many of them as the
-// kind has. The columns: the kind, its least and most length, its data; station, page, other station, right, offset, count,
-// copy, frame.
+// The form of a kind's messages and replies, and the call of a message with the arguments a, b, c, d, as many of them
+// as the kind has. The columns: the kind, its least and most length, its data; station, page, other station, right,
+// offset, count, copy, frame.
 pub fn form_of(number: u8, a: u8, b: u8, c: u8, d: u8) -> Form
     ensures { λ r. ⌜ r ≡ formOf number a b c d ⌝ }
 {

@@ -1,29 +1,30 @@
-// The steps of document 01. `judge` decides a call from the tables alone; `carry` does on the two lent stores and the reply
-// what was decided, and `settle` puts the change into the tables.
+// The steps of document 01. `decide` decides a call from the tables alone; `carry` does on the two lent stores and the
+// reply what was decision_on, and `settle` puts the change into the tables.
 mod access;
 mod copies;
+mod decisions;
 mod each;
 mod effects;
 mod frames;
-mod judgement;
 mod kinds;
 mod looks;
 mod pages;
 mod range;
 mod stores;
 
+pub use decisions::decide;
+pub use decisions::decide_any;
+pub use decisions::rules;
+pub use decisions::settle;
 pub use effects::carry;
 pub use effects::read;
 pub use effects::read_place;
 pub use effects::step;
-pub use judgement::judge;
-pub use judgement::judge_any;
-pub use judgement::rules;
-pub use judgement::settle;
 pub use kinds::form_of;
 pub use kinds::is_unknown;
 pub use kinds::number_of;
 pub use range::outside;
+pub use stores::lay_bytes;
 use tables::Change;
 use tables::Edit;
 use tables::Holder;
@@ -80,7 +81,8 @@ pub enum Kind {
 // How many kinds there are.
 pub const KINDS: u8 = 12;
 
-// A step that is asked for, with its arguments; one that its kind does not have is 0. The bytes of a write come beside it.
+// A step that is asked for, with its arguments; one that its kind does not name plays no part. The bytes of a write
+// come beside it.
 pub struct Call {
     pub kind: Kind,
     pub station: u8,
@@ -104,8 +106,8 @@ pub enum Data {
     Holder,
 }
 
-// The form of a kind's messages: the least and the most bytes after the length, what the data of its replies are, and the
-// call that a message asks for.
+// The form of a kind's messages: the least and the most bytes after the length, what the data of its replies are, and
+// the call that a message asks for.
 pub struct Form {
     pub least: u8,
     pub most: u8,
@@ -134,44 +136,57 @@ pub enum Which {
     Placed,
 }
 
-// What a step lays into the stores or shows in the reply.
-pub enum Work {
+// What a step lays into the stores.
+pub enum Lay {
     Nothing,
     // Zeros into a frame.
-    Clear { frame: u8 },
+    Zeros { frame: u8 },
     // Zeros into the frame of each copy of the page that has one.
-    ClearPage,
+    ZerosEach,
     // A frame's bytes into another.
     Duplicate { from: u8, to: u8 },
     // A write's bytes into each CURRENT copy of the page.
     Spread { offset: u8 },
-    // Bytes of a frame, as many as the data are long.
-    Show { frame: u8, offset: u8 },
-    // The copies of the page.
-    ShowPage,
-    ShowHolder { holder: Holder },
 }
 
-// What a call comes to on what it looks at: its number, the bytes laid, the length of its data, its edit of the tables,
-// and what is to be laid or shown.
+// What a step shows in the reply.
+pub enum Show {
+    // Bytes of a frame, as many as the data are long.
+    Frame { frame: u8, offset: u8 },
+    // The copies of the page.
+    Page,
+    Holder { holder: Holder },
+}
+
+// What a step does besides its change of the tables: it shows something, or it lays bytes and fills a frame that it
+// frees besides, 255 for none.
+pub enum Work {
+    Shows { show: Show },
+    Lays { lay: Lay, clears: u8 },
+}
+
+// What a call comes to on what it looks at: its number, the frame that it retires, 255 for none, the bytes laid, the
+// length of its data, its edit of the page's record, and what it shows or lays.
 pub struct Verdict {
     pub number: u8,
+    pub retires: u8,
+    pub edit: Edit,
     pub laid: u16,
     pub len: usize,
-    pub edit: Edit,
     pub work: Work,
 }
 
-// What a call comes to on the tables: its number, the bytes laid, the length of its data; whether the tables move, and the
-// change by which they do; what is to be laid or shown, and the record of its page before the call, which that is about.
+// What a call comes to on the tables: its number, the bytes laid, the length of its data; whether the tables move, and
+// the change by which they do; what is to be shown or laid, and the record of its page before the call, which that is
+// about.
 pub struct Decision {
     pub number: u8,
     pub moved: bool,
     pub laid: u16,
     pub len: usize,
+    pub work: Work,
     pub change: Change,
     pub before: Page,
-    pub work: Work,
 }
 
 // A part of the fast store or of the slow one: so many bytes of it from `start` on.

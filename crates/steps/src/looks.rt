@@ -1,13 +1,12 @@
 // Steps 10 and 11: what the tables show of a page and of a frame.
 use crate::NO_PAGE;
+use crate::Show;
 use crate::Verdict;
 use crate::View;
-use crate::Work;
-use crate::judgement::accepted;
-use crate::judgement::refused;
+use crate::decisions::refused;
+use crate::decisions::showing;
 use crate::stores::put;
 use tables::Copy;
-use tables::Edit;
 use tables::Holder;
 use tables::Page;
 ghost use mathlib.Core.Path.{_≡_};
@@ -16,7 +15,7 @@ ghost use Prim.Native.Nat.{ℕ, _≤_};
 ghost use lib.ListN.{length};
 ghost use Rattle.tables.specs.Model.{inUse};
 ghost use Rattle.tables.specs.Search.{shown};
-ghost use Rattle.steps.specs.declared.Kind.the-variants.{LookPage};
+ghost use Rattle.steps.specs.declared.Kind.the-variants.{LookPage, LookFrame};
 ghost use Rattle.steps.specs.declared.Call.{Call};
 ghost use Rattle.steps.specs.Stores.{over};
 ghost use Rattle.steps.specs.Steps.{perform};
@@ -46,7 +45,14 @@ pub(crate) fn look_page(view: View) -> Verdict
         return refused(NO_PAGE);
     }
     let n = page.in_use();
-    accepted(0, 1 + 3 * n, Edit::Kept, Work::ShowPage)
+    showing(1 + 3 * n, Show::Page)
+}
+
+pub(crate) fn look_frame(view: View) -> Verdict
+    ensures { λ r. ⌜ ((c : Call) (size : ℕ) → r ≡ verdictOf (perform view c size LookFrame)) ⌝ }
+{
+    let holder = view.holder;
+    showing(3, Show::Holder { holder })
 }
 
 // Shows n and the copies of a page at the front of the buffer.

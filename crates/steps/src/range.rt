@@ -1,9 +1,11 @@
 // Number 7: whether a call names something that is too large.
+use crate::ACCEPTED;
 use crate::Call;
 use crate::Kind;
+use crate::OUT_OF_RANGE;
 ghost use mathlib.Core.Path.{_≡_};
-ghost use Rattle.steps.specs.Kinds.{frame, has};
-ghost use Rattle.steps.specs.Calls.{badSpan, spanOutside, outside};
+ghost use mathlib.Core.Bool.{_||_};
+ghost use Rattle.steps.specs.Calls.{nameOutside, frameOutside, badSpan, spanOutside, outside};
 
 // Whether the offset is too large, the count is 0, or both together go past the page.
 fn bad_span(offset: u8, count: usize) -> bool
@@ -16,40 +18,34 @@ fn bad_span(offset: u8, count: usize) -> bool
     (count == 0) | (count > 64 - o)
 }
 
-// Whether the call names a frame.
-fn names_frame(kind: Kind) -> bool
-    ensures { λ r. ⌜ r ≡ has frame kind ⌝ }
+// Whether a call names something too large, of so many frames. What its kind does not name plays no part.
+fn is_outside(call: Call, frames: u16, size: usize) -> bool
+    ensures { λ r. ⌜ r ≡ (nameOutside call || (frameOutside frames call || spanOutside size call)) ⌝ }
 {
-    match kind {
-        Kind::MakeCopy => true,
-        Kind::LookFrame => true,
-        Kind::Retire => true,
-        _ => false,
-    }
-}
-
-// Whether the bytes that the call names lie outside the page. `size` is the number of a write's bytes.
-fn span_outside(call: Call, size: usize) -> bool
-    ensures { λ r. ⌜ r ≡ spanOutside size call ⌝ }
-{
+    let owned = (call.station > 15) | (call.page > 63);
     let kind = call.kind;
     match kind {
-        Kind::Read => bad_span(call.offset, call.count as usize),
-        Kind::Write => bad_span(call.offset, size),
-        _ => false,
+        Kind::Create => owned,
+        Kind::DeletePage => owned,
+        Kind::Grant => owned | ((call.other > 15) | (call.right > 2)),
+        Kind::Read => owned | bad_span(call.offset, call.count as usize),
+        Kind::Write => owned | bad_span(call.offset, size),
+        Kind::MakeCopy => (call.page > 63) | (call.frame as u16 >= frames),
+        Kind::DeleteCopy => call.page > 63,
+        Kind::SetCurrent => call.page > 63,
+        Kind::RemoveCurrent => call.page > 63,
+        Kind::LookPage => call.page > 63,
+        Kind::LookFrame => call.frame as u16 >= frames,
+        Kind::Retire => call.frame as u16 >= frames,
     }
 }
 
-// Number 7, where there are so many frames.
-pub fn outside(call: Call, frames: u16, size: usize) -> bool
+// 7 where the call names something too large, and else 0.
+pub fn outside(call: Call, frames: u16, size: usize) -> u8
     ensures { λ r. ⌜ r ≡ outside frames size call ⌝ }
 {
-    if ((call.station > 15) | (call.page > 63)) | ((call.other > 15) | (call.right > 2)) {
-        return true;
+    if is_outside(call, frames, size) {
+        return OUT_OF_RANGE;
     }
-    let kind = call.kind;
-    if names_frame(kind) & (call.frame as u16 >= frames) {
-        return true;
-    }
-    span_outside(call, size)
+    ACCEPTED
 }

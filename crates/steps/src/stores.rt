@@ -11,11 +11,11 @@ ghost use Prim.Native.Nat.{_+_, _≤_};
 ghost use lib.ListN.{length};
 ghost use denote.Ref.{ptr};
 ghost use Rattle.tables.specs.Model.{inUse};
-ghost use Rattle.steps.specs.Stores.{part, splice, block, lay, zeros, layEach};
+ghost use Rattle.steps.specs.Stores.{part, splice, splicedWithin, block, lay, zeros};
 ghost use Rattle.steps.specs.Steps.{isPlaced};
 ghost use Rattle.steps.specs.Effects.{framePlace};
 ghost use Rattle.steps.specs.Promises.{bytesAt, pointerAt};
-ghost use Rattle.steps.specs.Private.{chosen, Room, RoomEach, PlaceIn};
+ghost use Rattle.steps.specs.Private.{chosen, Room, RoomEach, PlaceIn, layEach};
 
 // Lays all of src into dst from index at on.
 pub(crate) fn put(dst: &mut [u8], at: usize, src: &[u8])
@@ -26,6 +26,17 @@ pub(crate) fn put(dst: &mut [u8], at: usize, src: &[u8])
     while j < src.len() {
         dst[at + j] = src[j];
         j += 1;
+    }
+}
+
+// The same for any lengths: where src does not fit, dst is left as it was.
+pub fn lay_bytes(dst: &mut [u8], at: usize, src: &[u8])
+    ensures { λ _. ⌜ now (dst .exit) ≡ splicedWithin (now (dst .entry)) at (now (src .entry)) ⌝ }
+{
+    if at <= dst.len() {
+        if src.len() <= dst.len() - at {
+            put(dst, at, src);
+        }
     }
 }
 

@@ -15,9 +15,9 @@ use Rattle.tables.specs.declared.Copy.{Copy}
 use Rattle.tables.specs.declared.Page.{Page}
 use Rattle.tables.specs.declared.Tables.{Tables}
 use Rattle.tables.specs.declared.Edit.{Edit}
-use Rattle.tables.specs.declared.Edit.the-variants.{Kept, Created, Deleted, Granted, Staled, Placed, Added, Removed, Marked, Retired}
+use Rattle.tables.specs.declared.Edit.the-variants.{Kept, Created, Deleted, Granted, Staled, Placed, Added, Removed, Marked}
 use Rattle.tables.specs.Lists.{all, count}
-use Rattle.tables.specs.Model.{inUse, freshCopy, freshPage, noCopyEntry, noPageRecord, pageAt}
+use Rattle.tables.specs.Model.{inUse, freshCopy, freshPage, zeroCopy, zeroPage, pageAt}
 use Rattle.tables.specs.Changes.{created, withCopies, staleCopy, newCopy, closeGap, markedCopy, changed, edited, after}
 use Rattle.tables.proofs.GapLaws.{gap-length}
 use Rattle.tables.proofs.ListLaws.{and-left, and-right, and-intro}
@@ -107,7 +107,6 @@ changed-rights g (Added f r) e = by (ltb (g .n) 8)
     by false = e
 changed-rights g (Removed k) e = e
 changed-rights g (Marked k b) e = e
-changed-rights g (Retired f) e = e
 
 -- and the eight entries
 pub changed-copies : (g : Page) (c : Edit) → length (g .copies) ≡ 8 → length (changed g c .copies) ≡ 8
@@ -124,8 +123,7 @@ changed-copies g (Added f r) e = by (ltb (g .n) 8)
     by true = length-set (g .copies) (g .n) (newCopy f r) ∙ e
     by false = e
 changed-copies g (Removed k) e = gap-length (g .copies) k ∙ e
-changed-copies g (Marked k b) e = length-set (g .copies) k (markedCopy (getD (g .copies) k noCopyEntry) b) ∙ e
-changed-copies g (Retired f) e = e
+changed-copies g (Marked k b) e = length-set (g .copies) k (markedCopy (getD (g .copies) k zeroCopy) b) ∙ e
 
 -- ---- the copies in use, and the entries after them
 
@@ -152,14 +150,14 @@ module _ (g : Page) where
 
   -- copy k has another mark
   pub in-use-marked : (k : ℕ) (b : Bool) → k < g .n
-      → inUse (changed g (Marked k b)) ≡ set (inUse g) k (markedCopy (getD (g .copies) k noCopyEntry) b)
+      → inUse (changed g (Marked k b)) ≡ set (inUse g) k (markedCopy (getD (g .copies) k zeroCopy) b)
   unfolding changed
-  in-use-marked k b h = take-set-lt (g .n) (g .copies) k (markedCopy (getD (g .copies) k noCopyEntry) b) h
+  in-use-marked k b h = take-set-lt (g .n) (g .copies) k (markedCopy (getD (g .copies) k zeroCopy) b) h
 
   -- the other entries stay
   pub rest-marked : (k : ℕ) (b : Bool) → k < g .n → drop (g .n) (changed g (Marked k b) .copies) ≡ drop (g .n) (g .copies)
   unfolding changed
-  rest-marked k b h = drop-set-lt (g .n) (g .copies) k (markedCopy (getD (g .copies) k noCopyEntry) b) h
+  rest-marked k b h = drop-set-lt (g .n) (g .copies) k (markedCopy (getD (g .copies) k zeroCopy) b) h
 
   -- a page with room gets the copy
   pub added : (f : ℕ) (r : Bool) → g .n < 8 → changed g (Added f r) ≡ withCopies g (g .n + 1) (set (g .copies) (g .n) (newCopy f r))
@@ -198,13 +196,13 @@ module _ (g : Page) where
 
 -- ---- the tables after a change
 
-module _ (t : Tables) (p : ℕ) (c : Edit) where
+module _ (t : Tables) (p : ℕ) (c : Edit) (x : ℕ) where
   -- page p has the changed record
-  pub after-same : p < length (t .pages) → pageAt (after t (edited t p c)) p ≡ changed (pageAt t p) c
+  pub after-same : p < length (t .pages) → pageAt (after t (edited t p c x)) p ≡ changed (pageAt t p) c
   unfolding after
-  after-same h = getD-set-same (t .pages) p (changed (pageAt t p) c) noPageRecord h
+  after-same h = getD-set-same (t .pages) p (changed (pageAt t p) c) zeroPage h
 
   -- every other page keeps its own
-  pub after-other : (q : ℕ) → q ≢ p → pageAt (after t (edited t p c)) q ≡ pageAt t q
+  pub after-other : (q : ℕ) → q ≢ p → pageAt (after t (edited t p c x)) q ≡ pageAt t q
   unfolding after
-  after-other q d = getD-set-other (t .pages) p q (changed (pageAt t p) c) noPageRecord d
+  after-other q d = getD-set-other (t .pages) p q (changed (pageAt t p) c) zeroPage d

@@ -1,187 +1,236 @@
--- Each change keeps the table rules, where a step may make it.
+-- Each change keeps the table rules, where a step may make it; and which frames are retired after it.
 use Prim.Native.Nat.{ℕ, _+_, _≤_, _<_, zero-le}
 use mathlib.Core.Bool.{Bool, true, false, cond, true≢false}
-use mathlib.Core.Path.{_≡_, refl, sym, subst, _∙_}
+use mathlib.Core.List.{List}
+use mathlib.Core.Path.{_≡_, refl, sym, ap, subst, _∙_}
 use native.Mathlib.Decide.{ℕ-discrete}
 use native.Mathlib.Nat.{le-refl}
 use native.Mathlib.Omega.{arith}
 use lib.Dec.{ltb, eqb}
-use lib.ListN.{length, getD, set, length-set}
-use lib.Seq.{getD-set-same, getD-set-other, set-getD}
+use lib.ListN.{length, getD, set, length-set, List·getD-eq-default}
+use lib.Seq.{getD-set-same, getD-set-other}
 use borrow.Author.Tests.{eqb-true, ne-eqb, lt-ltb, ltb-true, ltb-false}
 use Rattle.tables.specs.declared.Page.{Page}
 use Rattle.tables.specs.declared.Tables.{Tables}
 use Rattle.tables.specs.declared.Edit.{Edit}
-use Rattle.tables.specs.declared.Edit.the-variants.{Kept, Created, Deleted, Granted, Staled, Placed, Added, Removed, Marked, Retired}
-use Rattle.tables.specs.Lists.{all, count}
-use Rattle.tables.specs.Model.{frames, retiredAt, inUse, absent, freshPage, noPageRecord, pageAt, onFrame}
-use Rattle.tables.specs.Rules.{uses, free, pageRule, sound}
-use Rattle.tables.specs.Changes.{created, granted, changed, retiredBy, edited, withPage, withMark, after}
-use Rattle.tables.proofs.ListLaws.{all-of}
-use Rattle.tables.proofs.RuleLaws.{StandingPage, of-standing, fresh-page-ok, Sound, sound-of, of-sound, pages-ruled, few-uses, standing-at}
-use Rattle.tables.proofs.RegisterLaws.{length-after, register-after}
-use Rattle.tables.proofs.HolderLaws.{free-unmarked, free-nobody}
+use Rattle.tables.specs.declared.Edit.the-variants.{Kept, Created, Deleted, Granted, Staled, Placed, Added, Removed, Marked}
+use Rattle.tables.specs.Lists.{count}
+use Rattle.tables.specs.Model.{frames, freeEntry, retiredEntry, isRetiredEntry, retiredAt, inUse, absent, freshPage, zeroPage, pageAt, onFrame}
+use Rattle.tables.specs.Search.{inPages}
+use Rattle.tables.specs.Rules.{uses, holders, free, pageRule, sound}
+use Rattle.tables.specs.Register.{entryOf, entryRule, moved}
+use Rattle.tables.specs.Changes.{created, granted, changed, edited, withRetired, after}
+use Rattle.tables.proofs.RuleLaws.{StandingPage, of-standing, fresh-page-ok, PagesOk, pages-ruled, Once, pages-once, RegisterOk, right-held, right-out, entry-held, out-low, out-idle, Sound, sound-of, of-sound, few-frames, few-uses, standing-at}
+use Rattle.tables.proofs.RegisterLaws.{length-moved, moved-held, moved-out, entry-in, searched-low}
+use Rattle.tables.proofs.HolderLaws.{free-kept, free-nobody}
 use Rattle.tables.proofs.FreshLaws.{fresh-on}
-use Rattle.tables.proofs.UsesLaws.{uses-set}
-use Rattle.tables.proofs.Allowed.{Allowed}
+use Rattle.tables.proofs.UsesLaws.{uses-set, uses-at, uses-hold}
+use Rattle.tables.proofs.Allowed.{FrameOk, Allowed, MayRetire}
 use Rattle.tables.proofs.PageChanges.{staled-ok, placed-ok, marked-ok, added-ok, removed-ok, granted-ok, created-ok, staled-on, marked-on, removed-on, placed-on, added-on, created-on}
 
--- ---- the marks of retired frames
+-- ---- one frame more is retired
 
-module _ (t : Tables) (s : Sound t) where
-  few-frames : (f : ℕ) → f < frames t → f < 254
-  few-frames f l = omega (arith, s .fast-ok, s .slow-ok)
+-- it is in range, and no copy is on it; a number past the register changes nothing
+out-right : {limit : ℕ} {gs : List Page} {r : List ℕ} → RegisterOk limit gs r → (x : ℕ) → (x < 254 → (x < limit) × (uses x gs ≡ 0))
+    → RegisterOk limit gs (set r x retiredEntry)
+out-right {limit} {gs} {r} s x ok =
+    record { register-long = length-set r x retiredEntry ∙ s .register-long; entry-ok = λ f l. at f l (ℕ-discrete f x) }
+  where
+    at : (f : ℕ) → f < 254 → Dec (f ≡ x) → entryRule limit f (inPages f 0 gs) (getD (set r x retiredEntry) f freeEntry) ≡ true
+    at f l (yes e) =
+        let k : x < 254 = rw e at l in
+        let own : getD (set r x retiredEntry) f freeEntry ≡ retiredEntry = rw e (getD-set-same r x retiredEntry freeEntry (rw (s .register-long) k)) in
+        right-out limit f gs (getD (set r x retiredEntry) f freeEntry) (ap isRetiredEntry own) (rw e (ok k .0)) (rw e (ok k .1))
+    at f l (no d) = rw (getD-set-other r x f retiredEntry freeEntry d) (s .entry-ok f l)
 
-  -- a frame that is marked is in range
-  pub marked-low : (f : ℕ) → f < 254 → retiredAt t f ≡ true → f < frames t
-  marked-low f l is = by (ltb f (frames t)) refl
+pub retired-right : (t : Tables) → Sound t → (x : ℕ) → (x < 254 → FrameOk t x) → RegisterOk (frames t) (t .pages) (set (t .register) x retiredEntry)
+retired-right t s x ok = out-right (s .right) x (λ l. (ok l .in-range, omega (arith, uses-hold t x, free-nobody t x (ok l .unused))))
+
+-- ---- the record of page p becomes g
+
+-- What the rules ask of it, among pages gs with the register r: its own, that no frame comes under two copies, and that no copy is on a retired
+-- frame.
+record Fits (limit : ℕ) (gs : List Page) (r : List ℕ) (p : ℕ) (g : Page) : Type 0 where
+  ruled : pageRule limit g ≡ true
+  once : Once limit (set gs p g)
+  bare : (f : ℕ) → isRetiredEntry (getD r f freeEntry) ≡ true → uses f (set gs p g) ≡ 0
+
+module _ {limit : ℕ} {gs : List Page} {r : List ℕ} {p : ℕ} {g : Page} (near : p < 64) (paged : PagesOk limit gs) (once : Once limit gs)
+    (right : RegisterOk limit gs r) (w : Fits limit gs r p g) where
+  abbrev new : List Page
+  new = set gs p g
+
+  abbrev entries : List ℕ
+  entries = moved p (getD gs p zeroPage) g r
+
+  new-paged : PagesOk limit new
+  new-paged = record { pages-long = length-set gs p g ∙ paged .pages-long; page-ok = λ k l. at k l (ℕ-discrete k p) }
     where
-      by : (b : Bool) → ltb f (frames t) ≡ b → f < frames t
-      by true e = ltb-true f (frames t) e
-      by false e = absurd (true≢false (sym is ∙ s .marks-past f (ltb-false f (frames t) e) l))
+      at : (k : ℕ) → k < 64 → Dec (k ≡ p) → pageRule limit (getD new k zeroPage) ≡ true
+      at k l (yes e) = rw (e, getD-set-same gs p g zeroPage (rw (paged .pages-long) near)) (w .ruled)
+      at k l (no d) = rw (getD-set-other gs p k g zeroPage d) (paged .page-ok k l)
 
-  -- one more, on a frame in range that no copy has; past the marks it changes nothing
-  marked : (x : ℕ) → (x < 254 → (x < frames t) × (uses x (t .pages) ≡ 0)) → Sound (withMark t x)
-  marked x ok =
-      record {
-        fast-ok = s .fast-ok;
-        slow-ok = s .slow-ok;
-        pages-long = s .pages-long;
-        page-ok = s .page-ok;
-        once = s .once;
-        register-long = s .register-long;
-        register-ok = s .register-ok;
-        marks-long = length-set (t .retired) x true ∙ s .marks-long;
-        marks-past = λ f past l. at-past f past l (ℕ-discrete f x);
-        marks-free = λ f l is. at-free f l (ℕ-discrete f x) is;
-      }
+  -- a retired frame stays so
+  stays-out : (f : ℕ) → f < 254 → isRetiredEntry (getD r f freeEntry) ≡ true → getD entries f freeEntry ≡ retiredEntry
+  stays-out f l out =
+      let old = uses-at f gs p in
+      let own = uses-at f new p in
+      let here : count (onFrame f) (inUse g) ≤ uses f new = rw (getD-set-same gs p g zeroPage (rw (paged .pages-long) near)) at own in
+      let z = out-idle right f out in
+      let z′ = w .bare f out in
+      moved-out p (getD gs p zeroPage) g r f (rw (right .register-long) l) (omega arith) (omega arith) out
+
+  -- and any other has the entry of the copy that the search now finds
+  now-held : (f : ℕ) → f < 254 → isRetiredEntry (getD r f freeEntry) ≡ false → getD entries f freeEntry ≡ entryOf (inPages f 0 new)
+  now-held f l kept =
+      moved-held gs p g f (rw (paged .pages-long) near) (few-uses limit gs (pages-ruled paged) once f l)
+      (few-uses limit new (pages-ruled new-paged) (w .once) f l) r (rw (right .register-long) l) (entry-held right f l kept)
+
+  now-in : (f : ℕ) → f < 254 → isRetiredEntry (getD r f freeEntry) ≡ false → isRetiredEntry (getD entries f freeEntry) ≡ false
+  now-in f l kept = ap isRetiredEntry (now-held f l kept) ∙ entry-in (inPages f 0 new) (searched-low limit new new-paged f)
+
+  long : length entries ≡ 254
+  long = length-moved p (getD gs p zeroPage) g r ∙ right .register-long
+
+  -- so the same frames are retired
+  out-same : (f : ℕ) → isRetiredEntry (getD entries f freeEntry) ≡ isRetiredEntry (getD r f freeEntry)
+  out-same f = by (ltb f 254) refl (isRetiredEntry (getD r f freeEntry)) refl
     where
-      at-past : (f : ℕ) → frames t ≤ f → f < 254 → Dec (f ≡ x) → getD (set (t .retired) x true) f false ≡ false
-      at-past f past l (yes e) = let k : x < frames t = ok (omega arith) .0 in absurd (omega arith)
-      at-past f past l (no d) = getD-set-other (t .retired) x f true false d ∙ s .marks-past f past l
+      by : (n : Bool) → ltb f 254 ≡ n → (b : Bool) → isRetiredEntry (getD r f freeEntry) ≡ b → isRetiredEntry (getD entries f freeEntry) ≡ b
+      by true n true e = ap isRetiredEntry (stays-out f (ltb-true f 254 n) e)
+      by true n false e = now-in f (ltb-true f 254 n) e
+      by false n b e =
+          let far = ltb-false f 254 n in
+          ap isRetiredEntry (List·getD-eq-default entries freeEntry {n = f} (rw long far) ∙ sym (List·getD-eq-default r freeEntry {n = f} (rw (right .register-long) far)))
+          ∙ e
 
-      at-free : (f : ℕ) → f < 254 → Dec (f ≡ x) → getD (set (t .retired) x true) f false ≡ true → uses f (t .pages) ≡ 0
-      at-free f l (yes e) is = rw e (ok (omega arith) .1)
-      at-free f l (no d) is = s .marks-free f l (rw (getD-set-other (t .retired) x f true false d) at is)
+  new-right : RegisterOk limit new entries
+  new-right = record { register-long = long; entry-ok = λ f l. at f l (isRetiredEntry (getD r f freeEntry)) refl }
+    where
+      at : (f : ℕ) → f < 254 → (b : Bool) → isRetiredEntry (getD r f freeEntry) ≡ b → entryRule limit f (inPages f 0 new) (getD entries f freeEntry) ≡ true
+      at f l true e =
+          right-out limit f new (getD entries f freeEntry) (ap isRetiredEntry (stays-out f l e)) (out-low right f e) (w .bare f e)
+      at f l false e = right-held limit f (inPages f 0 new) (getD entries f freeEntry) (now-in f l e) (now-held f l e)
 
--- ---- the tables with another record for page p
+-- ---- what a step may make of the record fits
 
 module _ (t : Tables) (p : ℕ) (h : p < 64) (s : Sound t) where
-  -- one that meets the rules, with no copy on a retired frame
-  put : (g : Page) → pageRule (frames t) g ≡ true → ((f : ℕ) → f < frames t → uses f (set (t .pages) p g) ≤ 1)
-      → ((f : ℕ) → f < frames t → retiredAt t f ≡ true → uses f (set (t .pages) p g) ≡ 0) → Sound (withPage t p g)
-  put g ok once bare =
-      record {
-        fast-ok = s .fast-ok;
-        slow-ok = s .slow-ok;
-        pages-long = long;
-        page-ok = λ k l. at k l (ℕ-discrete k p);
-        once = once;
-        register-long = rw (lt-ltb p 64 h) (length-after p (pageAt t p) g (t .register) ∙ s .register-long);
-        register-ok = λ f l. rw (lt-ltb p 64 h)
-            (register-after (t .pages) p g f (rw (s .pages-long) h) (few-uses (frames t) (t .pages) (pages-ruled t s) (s .once) f l)
-            (few-uses (frames t) (set (t .pages) p g) ruled once f l) (t .register) (rw (s .register-long) l) (s .register-ok f l));
-        marks-long = s .marks-long;
-        marks-past = s .marks-past;
-        marks-free = λ f l is. bare f (marked-low t s f l is) is;
-      }
-    where
-      long : length (set (t .pages) p g) ≡ 64
-      long = length-set (t .pages) p g ∙ s .pages-long
-
-      at : (k : ℕ) → k < 64 → Dec (k ≡ p) → pageRule (frames t) (getD (set (t .pages) p g) k noPageRecord) ≡ true
-      at k l (yes e) = rw (e, getD-set-same (t .pages) p g noPageRecord (rw (s .pages-long) h)) ok
-      at k l (no d) = rw (getD-set-other (t .pages) p k g noPageRecord d) (s .page-ok k l)
-
-      ruled : all (pageRule (frames t)) (set (t .pages) p g) ≡ true
-      ruled = all-of (pageRule (frames t)) (set (t .pages) p g) noPageRecord (λ k l. at k (rw long at l) (ℕ-discrete k p))
+  alone : Once (frames t) (t .pages)
+  alone = pages-once t (s .once)
 
   -- one with no copy on another frame
   fewer : (g : Page) → pageRule (frames t) g ≡ true
-      → ((f : ℕ) → f < frames t → count (onFrame f) (inUse g) ≤ count (onFrame f) (inUse (pageAt t p))) → Sound (withPage t p g)
+      → ((f : ℕ) → f < frames t → count (onFrame f) (inUse g) ≤ count (onFrame f) (inUse (pageAt t p))) → Fits (frames t) (t .pages) (t .register) p g
   fewer g ok le =
-      put g ok
-      (λ f l. let u = uses-set f (t .pages) p g (rw (s .pages-long) h) in let k = le f l in let o = s .once f l in omega arith)
-      (λ f l is.
-      let u = uses-set f (t .pages) p g (rw (s .pages-long) h) in
-      let k = le f l in
-      let z = s .marks-free f (few-frames t s f l) is in
-      omega arith)
+      record {
+        ruled = ok;
+        once = λ f l. let u = uses-set f (t .pages) p g (rw (s .paged .pages-long) h) in let k = le f l in let o = alone f l in omega arith;
+        bare = λ f out.
+            let u = uses-set f (t .pages) p g (rw (s .paged .pages-long) h) in
+            let k = le f (out-low (s .right) f out) in
+            let z = out-idle (s .right) f out in
+            omega arith;
+      }
 
   -- one with a new copy on a free frame
   onto : (g : Page) (x : ℕ) → pageRule (frames t) g ≡ true → free t x ≡ true
-      → ((f : ℕ) → count (onFrame f) (inUse g) ≤ count (onFrame f) (inUse (pageAt t p)) + cond (eqb x f) 1 0) → Sound (withPage t p g)
-  onto g x ok un le = put g ok (λ f l. by f l (eqb x f) refl (le f)) (λ f l is. clear f l is (eqb x f) refl (le f))
+      → ((f : ℕ) → count (onFrame f) (inUse g) ≤ count (onFrame f) (inUse (pageAt t p)) + cond (eqb x f) 1 0) → Fits (frames t) (t .pages) (t .register) p g
+  onto g x ok un le = record { ruled = ok; once = λ f l. by f l (eqb x f) refl (le f); bare = λ f out. clear f out (eqb x f) refl (le f) }
     where
-      clear : (f : ℕ) → f < frames t → retiredAt t f ≡ true → (b : Bool) → eqb x f ≡ b
+      clear : (f : ℕ) → retiredAt t f ≡ true → (b : Bool) → eqb x f ≡ b
           → count (onFrame f) (inUse g) ≤ count (onFrame f) (inUse (pageAt t p)) + cond b 1 0 → uses f (set (t .pages) p g) ≡ 0
-      clear f l is true e k = absurd (true≢false (sym is ∙ subst (λ (y : ℕ). retiredAt t y ≡ false) (eqb-true x f e) (free-unmarked t x un)))
-      clear f l is false e k =
-          let u = uses-set f (t .pages) p g (rw (s .pages-long) h) in
-          let z = s .marks-free f (few-frames t s f l) is in
+      clear f out true e k = absurd (true≢false (sym out ∙ subst (λ (y : ℕ). retiredAt t y ≡ false) (eqb-true x f e) (free-kept t x un)))
+      clear f out false e k =
+          let u = uses-set f (t .pages) p g (rw (s .paged .pages-long) h) in
+          let z = out-idle (s .right) f out in
           omega arith
 
       by : (f : ℕ) → f < frames t → (b : Bool) → eqb x f ≡ b
           → count (onFrame f) (inUse g) ≤ count (onFrame f) (inUse (pageAt t p)) + cond b 1 0 → uses f (set (t .pages) p g) ≤ 1
       by f l true e k =
-          let z : uses f (t .pages) ≡ 0 = rw (eqb-true x f e) at (free-nobody t x un) in
-          let u = uses-set f (t .pages) p g (rw (s .pages-long) h) in
+          let z : holders t f ≡ 0 = rw (eqb-true x f e) at (free-nobody t x un) in
+          let y = uses-hold t f in
+          let u = uses-set f (t .pages) p g (rw (s .paged .pages-long) h) in
           omega arith
       by f l false e k =
-          let u = uses-set f (t .pages) p g (rw (s .pages-long) h) in
-          let o = s .once f l in
+          let u = uses-set f (t .pages) p g (rw (s .paged .pages-long) h) in
+          let o = alone f l in
           omega arith
 
--- a change that a step may make keeps the table rules
-pub sound-after : (t : Tables) (p : ℕ) (c : Edit) → p < 64 → sound t ≡ true → Allowed t p c → sound (after t (edited t p c)) ≡ true
-unfolding after changed
-sound-after t p c h e a = of-sound (withMark (withPage t p (changed (pageAt t p) c)) (retiredBy c)) (by c a)
-  where
-    s : Sound t
-    s = sound-of t e
+  small : frames t ≤ 254
+  small = few-frames s
 
-    small : frames t ≤ 254
-    small = omega (arith, s .fast-ok, s .slow-ok)
+  up : absent (pageAt t p) ≡ false → StandingPage (frames t) (pageAt t p)
+  up st = standing-at t p s h st
 
-    up : absent (pageAt t p) ≡ false → StandingPage (frames t) (pageAt t p)
-    up st = standing-at t p s h st
+  -- a page that has a copy k stands
+  has : {k : ℕ} → k < pageAt t p .n → StandingPage (frames t) (pageAt t p)
+  has l = up (ne-eqb (pageAt t p .n) 0 (λ z. omega arith))
 
-    -- a page that has a copy k stands
-    has : {k : ℕ} → k < pageAt t p .n → StandingPage (frames t) (pageAt t p)
-    has l = up (ne-eqb (pageAt t p .n) 0 (λ z. omega arith))
+  allowed-fits : (c : Edit) → Allowed t p c → Fits (frames t) (t .pages) (t .register) p (changed (pageAt t p) c)
+  unfolding changed
+  allowed-fits Kept a = fewer (pageAt t p) (s .paged .page-ok p h) (λ f l. le-refl _)
+  allowed-fits (Created st) a = fewer (created st) (of-standing (created-ok (frames t) st a)) (λ f l. rw (created-on st f (omega (arith, small))) zero-le)
+  allowed-fits Deleted a = fewer freshPage (fresh-page-ok (frames t)) (λ f l. rw (fresh-on f) zero-le)
+  allowed-fits (Granted o r) a = fewer (granted (pageAt t p) o r) (of-standing (granted-ok (up (a .stands)) o r (a .low))) (λ f l. le-refl _)
+  allowed-fits Staled a =
+      let g = up (a .stands) in
+      fewer (changed (pageAt t p) Staled) (of-standing (staled-ok g a)) (λ f l. rw (staled-on g f) (le-refl _))
+  allowed-fits (Placed x) a =
+      let g = up (a .stands) in
+      onto (changed (pageAt t p) (Placed x)) x (of-standing (placed-ok g x (a .onto .in-range) small)) (a .onto .unused) (λ f. omega (arith, placed-on g x f))
+  allowed-fits (Added x r) a =
+      let g = has (a .from-in) in
+      onto (changed (pageAt t p) (Added x r)) x
+      (of-standing (added-ok g x r (a .onto .in-range) small (a .room) (a .from) (a .from-in) (a .from-placed))) (a .onto .unused)
+      (λ f. rw (added-on g x r f (a .room)) (le-refl _))
+  allowed-fits (Removed k) a =
+      let g = has (a .in-use) in
+      fewer (changed (pageAt t p) (Removed k)) (of-standing (removed-ok g k a)) (λ f l. omega (arith, removed-on g k f (a .in-use)))
+  allowed-fits (Marked k b) a =
+      let g = has (a .in-use) in
+      fewer (changed (pageAt t p) (Marked k b)) (of-standing (marked-ok g k b a)) (λ f l. rw (marked-on g k b f (a .in-use)) (le-refl _))
 
-    -- no frame is retired
-    plain : (g : Page) → Sound (withPage t p g) → Sound (withMark (withPage t p g) 255)
-    plain g w = marked (withPage t p g) w 255 (λ l. absurd (omega arith))
+-- ---- the change as a whole: the frame is retired, and the record put in
 
-    same : Sound (withPage t p (pageAt t p))
-    same = fewer t p h s (pageAt t p) (s .page-ok p h) (λ f l. le-refl _)
+module _ (t : Tables) (p : ℕ) (c : Edit) (x : ℕ) (near : p < 64) (ok : sound t ≡ true) (a : Allowed t p c) (may : MayRetire t p c x) where
+  before : Sound t
+  before = sound-of t ok
 
-    by : (c : Edit) → Allowed t p c → Sound (withMark (withPage t p (changed (pageAt t p) c)) (retiredBy c))
-    by Kept a = plain (pageAt t p) same
-    by (Created st) a =
-        plain (created st) (fewer t p h s (created st) (of-standing (created-ok (frames t) st a)) (λ f l. rw (created-on st f (omega (arith, small))) zero-le))
-    by Deleted a = plain freshPage (fewer t p h s freshPage (fresh-page-ok (frames t)) (λ f l. rw (fresh-on f) zero-le))
-    by (Granted o r) a =
-        plain (granted (pageAt t p) o r) (fewer t p h s (granted (pageAt t p) o r) (of-standing (granted-ok (up (a .stands)) o r (a .low))) (λ f l. le-refl _))
-    by Staled a =
-        let g = up (a .stands) in
-        plain (changed (pageAt t p) Staled) (fewer t p h s (changed (pageAt t p) Staled) (of-standing (staled-ok g a)) (λ f l. rw (staled-on g f) (le-refl _)))
-    by (Placed x) a =
-        let g = up (a .stands) in
-        plain (changed (pageAt t p) (Placed x)) (onto t p h s (changed (pageAt t p) (Placed x)) x (of-standing (placed-ok g x (a .onto .in-range) small)) (a .onto .unused)
-        (λ f. omega (arith, placed-on g x f)))
-    by (Added x r) a =
-        let g = has (a .from-in) in
-        plain (changed (pageAt t p) (Added x r)) (onto t p h s (changed (pageAt t p) (Added x r)) x
-        (of-standing (added-ok g x r (a .onto .in-range) small (a .room) (a .from) (a .from-in) (a .from-placed))) (a .onto .unused)
-        (λ f. rw (added-on g x r f (a .room)) (le-refl _)))
-    by (Removed k) a =
-        let g = has (a .in-use) in
-        plain (changed (pageAt t p) (Removed k)) (fewer t p h s (changed (pageAt t p) (Removed k)) (of-standing (removed-ok g k a)) (λ f l. omega (arith, removed-on g k f (a .in-use))))
-    by (Marked k b) a =
-        let g = has (a .in-use) in
-        plain (changed (pageAt t p) (Marked k b)) (fewer t p h s (changed (pageAt t p) (Marked k b)) (of-standing (marked-ok g k b a)) (λ f l. rw (marked-on g k b f (a .in-use)) (le-refl _)))
-    by (Retired x) a =
-        marked (withPage t p (pageAt t p)) same x
-        (λ _. (a .in-range, rw (set-getD (t .pages) p noPageRecord) (free-nobody t x (a .unused))))
+  alone-before : Once (frames t) (t .pages)
+  alone-before = pages-once t (before .once)
+
+  first : RegisterOk (frames t) (t .pages) (set (t .register) x retiredEntry)
+  first = retired-right t before x (λ l. may l .out)
+
+  -- no copy comes onto a frame that is retired now or was before
+  then-fits : Fits (frames t) (t .pages) (set (t .register) x retiredEntry) p (changed (pageAt t p) c)
+  unfolding after
+  then-fits = record { ruled = w .ruled; once = w .once; bare = λ f out. at f out (ℕ-discrete f x) }
+    where
+      w : Fits (frames t) (t .pages) (t .register) p (changed (pageAt t p) c)
+      w = allowed-fits t p near before c a
+
+      at : (f : ℕ) → retiredAt (withRetired t x) f ≡ true → Dec (f ≡ x) → uses f (set (t .pages) p (changed (pageAt t p) c)) ≡ 0
+      at f out (yes e) =
+          let few = few-frames before in
+          let l = out-low first f out in
+          rw e (omega (arith, uses-hold (after t (edited t p c x)) x, may (omega arith) .bare))
+      at f out (no d) = w .bare f (rw (getD-set-other (t .register) x f retiredEntry freeEntry d) at out)
+
+  -- a change that a step may make keeps the table rules, one by one
+  pub sound-after : sound (after t (edited t p c x)) ≡ true
+  unfolding after holders
+  sound-after =
+      of-sound _
+      (record {
+        sizes = before .sizes;
+        paged = new-paged near (before .paged) alone-before first then-fits;
+        once = then-fits .once;
+        right = rw (lt-ltb p 64 near) (new-right near (before .paged) alone-before first then-fits);
+      })
+
+  -- and retires its frame alone
+  pub retired-after : (f : ℕ) → retiredAt (after t (edited t p c x)) f ≡ retiredAt (withRetired t x) f
+  unfolding after
+  retired-after f = rw (lt-ltb p 64 near) (out-same near (before .paged) alone-before first then-fits f)

@@ -1,13 +1,12 @@
 -- Fresh tables meet the table rules, and no frame of theirs is used.
 use Prim.Native.Nat.{ℕ, zero, suc, _+_, _≤_}
-use mathlib.Core.Bool.{true, false}
-use mathlib.Core.Path.{_≡_, refl, sym, ap, _∙_}
+use mathlib.Core.Bool.{true}
+use mathlib.Core.Path.{_≡_, refl}
 use native.Mathlib.Omega.{arith}
 use lib.ListN.{replicate, length-replicate, getD-replicate}
 use Rattle.tables.specs.Lists.{count}
-use Rattle.tables.specs.Model.{noHolder, inUse, freshPage, freshTables, noPageRecord, onFrame}
-use Rattle.tables.specs.Rules.{uses, sound}
-use Rattle.tables.specs.Register.{entryOf}
+use Rattle.tables.specs.Model.{freeEntry, inUse, freshPage, freshTables, zeroPage, onFrame}
+use Rattle.tables.specs.Rules.{uses, holders, sound}
 use Rattle.tables.proofs.HolderLaws.{nobody}
 use Rattle.tables.proofs.RuleLaws.{fresh-page-ok, of-sound}
 
@@ -24,18 +23,20 @@ uses-fresh f (suc n) = let k = uses-fresh f n in let g = fresh-on f in omega ari
 
 -- fresh tables are sound
 pub fresh-sound : (p s : ℕ) → p ≤ 127 → s ≤ 127 → sound (freshTables p s) ≡ true
-unfolding freshTables
+unfolding freshTables holders
 fresh-sound p s hp hs =
     of-sound (freshTables p s)
     (record {
-      fast-ok = hp;
-      slow-ok = hs;
-      pages-long = length-replicate 64 freshPage;
-      page-ok = λ k h. rw (getD-replicate 64 k freshPage noPageRecord h) (fresh-page-ok (p + s));
+      sizes = record { fast-ok = hp; slow-ok = hs };
+      paged =
+          record {
+            pages-long = length-replicate 64 freshPage;
+            page-ok = λ k h. rw (getD-replicate 64 k freshPage zeroPage h) (fresh-page-ok (p + s));
+          };
       once = λ f h. let k = uses-fresh f 64 in omega arith;
-      register-long = length-replicate 254 noHolder;
-      register-ok = λ f h. getD-replicate 254 f noHolder noHolder h ∙ ap entryOf (sym (nobody f 0 (replicate 64 freshPage) (uses-fresh f 64)));
-      marks-long = length-replicate 254 false;
-      marks-past = λ f past h. getD-replicate 254 f false false h;
-      marks-free = λ f h is. uses-fresh f 64;
+      right =
+          record {
+            register-long = length-replicate 254 freeEntry;
+            entry-ok = λ f h. rw (getD-replicate 254 f freeEntry freeEntry h, nobody f 0 (replicate 64 freshPage) (uses-fresh f 64));
+          };
     })

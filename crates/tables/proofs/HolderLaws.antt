@@ -15,8 +15,8 @@ use Rattle.tables.specs.declared.Holder.{Holder}
 use Rattle.tables.specs.declared.Holder.the-variants.{At, Free, Retired}
 use Rattle.tables.specs.Lists.{count}
 use Rattle.tables.specs.Model.{retiredAt, inUse, onFrame}
-use Rattle.tables.specs.Rules.{uses, free}
-use Rattle.tables.specs.Search.{inCopies, inPages, searched, holderOf, shown, isFree, isRetired}
+use Rattle.tables.specs.Rules.{uses, holders, free}
+use Rattle.tables.specs.Search.{inCopies, inPages, searched, holderOf, shown, Tells, isFree}
 use Rattle.tables.proofs.ListLaws.{and-left, and-right, iff-eq, and-intro}
 
 -- ---- whom it passes over
@@ -67,28 +67,28 @@ free-pages f p (g ∷ gs) =
     free-copies f p 0 (inUse g) (inPages f (p + 1) gs)
     ∙ rw (free-pages f (p + 1) gs) (sum-zero (count (onFrame f) (inUse g)) (uses f gs))
 
--- no mark is on it, and no copy
-pub free-unmarked : (t : Tables) (f : ℕ) → free t f ≡ true → retiredAt t f ≡ false
+-- it is not retired, and no copy is on it
+pub free-kept : (t : Tables) (f : ℕ) → free t f ≡ true → retiredAt t f ≡ false
 unfolding free
-free-unmarked t f e = not-true (retiredAt t f) (and-left (not (retiredAt t f)) _ e)
+free-kept t f e = not-true (retiredAt t f) (and-left (not (retiredAt t f)) _ e)
 
-pub free-nobody : (t : Tables) (f : ℕ) → free t f ≡ true → uses f (t .pages) ≡ 0
+pub free-nobody : (t : Tables) (f : ℕ) → free t f ≡ true → holders t f ≡ 0
 unfolding free
-free-nobody t f e = eqb-true (uses f (t .pages)) 0 (and-right (not (retiredAt t f)) _ e)
+free-nobody t f e = eqb-true (holders t f) 0 (and-right (not (retiredAt t f)) _ e)
+
+-- the search finds nobody just where no copy has the frame
+searched-free : (t : Tables) (f : ℕ) → isFree (searched t f) ≡ eqb (holders t f) 0
+unfolding holders
+searched-free t f = free-pages f 0 (t .pages)
 
 -- a free frame is one that the search does not find and that is not retired
 pub free-holder : (t : Tables) (f : ℕ) → free t f ≡ isFree (holderOf t f)
 unfolding free
 free-holder t f = go (retiredAt t f)
   where
-    go : (b : Bool) → (not b && eqb (uses f (t .pages)) 0) ≡ isFree (cond b Retired (searched t f))
+    go : (b : Bool) → (not b && eqb (holders t f) 0) ≡ isFree (cond b Retired (searched t f))
     go true = refl
-    go false = sym (free-pages f 0 (t .pages))
-
--- the holder of a frame shows as retired just where the frame is marked
-pub retired-shown : (b : Bool) (h : Holder) → isRetired h ≡ false → isRetired (cond b Retired h) ≡ b
-retired-shown true h e = refl
-retired-shown false h e = e
+    go false = sym (searched-free t f)
 
 -- what is shown of a frame has three bytes
 pub three-shown : (h : Holder) → length (shown h) ≡ 3
@@ -96,6 +96,10 @@ three-shown (At p k) = refl
 three-shown Free = refl
 three-shown Retired = refl
 
--- so the holder that it finds tells it
-pub told-free : (t : Tables) (f : ℕ) {h : Holder} → h ≡ holderOf t f → (h ≡ holderOf t f) × (isFree h ≡ free t f)
-told-free t f e = (e, ap isFree e ∙ sym (free-holder t f))
+-- what is promised of an answer that is the holder
+pub tells-it : {h r : Holder} → r ≡ h → Tells h r
+tells-it e = record { case = e; values = ap shown e }
+
+-- which so tells whether the frame is free
+pub told-free : (t : Tables) (f : ℕ) {h : Holder} → h ≡ holderOf t f → Tells (holderOf t f) h × (isFree h ≡ free t f)
+told-free t f e = (tells-it e, ap isFree e ∙ sym (free-holder t f))

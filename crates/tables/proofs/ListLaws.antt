@@ -235,9 +235,3 @@ pub below-of : (n : ℕ) (f : ℕ → Bool) → ((i : ℕ) → i < n → f i ≡
 unfolding allBelow
 below-of zero f h = refl
 below-of (suc n) f h = and-intro (h n (omega arith)) (below-of n f (λ i k. h i (omega arith)))
-
--- tests that agree on each number below n agree on all
-pub below-same : (n : ℕ) (f g : ℕ → Bool) → ((i : ℕ) → i < n → f i ≡ g i) → allBelow n f ≡ allBelow n g
-unfolding allBelow
-below-same zero f g e = refl
-below-same (suc n) f g e = rw (e n (omega arith), below-same n f g (λ i k. e i (omega arith)))

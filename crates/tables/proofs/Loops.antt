@@ -8,7 +8,7 @@ use lib.ListN.{length, getD, take, drop, length-take, drop-of-length-le}
 use lib.Seq.{drop-cons, getD-take}
 use Rattle.tables.specs.declared.Copy.{Copy}
 use Rattle.tables.specs.declared.Page.{Page}
-use Rattle.tables.specs.Model.{inUse, noCopyEntry}
+use Rattle.tables.specs.Model.{inUse, zeroCopy}
 
 module _ {A : Type 0} where
   -- one element more
@@ -34,7 +34,7 @@ use-low g j h =
     omega arith
 
 -- one copy of a page more
-pub use-more : (g : Page) (j : ℕ) → j < length (inUse g) → drop j (inUse g) ≡ getD (g .copies) j noCopyEntry ∷ drop (j + 1) (inUse g)
+pub use-more : (g : Page) (j : ℕ) → j < length (inUse g) → drop j (inUse g) ≡ getD (g .copies) j zeroCopy ∷ drop (j + 1) (inUse g)
 use-more g j h =
-    drop-more (inUse g) j noCopyEntry h
-    ∙ ap {B = List Copy} (λ (c : Copy). c ∷ drop (j + 1) (inUse g)) (getD-take (g .n) (g .copies) j noCopyEntry (use-low g j h))
+    drop-more (inUse g) j zeroCopy h
+    ∙ ap {B = List Copy} (λ (c : Copy). c ∷ drop (j + 1) (inUse g)) (getD-take (g .n) (g .copies) j zeroCopy (use-low g j h))

@@ -12,7 +12,7 @@ use Rattle.tables.specs.declared.Copy.{Copy}
 use Rattle.tables.specs.declared.Page.{Page}
 use Rattle.tables.specs.declared.Edit.the-variants.{Granted, Staled, Placed, Added, Removed, Marked}
 use Rattle.tables.specs.Lists.{all, count}
-use Rattle.tables.specs.Model.{isNull, inUse, freshCopy, noCopyEntry, onFrame}
+use Rattle.tables.specs.Model.{isNull, inUse, freshCopy, zeroCopy, onFrame}
 use Rattle.tables.specs.Rules.{isFresh, copyRule, isRecent, isCurrent, atMost}
 use Rattle.tables.specs.Changes.{created, withCopies, staleCopy, newCopy, closeGap, markedCopy, changed}
 use Rattle.tables.proofs.ListLaws.{and-intro, not-so, all-of, all-append, all-drop, all-imp, all-map, all-set, count-append, count-at, count-le, count-map, count-set, count-some}
@@ -86,8 +86,8 @@ all-one f a e = and-intro e refl
 
 module _ {limit : ℕ} {g : Page} (s : StandingPage limit g) where
   -- beside a copy that has a frame none is null
-  pub none-null : (k : ℕ) → k < g .n → isNull (getD (g .copies) k noCopyEntry) ≡ false
-      → (j : ℕ) → j < g .n → isNull (getD (g .copies) j noCopyEntry) ≡ false
+  pub none-null : (k : ℕ) → k < g .n → isNull (getD (g .copies) k zeroCopy) ≡ false
+      → (j : ℕ) → j < g .n → isNull (getD (g .copies) j zeroCopy) ≡ false
   none-null k h e j m =
       not-so _ (λ z.
       let one = copy-at s j m .lone z in
@@ -95,13 +95,13 @@ module _ {limit : ℕ} {g : Page} (s : StandingPage limit g) where
       true≢false (sym z ∙ rw q at e))
 
   -- so what holds of each copy that has a frame holds of all
-  all-placed : (f : Copy → Bool) (k : ℕ) → k < g .n → isNull (getD (g .copies) k noCopyEntry) ≡ false
+  all-placed : (f : Copy → Bool) (k : ℕ) → k < g .n → isNull (getD (g .copies) k zeroCopy) ≡ false
       → ((c : Copy) → GoodCopy limit (g .n) c → isNull c ≡ false → f c ≡ true) → all f (inUse g) ≡ true
   all-placed f k h e then =
-      all-of f (inUse g) noCopyEntry
+      all-of f (inUse g) zeroCopy
       (λ j l.
       let m : j < g .n = rw (length-in-use s) at l in
-      rw (getD-take (g .n) (g .copies) j noCopyEntry m) (then (getD (g .copies) j noCopyEntry) (copy-at s j m) (none-null k h e j m)))
+      rw (getD-take (g .n) (g .copies) j zeroCopy m) (then (getD (g .copies) j zeroCopy) (copy-at s j m) (none-null k h e j m)))
 
   -- the page with other copies
   recopied : (n : ℕ) (cs : List Copy) → length cs ≡ 8 → n ≤ 8 → all (copyRule limit n) (take n cs) ≡ true → all isFresh (drop n cs) ≡ true
@@ -123,10 +123,10 @@ module _ {limit : ℕ} {g : Page} (s : StandingPage limit g) where
   pub staled-ok : StaleOk g → StandingPage limit (changed g Staled)
   unfolding changed
   staled-ok a =
-      let w = count-some isCurrent (inUse g) noCopyEntry (a .written) in
+      let w = count-some isCurrent (inUse g) zeroCopy (a .written) in
       let h : w .0 < g .n = rw (length-in-use s) at (w .1) in
-      let same = getD-take (g .n) (g .copies) (w .0) noCopyEntry h in
-      let cur : getD (g .copies) (w .0) noCopyEntry .current ≡ true = rw same at (w .2) in
+      let same = getD-take (g .n) (g .copies) (w .0) zeroCopy h in
+      let cur : getD (g .copies) (w .0) zeroCopy .current ≡ true = rw same at (w .2) in
       let o = copy-at s (w .0) h in
       recopied (g .n) (map staleCopy (g .copies)) (changed-copies g Staled (s .copies-long)) (s .most)
       (rw (in-use-staled g, all-map (copyRule limit (g .n)) staleCopy (inUse g))
@@ -135,7 +135,7 @@ module _ {limit : ℕ} {g : Page} (s : StandingPage limit g) where
       (rw (rest-staled g, all-map isFresh staleCopy (drop (g .n) (g .copies)))
       (all-imp isFresh (λ c. isFresh (staleCopy c)) (drop (g .n) (g .copies)) (λ c z. rw (fresh-copy c z)) (s .rest-fresh)))
       (rw (in-use-staled g, count-map isRecent (λ c. c .recent && c .current) staleCopy (inUse g) (λ c. refl))
-      (count-at (λ c. c .recent && c .current) (inUse g) (w .0) noCopyEntry (w .1) (rw same (and-intro (o .marks cur) cur))))
+      (count-at (λ c. c .recent && c .current) (inUse g) (w .0) zeroCopy (w .1) (rw same (and-intro (o .marks cur) cur))))
 
   -- with a copy on a frame in place of the first
   pub placed-ok : (f : ℕ) → f < limit → limit ≤ 254 → StandingPage limit (changed g (Placed f))
@@ -149,17 +149,17 @@ module _ {limit : ℕ} {g : Page} (s : StandingPage limit g) where
       (all-set (copyRule limit (g .n)) (inUse g) 0 c (s .copies-ok) (of-good-copy limit (g .n) c (new-good limit (g .n) f true h small))))
       (rw (rest-placed g f some) (s .rest-fresh))
       (rw (in-use-placed g f some)
-      (count-at isRecent (set (inUse g) 0 c) 0 noCopyEntry (rw (length-set (inUse g) 0 c, long) some)
-      (rw (getD-set-same (inUse g) 0 c noCopyEntry (rw long some)))))
+      (count-at isRecent (set (inUse g) 0 c) 0 zeroCopy (rw (length-set (inUse g) 0 c, long) some)
+      (rw (getD-set-same (inUse g) 0 c zeroCopy (rw long some)))))
 
   -- with another mark
   pub marked-ok : (k : ℕ) (b : Bool) → MarkOk g k b → StandingPage limit (changed g (Marked k b))
   unfolding changed
   marked-ok k b a =
       let h : k < g .n = a .in-use in
-      let old : Copy = getD (g .copies) k noCopyEntry in
-      let same : getD (inUse g) k noCopyEntry ≡ old = getD-take (g .n) (g .copies) k noCopyEntry h in
-      let u = count-set isRecent (inUse g) k (markedCopy old b) noCopyEntry (rw (length-in-use s) h) in
+      let old : Copy = getD (g .copies) k zeroCopy in
+      let same : getD (inUse g) k zeroCopy ≡ old = getD-take (g .n) (g .copies) k zeroCopy h in
+      let u = count-set isRecent (inUse g) k (markedCopy old b) zeroCopy (rw (length-in-use s) h) in
       let v : count isRecent (set (inUse g) k (markedCopy old b)) + cond (old .recent) 1 0 ≡ count isRecent (inUse g) + cond (old .recent) 1 0 = rw same at u in
       recopied (g .n) (set (g .copies) k (markedCopy old b)) (changed-copies g (Marked k b) (s .copies-long)) (s .most)
       (rw (in-use-marked g k b h)
@@ -169,7 +169,7 @@ module _ {limit : ℕ} {g : Page} (s : StandingPage limit g) where
       (rw (in-use-marked g k b h) (omega (arith, s .recent-ok)))
 
   -- with one copy more
-  pub added-ok : (f : ℕ) (r : Bool) → f < limit → limit ≤ 254 → g .n < 8 → (k : ℕ) → k < g .n → isNull (getD (g .copies) k noCopyEntry) ≡ false
+  pub added-ok : (f : ℕ) (r : Bool) → f < limit → limit ≤ 254 → g .n < 8 → (k : ℕ) → k < g .n → isNull (getD (g .copies) k zeroCopy) ≡ false
       → StandingPage limit (changed g (Added f r))
   added-ok f r h small room k hk e =
       let c : Copy = newCopy f r in
@@ -192,8 +192,8 @@ module _ {limit : ℕ} {g : Page} (s : StandingPage limit g) where
       let long = length-in-use s in
       let used = in-use-removed g (s .copies-long) k h (s .most) in
       let left : 1 ≤ count isRecent (without (inUse g) k) =
-      some-left (getD (g .copies) k noCopyEntry .recent) (count isRecent (inUse g)) (count isRecent (without (inUse g) k)) (a .not-last) (s .recent-ok)
-      (rw (getD-take (g .n) (g .copies) k noCopyEntry h) at (count-without isRecent (inUse g) k noCopyEntry (rw long h))) in
+      some-left (getD (g .copies) k zeroCopy .recent) (count isRecent (inUse g)) (count isRecent (without (inUse g) k)) (a .not-last) (s .recent-ok)
+      (rw (getD-take (g .n) (g .copies) k zeroCopy h) at (count-without isRecent (inUse g) k zeroCopy (rw long h))) in
       let two : 2 ≤ g .n = let u = count-le isRecent (without (inUse g) k) in let v = length-without (inUse g) k (rw long h) in omega arith in
       recopied (g .n - 1) (closeGap (g .copies) k) (changed-copies g (Removed k) (s .copies-long)) (omega (arith, s .most))
       (rw used
@@ -229,25 +229,25 @@ module _ {limit : ℕ} {g : Page} (s : StandingPage limit g) where
   -- with another mark, as many as before
   pub marked-on : (k : ℕ) (b : Bool) (f : ℕ) → k < g .n → count (onFrame f) (inUse (changed g (Marked k b))) ≡ count (onFrame f) (inUse g)
   marked-on k b f h =
-      let c : Copy = markedCopy (getD (g .copies) k noCopyEntry) b in
+      let c : Copy = markedCopy (getD (g .copies) k zeroCopy) b in
       let u : count (onFrame f) (set (inUse g) k c) + cond (onFrame f c) 1 0 ≡ count (onFrame f) (inUse g) + cond (onFrame f c) 1 0 =
-      rw (getD-take (g .n) (g .copies) k noCopyEntry h) at (count-set (onFrame f) (inUse g) k c noCopyEntry (rw (length-in-use s) h)) in
+      rw (getD-take (g .n) (g .copies) k zeroCopy h) at (count-set (onFrame f) (inUse g) k c zeroCopy (rw (length-in-use s) h)) in
       rw (in-use-marked g k b h) (omega arith)
 
   -- without copy k, one fewer where that was
   pub removed-on : (k f : ℕ) → k < g .n
-      → count (onFrame f) (inUse (changed g (Removed k))) + cond (onFrame f (getD (g .copies) k noCopyEntry)) 1 0 ≡ count (onFrame f) (inUse g)
+      → count (onFrame f) (inUse (changed g (Removed k))) + cond (onFrame f (getD (g .copies) k zeroCopy)) 1 0 ≡ count (onFrame f) (inUse g)
   removed-on k f h =
-      rw (in-use-removed g (s .copies-long) k h (s .most), ← getD-take (g .n) (g .copies) k noCopyEntry h)
-      (count-without (onFrame f) (inUse g) k noCopyEntry (rw (length-in-use s) h))
+      rw (in-use-removed g (s .copies-long) k h (s .most), ← getD-take (g .n) (g .copies) k zeroCopy h)
+      (count-without (onFrame f) (inUse g) k zeroCopy (rw (length-in-use s) h))
 
   -- with copy 0 placed on frame x, one fewer where it was, and one more there
   pub placed-on : (x f : ℕ)
-      → count (onFrame f) (inUse (changed g (Placed x))) + cond (onFrame f (getD (g .copies) 0 noCopyEntry)) 1 0
+      → count (onFrame f) (inUse (changed g (Placed x))) + cond (onFrame f (getD (g .copies) 0 zeroCopy)) 1 0
       ≡ count (onFrame f) (inUse g) + cond (eqb x f) 1 0
   placed-on x f =
-      rw (in-use-placed g x (s .some), ← getD-take (g .n) (g .copies) 0 noCopyEntry (s .some))
-      (count-set (onFrame f) (inUse g) 0 (newCopy x true) noCopyEntry (rw (length-in-use s) (s .some)))
+      rw (in-use-placed g x (s .some), ← getD-take (g .n) (g .copies) 0 zeroCopy (s .some))
+      (count-set (onFrame f) (inUse g) 0 (newCopy x true) zeroCopy (rw (length-in-use s) (s .some)))
 
   -- with a copy more on frame x, one more there
   pub added-on : (x : ℕ) (r : Bool) (f : ℕ) → g .n < 8 → count (onFrame f) (inUse (changed g (Added x r))) ≡ count (onFrame f) (inUse g) + cond (eqb x f) 1 0

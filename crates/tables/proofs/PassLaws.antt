@@ -11,7 +11,7 @@ use Rattle.tables.specs.declared.Copy.{Copy}
 use Rattle.tables.specs.Lists.{all, count}
 use Rattle.tables.specs.Rules.{isRecent, copyRule}
 use Rattle.tables.specs.Register.{entry}
-use Rattle.tables.specs.PrivatePass.{names, namesAll, scanCopies}
+use Rattle.tables.specs.PrivatePass.{names, entriesAre, scanCopies}
 
 -- what the pass over the copies answers
 regroup : (r u a m q : Bool) → (r && (u && (a && (m && q)))) ≡ ((r && a) && ((u && m) && q))
@@ -28,13 +28,13 @@ some-recent false false later = ap (leb 1) (sym (zero-add later))
 
 pub scan-copies : (limit n : ℕ) (r : List ℕ) (p k : ℕ) (before : Bool) (cs : List Copy)
     → scanCopies limit n r p k before cs
-    ≡ (all (copyRule limit n) cs && (namesAll r p k cs && (before || leb 1 (count isRecent cs))))
-unfolding scanCopies namesAll all count
+    ≡ (all (copyRule limit n) cs && (entriesAre r p k cs && (before || leb 1 (count isRecent cs))))
+unfolding scanCopies entriesAre all count
 scan-copies limit n r p k true [] = refl
 scan-copies limit n r p k false [] = refl
 scan-copies limit n r p k before (c ∷ cs) =
     rw (scan-copies limit n r p (k + 1) (before || c .recent) cs, some-recent before (c .recent) (count isRecent cs))
-    (regroup (copyRule limit n c) (names r (c .frame) (entry p k)) (all (copyRule limit n) cs) (namesAll r p (k + 1) cs)
+    (regroup (copyRule limit n c) (names r (c .frame) (entry p k)) (all (copyRule limit n) cs) (entriesAre r p (k + 1) cs)
     (before || leb 1 (cond (c .recent) 1 0 + count isRecent cs)))
 
 -- with d for the unused entries: the rule of a standing page ends in a, d and q, and m is that its copies are named

@@ -1,21 +1,25 @@
 -- What the table rules say, part by part, and back: of a copy, of a page, of the tables.
-use Prim.Native.Nat.{ℕ, _+_, _-_, _≤_, _<_}
+use Prim.Native.Nat.{ℕ, _≤_, _<_}
 use mathlib.Core.Bool.{Bool, true, false, not, _&&_, _||_, cond, true≢false}
 use mathlib.Core.List.{List, [], _∷_}
 use mathlib.Core.Path.{_≡_, refl, sym, ap, _∙_}
 use native.Mathlib.Omega.{arith}
 use lib.Dec.{leb, ltb, eqb}
-use lib.ListN.{length, getD, take, drop, length-take, length-drop}
-use lib.Seq.{length-take-le, getD-take, getD-drop}
+use lib.ListN.{length, getD, take, drop, length-take, List·getD-eq-default}
+use lib.Seq.{length-take-le, getD-take}
 use borrow.Author.Tests.{ltb-true, ltb-false, leb-true, eqb-true, eqb-false, not-true, lt-ltb, le-leb, eq-eqb, ne-eqb}
 use Rattle.tables.specs.declared.Copy.{Copy}
 use Rattle.tables.specs.declared.Page.{Page}
+use Rattle.tables.specs.declared.Shared.{Shared}
 use Rattle.tables.specs.declared.Tables.{Tables}
-use Rattle.tables.specs.Lists.{all, count, allBelow}
-use Rattle.tables.specs.Model.{frames, noHolder, isNull, retiredAt, inUse, absent, onFrame, freshCopy, freshPage, noCopyEntry, noPageRecord, pageAt}
-use Rattle.tables.specs.Rules.{uses, isFresh, copyRule, isRecent, atMost, standingRule, absentRule, shaped, pageRule, alone, rightMarks, sound}
-use Rattle.tables.specs.Search.{searched}
-use Rattle.tables.specs.Register.{entryOf, rightRegister}
+use Rattle.tables.specs.declared.Holder.{Holder}
+use Rattle.tables.specs.Lists.{all, count}
+use Rattle.tables.specs.Model.{frames, freeEntry, isRetiredEntry, retiredAt, isNull, inUse, absent, onFrame, freshCopy, freshPage, zeroCopy, zeroPage, pageAt}
+use Rattle.tables.specs.Rules.{uses, holders, isFresh, copyRule, isRecent, atMost, standingRule, absentRule, shaped, pageRule, alone, sizesRule, pagesRule, sound}
+use Rattle.tables.specs.Search.{inPages, isFree}
+use Rattle.tables.specs.Register.{entryOf, entryRule, registerRule}
+use Rattle.tables.proofs.HolderLaws.{free-pages}
+use Rattle.tables.proofs.UsesLaws.{uses-hold}
 use Rattle.tables.proofs.ListLaws.{and-left, and-right, and-intro, or-left, or-right, not-so, all-first, all-rest, all-at, all-of, below-at, below-of}
 
 -- ---- a copy
@@ -128,11 +132,11 @@ module _ {limit : ℕ} {g : Page} (s : StandingPage limit g) where
   length-in-use = length-take-le (g .n) (g .copies) (rw (s .copies-long) (s .most))
 
   -- each of them meets the rule of a copy
-  pub copy-at : (k : ℕ) → k < g .n → GoodCopy limit (g .n) (getD (g .copies) k noCopyEntry)
+  pub copy-at : (k : ℕ) → k < g .n → GoodCopy limit (g .n) (getD (g .copies) k zeroCopy)
   copy-at k h =
-      good-copy limit (g .n) (getD (g .copies) k noCopyEntry)
-      (rw (getD-take (g .n) (g .copies) k noCopyEntry h) at
-      (all-at (copyRule limit (g .n)) (inUse g) k noCopyEntry (s .copies-ok) (rw length-in-use h)))
+      good-copy limit (g .n) (getD (g .copies) k zeroCopy)
+      (rw (getD-take (g .n) (g .copies) k zeroCopy h) at
+      (all-at (copyRule limit (g .n)) (inUse g) k zeroCopy (s .copies-ok) (rw length-in-use h)))
 
 -- ---- an absent page
 
@@ -194,90 +198,150 @@ module _ (limit f : ℕ) (past : limit ≤ f) (small : f < 255) where
       let rest = uses-past gs (all-rest (pageRule limit) g gs e) in
       omega arith
 
--- ---- the tables
+-- ---- the tables, rule by rule: each part is about the fields that its rule is about
 
--- the table rules
-pub record Sound (t : Tables) : Type 0 where
-  pub fast-ok : t .shared .p ≤ 127
-  pub slow-ok : t .shared .s ≤ 127
-  pub pages-long : length (t .pages) ≡ 64
-  pub page-ok : (p : ℕ) → p < 64 → pageRule (frames t) (pageAt t p) ≡ true
-  pub once : (f : ℕ) → f < frames t → uses f (t .pages) ≤ 1
-  pub register-long : length (t .register) ≡ 254
-  pub register-ok : (f : ℕ) → f < 254 → getD (t .register) f noHolder ≡ entryOf (searched t f)
-  pub marks-long : length (t .retired) ≡ 254
-  pub marks-past : (f : ℕ) → frames t ≤ f → f < 254 → retiredAt t f ≡ false
-  pub marks-free : (f : ℕ) → f < 254 → retiredAt t f ≡ true → uses f (t .pages) ≡ 0
+-- P and S
+pub record SizesOk (a : Shared) : Type 0 where
+  pub fast-ok : a .p ≤ 127
+  pub slow-ok : a .s ≤ 127
 
--- the parts of the table rules
-pub sound-of : (t : Tables) → sound t ≡ true → Sound t
-unfolding sound alone rightRegister rightMarks
-sound-of t e =
-    let e₁ = and-right (leb (t .shared .p) 127) _ e in
-    let e₂ = and-right (leb (t .shared .s) 127) _ e₁ in
-    let e₃ = and-right (eqb (length (t .pages)) 64) _ e₂ in
-    let e₄ = and-right (all (pageRule (frames t)) (t .pages)) _ e₃ in
-    let e₅ = and-right (allBelow (frames t) (λ f. leb (uses f (t .pages)) 1)) _ e₄ in
-    let register = and-left (rightRegister (t .pages) (t .register)) _ e₅ in
-    let marks = and-right (rightRegister (t .pages) (t .register)) _ e₅ in
-    let e₆ = and-right (eqb (length (t .retired)) 254) _ marks in
-    let m : length (t .retired) ≡ 254 = eqb-true _ 254 (and-left (eqb (length (t .retired)) 254) _ marks) in
-    let past = and-left (all not (drop (frames t) (t .retired))) _ e₆ in
-    let l : length (t .pages) ≡ 64 = eqb-true _ 64 (and-left (eqb (length (t .pages)) 64) _ e₂) in
+pub sizes-of : (a : Shared) → sizesRule a ≡ true → SizesOk a
+unfolding sizesRule
+sizes-of a e =
+    record { fast-ok = leb-true (a .p) 127 (and-left (leb (a .p) 127) _ e); slow-ok = leb-true (a .s) 127 (and-right (leb (a .p) 127) _ e) }
+
+pub of-sizes : (a : Shared) → SizesOk a → sizesRule a ≡ true
+unfolding sizesRule
+of-sizes a s = and-intro (le-leb _ _ (s .fast-ok)) (le-leb _ _ (s .slow-ok))
+
+-- the pages, each by itself
+pub record PagesOk (limit : ℕ) (gs : List Page) : Type 0 where
+  pub pages-long : length gs ≡ 64
+  pub page-ok : (p : ℕ) → p < 64 → pageRule limit (getD gs p zeroPage) ≡ true
+
+pub pages-of : (limit : ℕ) (gs : List Page) → pagesRule limit gs ≡ true → PagesOk limit gs
+unfolding pagesRule
+pages-of limit gs e =
+    let l : length gs ≡ 64 = eqb-true _ 64 (and-left (eqb (length gs) 64) _ e) in
+    record { pages-long = l; page-ok = λ p h. all-at (pageRule limit) gs p zeroPage (and-right (eqb (length gs) 64) _ e) (rw l h) }
+
+-- all of them
+pub pages-ruled : {limit : ℕ} {gs : List Page} → PagesOk limit gs → all (pageRule limit) gs ≡ true
+pages-ruled {limit} {gs} s = all-of (pageRule limit) gs zeroPage (λ p h. s .page-ok p (rw (s .pages-long) at h))
+
+pub of-pages : (limit : ℕ) (gs : List Page) → PagesOk limit gs → pagesRule limit gs ≡ true
+unfolding pagesRule
+of-pages limit gs s = and-intro (eq-eqb _ _ (s .pages-long)) (pages-ruled s)
+
+-- no frame under two copies
+abbrev pub Alone : ℕ → (ℕ → ℕ) → Type 0
+Alone limit held = (f : ℕ) → f < limit → held f ≤ 1
+
+pub alone-of : (limit : ℕ) (held : ℕ → ℕ) → alone limit held ≡ true → Alone limit held
+unfolding alone
+alone-of limit held e f h = leb-true (held f) 1 (below-at limit (λ f. leb (held f) 1) f e h)
+
+pub of-alone : (limit : ℕ) (held : ℕ → ℕ) → Alone limit held → alone limit held ≡ true
+unfolding alone
+of-alone limit held once = below-of limit (λ f. leb (held f) 1) (λ f h. le-leb _ _ (once f h))
+
+-- of pages
+abbrev pub Once : ℕ → List Page → Type 0
+Once limit gs = (f : ℕ) → f < limit → uses f gs ≤ 1
+
+pub pages-once : (t : Tables) → Alone (frames t) (holders t) → Once (frames t) (t .pages)
+pages-once t once f h = omega (arith, uses-hold t f, once f h)
+
+-- the register
+pub record RegisterOk (limit : ℕ) (gs : List Page) (r : List ℕ) : Type 0 where
+  pub register-long : length r ≡ 254
+  pub entry-ok : (f : ℕ) → f < 254 → entryRule limit f (inPages f 0 gs) (getD r f freeEntry) ≡ true
+
+pub register-of : (limit : ℕ) (gs : List Page) (r : List ℕ) → registerRule limit gs r ≡ true → RegisterOk limit gs r
+unfolding registerRule
+register-of limit gs r e =
     record {
-      fast-ok = leb-true (t .shared .p) 127 (and-left (leb (t .shared .p) 127) _ e);
-      slow-ok = leb-true (t .shared .s) 127 (and-left (leb (t .shared .s) 127) _ e₁);
-      pages-long = l;
-      page-ok = λ p h.
-          all-at (pageRule (frames t)) (t .pages) p noPageRecord (and-left (all (pageRule (frames t)) (t .pages)) _ e₃) (rw l h);
-      once = λ f h.
-          leb-true (uses f (t .pages)) 1
-          (below-at (frames t) (λ f. leb (uses f (t .pages)) 1) f (and-left (allBelow (frames t) (λ f. leb (uses f (t .pages)) 1)) _ e₄) h);
-      register-long = eqb-true _ 254 (and-left (eqb (length (t .register)) 254) _ register);
-      register-ok = λ f h.
-          eqb-true _ _
-          (below-at 254 (λ f. eqb (getD (t .register) f noHolder) (entryOf (searched t f))) f (and-right (eqb (length (t .register)) 254) _ register) h);
-      marks-long = m;
-      marks-past = λ f h near.
-          let at : frames t + (f - frames t) ≡ f = omega arith in
-          let in-rest : f - frames t < length (drop (frames t) (t .retired)) = rw (length-drop (frames t) (t .retired), m) (omega arith) in
-          not-true (retiredAt t f)
-          (rw (getD-drop (frames t) (t .retired) (f - frames t) false, at) at
-          (all-at not (drop (frames t) (t .retired)) (f - frames t) false past in-rest));
-      marks-free = λ f h is.
-          eqb-true (uses f (t .pages)) 0
-          (rw is at (below-at 254 (λ f. not (retiredAt t f) || eqb (uses f (t .pages)) 0) f (and-right (all not (drop (frames t) (t .retired))) _ e₆) h));
+      register-long = eqb-true _ 254 (and-left (eqb (length r) 254) _ e);
+      entry-ok = λ f h. below-at 254 (λ f. entryRule limit f (inPages f 0 gs) (getD r f freeEntry)) f (and-right (eqb (length r) 254) _ e) h;
+    }
+
+pub of-register : (limit : ℕ) (gs : List Page) (r : List ℕ) → RegisterOk limit gs r → registerRule limit gs r ≡ true
+unfolding registerRule
+of-register limit gs r s =
+    and-intro (eq-eqb _ _ (s .register-long)) (below-of 254 (λ f. entryRule limit f (inPages f 0 gs) (getD r f freeEntry)) (s .entry-ok))
+
+-- the entry of a frame that is not retired is that of the copy which the search finds
+pub right-held : (limit f : ℕ) (h : Holder) (e : ℕ) → isRetiredEntry e ≡ false → e ≡ entryOf h → entryRule limit f h e ≡ true
+right-held limit f h e in-use q = rw in-use (eq-eqb e (entryOf h) q)
+
+-- a retired frame is in range, and no copy is on it
+pub right-out : (limit f : ℕ) (gs : List Page) (e : ℕ) → isRetiredEntry e ≡ true → f < limit → uses f gs ≡ 0 → entryRule limit f (inPages f 0 gs) e ≡ true
+right-out limit f gs e out low idle = rw out (and-intro (free-pages f 0 gs ∙ eq-eqb (uses f gs) 0 idle) (lt-ltb f limit low))
+
+module _ {limit : ℕ} {gs : List Page} {r : List ℕ} (s : RegisterOk limit gs r) where
+  pub entry-held : (f : ℕ) → f < 254 → isRetiredEntry (getD r f freeEntry) ≡ false → getD r f freeEntry ≡ entryOf (inPages f 0 gs)
+  entry-held f h in-use = eqb-true _ _ (rw in-use at (s .entry-ok f h))
+
+  -- past the register there is no entry
+  out-near : (f : ℕ) → isRetiredEntry (getD r f freeEntry) ≡ true → f < 254
+  out-near f out = by (ltb f 254) refl
+    where
+      by : (b : Bool) → ltb f 254 ≡ b → f < 254
+      by true e = ltb-true f 254 e
+      by false e =
+          let far : length r ≤ f = rw (s .register-long) (ltb-false f 254 e) in
+          absurd (true≢false (sym out ∙ ap isRetiredEntry (List·getD-eq-default r freeEntry {n = f} far)))
+
+  out-free : (f : ℕ) → isRetiredEntry (getD r f freeEntry) ≡ true → (isFree (inPages f 0 gs) && ltb f limit) ≡ true
+  out-free f out = rw out at (s .entry-ok f (out-near f out))
+
+  pub out-low : (f : ℕ) → isRetiredEntry (getD r f freeEntry) ≡ true → f < limit
+  out-low f out = ltb-true f limit (and-right (isFree (inPages f 0 gs)) _ (out-free f out))
+
+  pub out-idle : (f : ℕ) → isRetiredEntry (getD r f freeEntry) ≡ true → uses f gs ≡ 0
+  out-idle f out = eqb-true (uses f gs) 0 (sym (free-pages f 0 gs) ∙ and-left (isFree (inPages f 0 gs)) _ (out-free f out))
+
+-- the table rules: one part for each
+pub record Sound (t : Tables) : Type 0 where
+  pub sizes : SizesOk (t .shared)
+  pub paged : PagesOk (frames t) (t .pages)
+  pub once : Alone (frames t) (holders t)
+  pub right : RegisterOk (frames t) (t .pages) (t .register)
+
+pub sound-of : (t : Tables) → sound t ≡ true → Sound t
+unfolding sound
+sound-of t e =
+    let e₁ = and-right (sizesRule (t .shared)) _ e in
+    let e₂ = and-right (pagesRule (frames t) (t .pages)) _ e₁ in
+    record {
+      sizes = sizes-of (t .shared) (and-left (sizesRule (t .shared)) _ e);
+      paged = pages-of (frames t) (t .pages) (and-left (pagesRule (frames t) (t .pages)) _ e₁);
+      once = alone-of (frames t) (holders t) (and-left (alone (frames t) (holders t)) _ e₂);
+      right = register-of (frames t) (t .pages) (t .register) (and-right (alone (frames t) (holders t)) _ e₂);
     }
 
 -- and the rules from their parts
 pub of-sound : (t : Tables) → Sound t → sound t ≡ true
-unfolding sound alone rightRegister rightMarks
+unfolding sound
 of-sound t s =
-    and-intro (le-leb _ _ (s .fast-ok)) (and-intro (le-leb _ _ (s .slow-ok)) (and-intro (eq-eqb _ _ (s .pages-long))
-    (and-intro (all-of (pageRule (frames t)) (t .pages) noPageRecord (λ p h. s .page-ok p (rw (s .pages-long) at h)))
-    (and-intro (below-of (frames t) (λ f. leb (uses f (t .pages)) 1) (λ f h. le-leb _ _ (s .once f h)))
-    (and-intro (and-intro (eq-eqb _ _ (s .register-long))
-    (below-of 254 (λ f. eqb (getD (t .register) f noHolder) (entryOf (searched t f))) (λ f h. eq-eqb _ _ (s .register-ok f h))))
-    (and-intro (eq-eqb _ _ (s .marks-long)) (and-intro past
-    (below-of 254 (λ f. not (retiredAt t f) || eqb (uses f (t .pages)) 0) (λ f h. clear f h (retiredAt t f) refl)))))))))
-  where
-    past : all not (drop (frames t) (t .retired)) ≡ true
-    past =
-        all-of not (drop (frames t) (t .retired)) false (λ i h.
-        let near : i < length (t .retired) - frames t = rw (length-drop (frames t) (t .retired)) at h in
-        let m = s .marks-long in
-        rw (getD-drop (frames t) (t .retired) i false) (ap not (s .marks-past (frames t + i) (omega arith) (omega arith))))
+    and-intro (of-sizes (t .shared) (s .sizes)) (and-intro (of-pages (frames t) (t .pages) (s .paged))
+    (and-intro (of-alone (frames t) (holders t) (s .once)) (of-register (frames t) (t .pages) (t .register) (s .right))))
 
-    clear : (f : ℕ) → f < 254 → (b : Bool) → retiredAt t f ≡ b → (not b || eqb (uses f (t .pages)) 0) ≡ true
-    clear f h true e = eq-eqb _ 0 (s .marks-free f h e)
-    clear f h false e = refl
+module _ {t : Tables} (s : Sound t) where
+  -- the frames have numbers of the register
+  pub few-frames : frames t ≤ 254
+  few-frames = omega (arith, s .sizes .fast-ok, s .sizes .slow-ok)
 
--- all pages of sound tables
-pub pages-ruled : (t : Tables) → Sound t → all (pageRule (frames t)) (t .pages) ≡ true
-pages-ruled t s = all-of (pageRule (frames t)) (t .pages) noPageRecord (λ p h. s .page-ok p (rw (s .pages-long) at h))
+  -- a retired frame is in range, and no copy has it
+  pub retired-low : (f : ℕ) → retiredAt t f ≡ true → f < frames t
+  retired-low = out-low (s .right)
+
+  pub retired-bare : (f : ℕ) → retiredAt t f ≡ true → holders t f ≡ 0
+  unfolding holders
+  retired-bare = out-idle (s .right)
 
 -- no number below 254 is a frame under two copies
-pub few-uses : (limit : ℕ) (gs : List Page) → all (pageRule limit) gs ≡ true → ((f : ℕ) → f < limit → uses f gs ≤ 1)
+pub few-uses : (limit : ℕ) (gs : List Page) → all (pageRule limit) gs ≡ true → Once limit gs
     → (f : ℕ) → f < 254 → uses f gs ≤ 1
 few-uses limit gs ok once f h = by (ltb f limit) refl
   where
@@ -287,4 +351,4 @@ few-uses limit gs ok once f h = by (ltb f limit) refl
 
 -- a page that stands, of sound tables
 pub standing-at : (t : Tables) (p : ℕ) → Sound t → p < 64 → absent (pageAt t p) ≡ false → StandingPage (frames t) (pageAt t p)
-standing-at t p s h st = standing (frames t) (pageAt t p) (s .page-ok p h) st
+standing-at t p s h st = standing (frames t) (pageAt t p) (s .paged .page-ok p h) st

@@ -1,27 +1,28 @@
 -- The one pass over the pages and the register answers what the table rules say.
-use Prim.Native.Nat.{ℕ, zero, suc, _+_, _≤_, _<_}
+use Prim.Native.Nat.{ℕ, zero, suc, _+_, _-_, _≤_, _<_}
 use mathlib.Core.Path.{_≡_, refl, sym, ap, _∙_}
-use mathlib.Core.Bool.{Bool, true, false, not, _&&_, _||_, cond}
+use mathlib.Core.Bool.{Bool, true, false, not, _&&_, cond, and-true, and-false, true≢false}
 use mathlib.Core.List.{List, [], _∷_}
 use native.Mathlib.Decide.{ℕ-discrete}
 use native.Mathlib.Omega.{arith}
-use lib.ListN.{length, getD, drop}
+use lib.ListN.{length, getD, drop, length-drop}
+use lib.Seq.{getD-drop}
 use lib.Dec.{leb, ltb, eqb}
-use borrow.Author.Tests.{eqb-true, eq-eqb, ne-eqb, leb-true, le-leb, lt-ltb, ltb-true}
+use borrow.Author.Tests.{leb-true, le-leb, eqb-true, eq-eqb, ne-eqb, lt-ltb, ltb-true, ltb-false, not-true, not-false}
 use Rattle.tables.specs.declared.Copy.{Copy}
 use Rattle.tables.specs.declared.Page.{Page}
 use Rattle.tables.specs.declared.Holder.{Holder}
-use Rattle.tables.specs.Lists.{all, count}
-use Rattle.tables.specs.Model.{noHolder, onFrame, inUse, noPageRecord}
+use Rattle.tables.specs.Lists.{all, count, allBelow}
+use Rattle.tables.specs.Model.{freeEntry, retiredEntry, isRetiredEntry, onFrame, inUse, zeroPage}
 use Rattle.tables.specs.Search.{inCopies, inPages}
-use Rattle.tables.specs.Rules.{uses, pageRule, alone, rightMarks}
-use Rattle.tables.specs.Register.{entry, entryOf, rightRegister}
-use Rattle.tables.specs.PrivatePass.{names, namesAll, scanPages, framesOfAll, taken, noneOn}
-use Rattle.tables.proofs.ListLaws.{and-left, and-right, and-intro, iff-eq, all-at, all-first, all-rest, below-at, below-of, below-same}
-use Rattle.tables.proofs.RuleLaws.{eight, few-uses}
+use Rattle.tables.specs.Rules.{uses, pageRule}
+use Rattle.tables.specs.Register.{entry, entryOf, entryRule, registerRule}
+use Rattle.tables.specs.PrivatePass.{names, entriesAre, scanPages, framesOfAll, isCopyEntry, taken, notRetired, entriesOf, othersOk}
+use Rattle.tables.proofs.ListLaws.{and-left, and-right, and-intro, not-so, iff-eq, all-at, all-of, all-drop, all-first, all-rest, count-at, below-at, below-of}
+use Rattle.tables.proofs.RuleLaws.{eight, Once, RegisterOk, register-of, of-register, right-held, right-out, entry-held, out-low, out-idle, few-uses}
 use Rattle.tables.proofs.HolderLaws.{skip, nobody, free-pages}
 use Rattle.tables.proofs.RegisterLaws.{low-pages, entry-low}
-use Rattle.tables.proofs.SumLaws.{sumBelow, sum-same, sum-equal, taken-sum, uses-sum}
+use Rattle.tables.proofs.SumLaws.{sumBelow, sum-same, sum-le, sum-equal, taken-sum, uses-sum}
 
 -- ---- the entries of copies name them just where each frame's entry is that of its only holder
 
@@ -29,12 +30,12 @@ use Rattle.tables.proofs.SumLaws.{sumBelow, sum-same, sum-equal, taken-
 -- at most one of all is on it, and that one is what the search finds.
 record Told (r : List ℕ) (p k : ℕ) (cs : List Copy) (n : ℕ) (h : Holder) (f : ℕ) : Type 0 where
   once : count (onFrame f) cs + n ≤ 1
-  tells : 1 ≤ count (onFrame f) cs + n → getD r f noHolder ≡ entryOf (inCopies f p k cs h)
+  tells : 1 ≤ count (onFrame f) cs + n → getD r f freeEntry ≡ entryOf (inCopies f p k cs h)
 
 -- the same of pages, numbered from p on
 record Points (r : List ℕ) (p : ℕ) (gs : List Page) (f : ℕ) : Type 0 where
   once : uses f gs ≤ 1
-  tells : 1 ≤ uses f gs → getD r f noHolder ≡ entryOf (inPages f p gs)
+  tells : 1 ≤ uses f gs → getD r f freeEntry ≡ entryOf (inPages f p gs)
 
 none : (m : ℕ) → (1 ≤ m → ⊥) → m ≡ 0
 none zero h = refl
@@ -44,22 +45,22 @@ none (suc m) h = absurd (h (omega arith))
 
 module _ (limit : ℕ) (r : List ℕ) (f : ℕ) (small : f < 254) where
   -- Entries that name copies of page p, numbered from k on, are no lower than that of the first of them: so they do not name two on one frame.
-  told : (p k : ℕ) (cs : List Copy) (n : ℕ) (h : Holder) → namesAll r p k cs ≡ true → k + length cs ≤ 8
-      → n ≤ 1 → (1 ≤ n → getD r f noHolder ≡ entryOf h) → (1 ≤ n → entry (p + 1) 0 ≤ getD r f noHolder)
-      → Told r p k cs n h f × (1 ≤ count (onFrame f) cs + n → entry p k ≤ getD r f noHolder)
-  unfolding namesAll count inCopies
+  told : (p k : ℕ) (cs : List Copy) (n : ℕ) (h : Holder) → entriesAre r p k cs ≡ true → k + length cs ≤ 8
+      → n ≤ 1 → (1 ≤ n → getD r f freeEntry ≡ entryOf h) → (1 ≤ n → entry (p + 1) 0 ≤ getD r f freeEntry)
+      → Told r p k cs n h f × (1 ≤ count (onFrame f) cs + n → entry p k ≤ getD r f freeEntry)
+  unfolding entriesAre count inCopies
   told p k [] n h e few one tells least =
       (record { once = omega arith; tells = λ z. tells (omega arith) }, λ z. let l = least (omega arith) in omega arith)
   told p k (c ∷ cs) n h e few one tells least =
       by (onFrame f c) refl (told p (k + 1) cs n h (and-right (names r (c .frame) (entry p k)) _ e) (omega arith) one tells least)
     where
-      own : onFrame f c ≡ true → getD r f noHolder ≡ entry p k
+      own : onFrame f c ≡ true → getD r f freeEntry ≡ entry p k
       own q =
           let s : c .frame ≡ f = eqb-true (c .frame) f q in
-          eqb-true (getD r f noHolder) (entry p k) (rw (s, lt-ltb f 254 small) at (and-left (names r (c .frame) (entry p k)) _ e))
+          eqb-true (getD r f freeEntry) (entry p k) (rw (s, lt-ltb f 254 small) at (and-left (names r (c .frame) (entry p k)) _ e))
 
-      by : (b : Bool) → onFrame f c ≡ b → Told r p (k + 1) cs n h f × (1 ≤ count (onFrame f) cs + n → entry p (k + 1) ≤ getD r f noHolder)
-          → Told r p k (c ∷ cs) n h f × (1 ≤ count (onFrame f) (c ∷ cs) + n → entry p k ≤ getD r f noHolder)
+      by : (b : Bool) → onFrame f c ≡ b → Told r p (k + 1) cs n h f × (1 ≤ count (onFrame f) cs + n → entry p (k + 1) ≤ getD r f freeEntry)
+          → Told r p k (c ∷ cs) n h f × (1 ≤ count (onFrame f) (c ∷ cs) + n → entry p k ≤ getD r f freeEntry)
       by true q w =
           let z : count (onFrame f) cs + n ≡ 0 =
           none (count (onFrame f) cs + n) (λ s. let a = w .1 s in let b = own q in omega arith) in
@@ -69,12 +70,12 @@ module _ (limit : ℕ) (r : List ℕ) (f : ℕ) (small : f < 254) where
         λ s. let a = w .1 (let a = rw q at s in omega arith) in omega arith,
       )
 
-  pointed : (p : ℕ) (gs : List Page) → scanPages limit r p gs ≡ true → Points r p gs f × (1 ≤ uses f gs → entry p 0 ≤ getD r f noHolder)
+  pointed : (p : ℕ) (gs : List Page) → scanPages limit r p gs ≡ true → Points r p gs f × (1 ≤ uses f gs → entry p 0 ≤ getD r f freeEntry)
   unfolding scanPages inPages uses
   pointed p [] e = (record { once = omega arith; tells = λ z. absurd (omega arith) }, λ z. absurd (omega arith))
   pointed p (g ∷ gs) e =
-      let here = and-left (pageRule limit g && namesAll r p 0 (inUse g)) _ e in
-      let rest = pointed (p + 1) gs (and-right (pageRule limit g && namesAll r p 0 (inUse g)) _ e) in
+      let here = and-left (pageRule limit g && entriesAre r p 0 (inUse g)) _ e in
+      let rest = pointed (p + 1) gs (and-right (pageRule limit g && entriesAre r p 0 (inUse g)) _ e) in
       let few = eight limit g (and-left (pageRule limit g) _ here) in
       let w = told p 0 (inUse g) (uses f gs) (inPages f (p + 1) gs) (and-right (pageRule limit g) _ here) (omega arith) (rest .0 .once) (rest .0 .tells) (rest .1) in
       (record { once = w .0 .once; tells = w .0 .tells }, w .1)
@@ -83,24 +84,24 @@ scanned-ok : (limit : ℕ) (r : List ℕ) (p : ℕ) (gs : List Page) → scanPag
 unfolding scanPages all
 scanned-ok limit r p [] e = refl
 scanned-ok limit r p (g ∷ gs) e =
-    let here = and-left (pageRule limit g && namesAll r p 0 (inUse g)) _ e in
-    and-intro (and-left (pageRule limit g) _ here) (scanned-ok limit r (p + 1) gs (and-right (pageRule limit g && namesAll r p 0 (inUse g)) _ e))
+    let here = and-left (pageRule limit g && entriesAre r p 0 (inUse g)) _ e in
+    and-intro (and-left (pageRule limit g) _ here) (scanned-ok limit r (p + 1) gs (and-right (pageRule limit g && entriesAre r p 0 (inUse g)) _ e))
 
 -- ---- and back
 
 module _ (limit : ℕ) (r : List ℕ) where
-  names-of : (p k : ℕ) (cs : List Copy) (n : ℕ → ℕ) (h : ℕ → Holder) → ((f : ℕ) → f < 254 → Told r p k cs (n f) (h f) f) → namesAll r p k cs ≡ true
-  unfolding namesAll inCopies count
+  names-of : (p k : ℕ) (cs : List Copy) (n : ℕ → ℕ) (h : ℕ → Holder) → ((f : ℕ) → f < 254 → Told r p k cs (n f) (h f) f) → entriesAre r p k cs ≡ true
+  unfolding entriesAre inCopies count
   names-of p k [] n h tells = refl
   names-of p k (c ∷ cs) n h tells = and-intro (by (ltb (c .frame) 254) refl) (names-of p (k + 1) cs n h (λ f l. tail f (onFrame f c) refl (tells f l)))
     where
       own : onFrame (c .frame) c ≡ true
       own = eq-eqb (c .frame) (c .frame) refl
 
-      by : (b : Bool) → ltb (c .frame) 254 ≡ b → cond b (eqb (getD r (c .frame) noHolder) (entry p k)) true ≡ true
+      by : (b : Bool) → ltb (c .frame) 254 ≡ b → cond b (eqb (getD r (c .frame) freeEntry) (entry p k)) true ≡ true
       by true e =
           let t = tells (c .frame) (ltb-true (c .frame) 254 e) .tells (rw own (omega arith)) in
-          eq-eqb (getD r (c .frame) noHolder) (entry p k) (rw own at t)
+          eq-eqb (getD r (c .frame) freeEntry) (entry p k) (rw own at t)
       by false e = refl
 
       tail : (f : ℕ) (b : Bool) → onFrame f c ≡ b → Told r p k (c ∷ cs) (n f) (h f) f → Told r p (k + 1) cs (n f) (h f) f
@@ -130,25 +131,44 @@ module _ (limit : ℕ) (r : List ℕ) where
                 t .tells (omega arith) ∙ ap entryOf (skip f p 0 (inUse g) (inPages f (p + 1) gs) (omega arith));
           }
 
+-- ---- every entry is that of a copy, of a free frame or of a retired one
+
+three-numbers : (r : List ℕ) → (taken r + entriesOf freeEntry r) + entriesOf retiredEntry r ≡ length r
+unfolding count
+three-numbers [] = refl
+three-numbers (e ∷ r) = by (eqb e freeEntry) refl (eqb e retiredEntry) refl (three-numbers r)
+  where
+    by : (a : Bool) → eqb e freeEntry ≡ a → (b : Bool) → eqb e retiredEntry ≡ b
+        → (taken r + entriesOf freeEntry r) + entriesOf retiredEntry r ≡ length r
+        → ((cond (not a && not b) 1 0 + taken r) + (cond a 1 0 + entriesOf freeEntry r)) + (cond b 1 0 + entriesOf retiredEntry r) ≡ suc (length r)
+    by true p true q k = let x = eqb-true e freeEntry p in let y = eqb-true e retiredEntry q in absurd (omega arith)
+    by true p false q k = omega arith
+    by false p true q k = omega arith
+    by false p false q k = omega arith
+
+-- where none is that of a retired frame
+none-retired : (r : List ℕ) → entriesOf retiredEntry r ≡ 0 → all notRetired r ≡ true
+none-retired r z =
+    all-of notRetired r freeEntry (λ i l.
+    ap not (not-so (isRetiredEntry (getD r i freeEntry)) (λ out. let k = count-at isRetiredEntry r i freeEntry l out in omega arith)))
+
 -- ---- the rules
 
 module _ (limit : ℕ) (low : limit ≤ 254) (gs : List Page) (r : List ℕ) (many : length gs ≡ 64) (long : length r ≡ 254) where
+  -- no frame under two of the pages' copies
+  abbrev at-most-one : ℕ → Bool
+  at-most-one f = leb (uses f gs) 1
+
   -- 1 where the entry of frame f names a copy
   abbrev named-at : ℕ → ℕ
-  named-at f = cond (not (eqb (getD r f noHolder) noHolder)) 1 0
+  named-at f = cond (isCopyEntry (getD r f freeEntry)) 1 0
 
-  -- where it is that of the frame's holder, this is how many copies are on it
-  held-at : all (pageRule limit) gs ≡ true → (f : ℕ) → uses f gs ≤ 1 → getD r f noHolder ≡ entryOf (inPages f 0 gs) → uses f gs ≡ named-at f
-  held-at ok f once e = by (ℕ-discrete (uses f gs) 0)
-    where
-      by : Dec (uses f gs ≡ 0) → uses f gs ≡ named-at f
-      by (yes z) =
-          let q : getD r f noHolder ≡ noHolder = e ∙ ap entryOf (nobody f 0 gs z) in
-          rw (q, z)
-      by (no d) =
-          let few = low-pages f 0 64 gs (omega arith) (λ i l. eight limit (getD gs i noPageRecord) (all-at (pageRule limit) gs i noPageRecord ok l)) in
-          let l = entry-low (inPages f 0 gs) few (free-pages f 0 gs ∙ ne-eqb (uses f gs) 0 d) in
-          rw (ne-eqb (getD r f noHolder) noHolder (λ z. omega arith)) (omega (arith, d))
+  -- so it is where a copy is on the frame and the entry is its
+  taken-at : all (pageRule limit) gs ≡ true → (f : ℕ) → 1 ≤ uses f gs → getD r f freeEntry ≡ entryOf (inPages f 0 gs) → isCopyEntry (getD r f freeEntry) ≡ true
+  taken-at ok f some e =
+      let few = low-pages f 0 64 gs (omega arith) (λ i l. eight limit (getD gs i zeroPage) (all-at (pageRule limit) gs i zeroPage ok l)) in
+      let l = entry-low (inPages f 0 gs) few (free-pages f 0 gs ∙ ne-eqb (uses f gs) 0 (λ z. omega arith)) in
+      rw (ne-eqb (getD r f freeEntry) freeEntry (λ z. omega arith), ne-eqb (getD r f freeEntry) retiredEntry (λ z. omega arith))
 
   sums : all (pageRule limit) gs ≡ true → framesOfAll gs ≡ sumBelow 254 (λ f. uses f gs)
   sums ok = sym (uses-sum limit low gs ok)
@@ -156,97 +176,138 @@ module _ (limit : ℕ) (low : limit ≤ 254) (gs : List Page) (r : List ℕ) (ma
   entries : taken r ≡ sumBelow 254 named-at
   entries = taken-sum r ∙ ap (λ (n : ℕ). sumBelow n named-at) long
 
-  -- as many entries name copies as copies are on frames: so a frame that nobody is on has none
-  free-entry : (ok : all (pageRule limit) gs ≡ true) → ((f : ℕ) → f < 254 → Points r 0 gs f) → framesOfAll gs ≡ taken r
-      → (f : ℕ) → f < 254 → uses f gs ≡ 0 → getD r f noHolder ≡ noHolder
-  free-entry ok points same f l z = by (eqb (getD r f noHolder) noHolder) refl (sym z ∙ sum-equal 254 (λ f. uses f gs) named-at le (sym (sums ok) ∙ same ∙ entries) f l)
-    where
-      le : (f : ℕ) → f < 254 → uses f gs ≤ named-at f
-      le f l = go (ℕ-discrete (uses f gs) 0)
-        where
-          go : Dec (uses f gs ≡ 0) → uses f gs ≤ named-at f
-          go (yes z) = omega arith
-          go (no d) = let e = held-at ok f (points f l .once) (points f l .tells (omega (arith, d))) in omega arith
+  -- ---- from the pass
+  module _ (scanned : scanPages limit r 0 gs ≡ true) where
+    ok : all (pageRule limit) gs ≡ true
+    ok = scanned-ok limit r 0 gs scanned
 
-      by : (b : Bool) → eqb (getD r f noHolder) noHolder ≡ b → _≡_ {A = ℕ} 0 (cond (not b) 1 0) → getD r f noHolder ≡ noHolder
-      by true e q = eqb-true (getD r f noHolder) noHolder e
-      by false e q = absurd (omega arith)
+    points : (f : ℕ) → f < 254 → Points r 0 gs f
+    points f l = pointed limit r f l 0 gs scanned .0
 
-  -- the rules on frames and on the register, frame by frame
-  ruled : (all (pageRule limit) gs && (alone limit gs && rightRegister gs r)) ≡ true
-      → ((f : ℕ) → f < 254 → uses f gs ≤ 1) × ((f : ℕ) → f < 254 → getD r f noHolder ≡ entryOf (inPages f 0 gs))
-  unfolding alone rightRegister
-  ruled e =
-      let ok = and-left (all (pageRule limit) gs) _ e in
-      let once = and-left (alone limit gs) _ (and-right (all (pageRule limit) gs) _ e) in
-      let right = and-right (alone limit gs) _ (and-right (all (pageRule limit) gs) _ e) in (
-        few-uses limit gs ok (λ f l. leb-true (uses f gs) 1 (below-at limit (λ f. leb (uses f gs) 1) f once l)),
-        λ f l. eqb-true _ _ (below-at 254 (λ f. eqb (getD r f noHolder) (entryOf (inPages f 0 gs))) f (and-right (eqb (length r) 254) _ right) l),
-      )
+    few-named : (f : ℕ) → f < 254 → uses f gs ≤ named-at f
+    few-named f l = go (ℕ-discrete (uses f gs) 0)
+      where
+        go : Dec (uses f gs ≡ 0) → uses f gs ≤ named-at f
+        go (yes z) = omega arith
+        go (no d) =
+            let one = points f l .once in
+            rw (taken-at ok f (omega (arith, d)) (points f l .tells (omega (arith, d)))) (omega arith)
 
-  scan-rules : (scanPages limit r 0 gs && eqb (framesOfAll gs) (taken r)) ≡ (all (pageRule limit) gs && (alone limit gs && rightRegister gs r))
-  unfolding alone rightRegister
+    -- Copies are on no more frames than entries name copies: so where these frames and the free ones are all, no frame is retired.
+    others-told : othersOk limit (framesOfAll gs) r ≡ (eqb (framesOfAll gs) (taken r) && all notRetired (drop limit r))
+    others-told = by (eqb (framesOfAll gs + entriesOf freeEntry r) 254) refl
+      where
+        few : framesOfAll gs ≤ taken r
+        few = rw (sums ok, entries) (sum-le 254 (λ f. uses f gs) named-at few-named)
+
+        all-three : (taken r + entriesOf freeEntry r) + entriesOf retiredEntry r ≡ 254
+        all-three = three-numbers r ∙ long
+
+        by : (b : Bool) → eqb (framesOfAll gs + entriesOf freeEntry r) 254 ≡ b
+            → cond b true (eqb (framesOfAll gs + entriesOf freeEntry r + entriesOf retiredEntry r) 254 && all notRetired (drop limit r))
+            ≡ (eqb (framesOfAll gs) (taken r) && all notRetired (drop limit r))
+        by true e =
+            let q = eqb-true (framesOfAll gs + entriesOf freeEntry r) 254 e in
+            sym
+            (and-intro (eq-eqb (framesOfAll gs) (taken r) (omega (arith, few, all-three)))
+            (all-drop notRetired limit r (none-retired r (omega (arith, few, all-three)))))
+        by false e =
+            ap (λ (b : Bool). b && all notRetired (drop limit r))
+            (iff-eq (eqb (framesOfAll gs + entriesOf freeEntry r + entriesOf retiredEntry r) 254) (eqb (framesOfAll gs) (taken r))
+            (λ z.
+            let q = eqb-true (framesOfAll gs + entriesOf freeEntry r + entriesOf retiredEntry r) 254 z in
+            eq-eqb (framesOfAll gs) (taken r) (omega (arith, all-three)))
+            (λ z.
+            let q = eqb-true (framesOfAll gs) (taken r) z in
+            eq-eqb (framesOfAll gs + entriesOf freeEntry r + entriesOf retiredEntry r) 254 (omega (arith, all-three))))
+
+  module _ (scanned : scanPages limit r 0 gs ≡ true) (same : framesOfAll gs ≡ taken r) (kept : all notRetired (drop limit r) ≡ true) where
+    -- as many entries name copies as copies are on frames: so that of a frame that nobody is on names none
+    free-entry : (f : ℕ) → f < 254 → uses f gs ≡ 0 → isCopyEntry (getD r f freeEntry) ≡ false
+    free-entry f l z =
+        by (isCopyEntry (getD r f freeEntry))
+        (sym z ∙ sum-equal 254 (λ f. uses f gs) named-at (few-named scanned) (sym (sums (ok scanned)) ∙ same ∙ entries) f l)
+      where
+        by : (b : Bool) → _≡_ {A = ℕ} 0 (cond b 1 0) → b ≡ false
+        by true q = absurd (omega arith)
+        by false q = refl
+
+    -- no frame past the last one is retired
+    out-in : (f : ℕ) → f < 254 → isRetiredEntry (getD r f freeEntry) ≡ true → f < limit
+    out-in f l out = by (ltb f limit) refl
+      where
+        by : (b : Bool) → ltb f limit ≡ b → f < limit
+        by true e = ltb-true f limit e
+        by false e =
+            let past = ltb-false f limit e in
+            let at : limit + (f - limit) ≡ f = omega arith in
+            let in-rest : f - limit < length (drop limit r) = rw (length-drop limit r, long) (omega arith) in
+            let stays = all-at notRetired (drop limit r) (f - limit) freeEntry kept in-rest in
+            absurd (true≢false (sym out ∙ not-true (isRetiredEntry (getD r f freeEntry)) (rw (getD-drop limit r (f - limit) freeEntry, at) at stays)))
+
+    right-at : (f : ℕ) → f < 254 → entryRule limit f (inPages f 0 gs) (getD r f freeEntry) ≡ true
+    right-at f l = go (ℕ-discrete (uses f gs) 0)
+      where
+        go : Dec (uses f gs ≡ 0) → entryRule limit f (inPages f 0 gs) (getD r f freeEntry) ≡ true
+        go (yes z) = by (isRetiredEntry (getD r f freeEntry)) refl (free-entry f l z)
+          where
+            by : (b : Bool) → isRetiredEntry (getD r f freeEntry) ≡ b → (not (eqb (getD r f freeEntry) freeEntry) && not b) ≡ false
+                → entryRule limit f (inPages f 0 gs) (getD r f freeEntry) ≡ true
+            by true e q = right-out limit f gs (getD r f freeEntry) e (out-in f l e) z
+            by false e q =
+                right-held limit f (inPages f 0 gs) (getD r f freeEntry) e
+                (eqb-true (getD r f freeEntry) freeEntry (not-false _ (sym (and-true _) ∙ q)) ∙ ap entryOf (sym (nobody f 0 gs z)))
+        go (no d) =
+            let e = points scanned f l .tells (omega (arith, d)) in
+            let is = taken-at (ok scanned) f (omega (arith, d)) e in
+            right-held limit f (inPages f 0 gs) (getD r f freeEntry) (not-true _ (and-right (not (eqb (getD r f freeEntry) freeEntry)) _ is)) e
+
+    passes : (all (pageRule limit) gs && (allBelow limit at-most-one && registerRule limit gs r)) ≡ true
+    passes =
+        and-intro (ok scanned)
+        (and-intro (below-of limit at-most-one (λ f l. le-leb _ _ (points scanned f (omega arith) .once)))
+        (of-register limit gs r (record { register-long = long; entry-ok = right-at })))
+
+  -- ---- from the rules
+  module _ (ok : all (pageRule limit) gs ≡ true) (once : Once limit gs) (right : RegisterOk limit gs r) where
+    -- an entry is that of a copy just where one is on the frame
+    held-at : (f : ℕ) → f < 254 → 1 ≤ uses f gs → getD r f freeEntry ≡ entryOf (inPages f 0 gs)
+    held-at f l some = entry-held right f l (not-so (isRetiredEntry (getD r f freeEntry)) (λ out. let z = out-idle right f out in omega arith))
+
+    uses-named : (f : ℕ) → f < 254 → uses f gs ≡ named-at f
+    uses-named f l = go (ℕ-discrete (uses f gs) 0)
+      where
+        go : Dec (uses f gs ≡ 0) → uses f gs ≡ named-at f
+        go (no d) =
+            let one = few-uses limit gs ok once f l in
+            rw (taken-at ok f (omega (arith, d)) (held-at f l (omega (arith, d)))) (omega (arith, d))
+        go (yes z) = by (isRetiredEntry (getD r f freeEntry)) refl
+          where
+            by : (b : Bool) → isRetiredEntry (getD r f freeEntry) ≡ b → uses f gs ≡ cond (not (eqb (getD r f freeEntry) freeEntry) && not b) 1 0
+            by true e = rw (and-false (not (eqb (getD r f freeEntry) freeEntry))) z
+            by false e = rw (entry-held right f l e, nobody f 0 gs z) z
+
+    scanned-all : ((scanPages limit r 0 gs) && (eqb (framesOfAll gs) (taken r) && all notRetired (drop limit r))) ≡ true
+    scanned-all =
+        and-intro (scan-of limit r 0 gs ok (λ f l. record { once = few-uses limit gs ok once f l; tells = held-at f l }))
+        (and-intro (eq-eqb (framesOfAll gs) (taken r) (sums ok ∙ sum-same 254 (λ f. uses f gs) named-at uses-named ∙ sym entries))
+        (all-of notRetired (drop limit r) freeEntry (λ i l.
+        rw (getD-drop limit r i freeEntry) (ap not (not-so (isRetiredEntry (getD r (limit + i) freeEntry)) (λ out. let k = out-low right (limit + i) out in omega arith))))))
+
+  -- ---- so both say the same
+  pub scan-rules : (scanPages limit r 0 gs && othersOk limit (framesOfAll gs) r)
+      ≡ (all (pageRule limit) gs && (allBelow limit at-most-one && registerRule limit gs r))
   scan-rules =
-      iff-eq (scanPages limit r 0 gs && eqb (framesOfAll gs) (taken r)) (all (pageRule limit) gs && (alone limit gs && rightRegister gs r))
+      iff-eq _ _
       (λ e.
       let scanned = and-left (scanPages limit r 0 gs) _ e in
-      let same = eqb-true (framesOfAll gs) (taken r) (and-right (scanPages limit r 0 gs) _ e) in
-      let ok = scanned-ok limit r 0 gs scanned in
-      let points : (f : ℕ) → f < 254 → Points r 0 gs f = λ f l. pointed limit r f l 0 gs scanned .0 in
-      and-intro ok
-      (and-intro (below-of limit (λ f. leb (uses f gs) 1) (λ f l. le-leb (uses f gs) 1 (points f (omega arith) .once)))
-      (and-intro (eq-eqb (length r) 254 long)
-      (below-of 254 (λ f. eqb (getD r f noHolder) (entryOf (inPages f 0 gs)))
-      (λ f l. eq-eqb (getD r f noHolder) (entryOf (inPages f 0 gs)) (told-at ok points same f l))))))
+      let e₁ = sym (others-told scanned) ∙ and-right (scanPages limit r 0 gs) _ e in
+      passes scanned (eqb-true (framesOfAll gs) (taken r) (and-left (eqb (framesOfAll gs) (taken r)) _ e₁))
+      (and-right (eqb (framesOfAll gs) (taken r)) _ e₁))
       (λ e.
-      let ok = and-left (all (pageRule limit) gs) _ e in
-      let w = ruled e in
-      and-intro (scan-of limit r 0 gs ok (λ f l. record { once = w .0 f l; tells = λ z. w .1 f l }))
-      (eq-eqb (framesOfAll gs) (taken r)
-      (sums ok ∙ sum-same 254 (λ f. uses f gs) named-at (λ f l. held-at ok f (w .0 f l) (w .1 f l)) ∙ sym entries)))
-    where
-      told-at : all (pageRule limit) gs ≡ true → ((f : ℕ) → f < 254 → Points r 0 gs f) → framesOfAll gs ≡ taken r
-          → (f : ℕ) → f < 254 → getD r f noHolder ≡ entryOf (inPages f 0 gs)
-      told-at ok points same f l = go (ℕ-discrete (uses f gs) 0)
-        where
-          go : Dec (uses f gs ≡ 0) → getD r f noHolder ≡ entryOf (inPages f 0 gs)
-          go (yes z) = free-entry ok points same f l z ∙ ap entryOf (sym (nobody f 0 gs z))
-          go (no d) = points f l .tells (omega (arith, d))
-
-  -- ---- the marks of retired frames
-  module _ (marks : List Bool) (wide : length marks ≡ 254) where
-    -- a right register tells of each whether a copy is on the frame
-    marks-same : (all (pageRule limit) gs && (alone limit gs && rightRegister gs r)) ≡ true
-        → (all not (drop limit marks) && noneOn r marks) ≡ rightMarks limit gs marks
-    unfolding rightMarks
-    marks-same e =
-        rw (eq-eqb (length marks) 254 wide)
-        (ap (λ (b : Bool). all not (drop limit marks) && b)
-        (below-same 254 (λ f. not (getD marks f false) || eqb (getD r f noHolder) noHolder) (λ f. not (getD marks f false) || eqb (uses f gs) 0)
-        (λ f l. ap (λ (b : Bool). not (getD marks f false) || b) (free-told f l))))
-      where
-        free-told : (f : ℕ) → f < 254 → eqb (getD r f noHolder) noHolder ≡ eqb (uses f gs) 0
-        free-told f l =
-            let w = ruled e in
-            by (eqb (getD r f noHolder) noHolder) (held-at (and-left (all (pageRule limit) gs) _ e) f (w .0 f l) (w .1 f l))
-          where
-            by : (b : Bool) → uses f gs ≡ cond (not b) 1 0 → b ≡ eqb (uses f gs) 0
-            by true q = rw q
-            by false q = rw q
-
-    regroup : (a b c d : Bool) → (a && (b && (c && d))) ≡ ((a && (b && c)) && d)
-    regroup true true c d = refl
-    regroup true false c d = refl
-    regroup false b c d = refl
-
-    pub scan-rules-marked : ((scanPages limit r 0 gs && eqb (framesOfAll gs) (taken r)) && (all not (drop limit marks) && noneOn r marks))
-        ≡ (all (pageRule limit) gs && (alone limit gs && (rightRegister gs r && rightMarks limit gs marks)))
-    scan-rules-marked =
-        ap (λ (b : Bool). b && (all not (drop limit marks) && noneOn r marks)) scan-rules
-        ∙ by (all (pageRule limit) gs && (alone limit gs && rightRegister gs r)) refl
-        ∙ sym (regroup (all (pageRule limit) gs) (alone limit gs) (rightRegister gs r) (rightMarks limit gs marks))
-      where
-        by : (b : Bool) → (all (pageRule limit) gs && (alone limit gs && rightRegister gs r)) ≡ b
-            → (b && (all not (drop limit marks) && noneOn r marks)) ≡ (b && rightMarks limit gs marks)
-        by true e = marks-same e
-        by false e = refl
+      let e₁ = and-right (all (pageRule limit) gs) _ e in
+      let e₂ = scanned-all (and-left (all (pageRule limit) gs) _ e)
+      (λ f l. leb-true (uses f gs) 1 (below-at limit at-most-one f (and-left (allBelow limit at-most-one) _ e₁) l))
+      (register-of limit gs r (and-right (allBelow limit at-most-one) _ e₁)) in
+      let scanned = and-left (scanPages limit r 0 gs) _ e₂ in
+      and-intro scanned (others-told scanned ∙ and-right (scanPages limit r 0 gs) _ e₂))

@@ -1,7 +1,7 @@
 -- Sums over the frames: how many entries of the register name a copy, and on how many frames copies are.
 use Prim.Native.Nat.{ℕ, zero, suc, _+_, _≤_, _<_}
 use mathlib.Core.Path.{_≡_, refl, sym, ap, _∙_}
-use mathlib.Core.Bool.{Bool, true, false, not, cond}
+use mathlib.Core.Bool.{Bool, true, false, cond}
 use mathlib.Core.List.{List, [], _∷_}
 use mathlib.Core.Logic.{⊎-elim}
 use native.Mathlib.Decide.{ℕ-discrete}
@@ -14,9 +14,9 @@ use borrow.Author.Tests.{eqb-true, eq-eqb, ne-eqb, lt-ltb, le-ltb, ltb-true, ltb
 use Rattle.tables.specs.declared.Copy.{Copy}
 use Rattle.tables.specs.declared.Page.{Page}
 use Rattle.tables.specs.Lists.{all, count}
-use Rattle.tables.specs.Model.{noHolder, onFrame, isNull, inUse, absent, noCopyEntry}
+use Rattle.tables.specs.Model.{freeEntry, onFrame, isNull, inUse, absent, zeroCopy}
 use Rattle.tables.specs.Rules.{uses, pageRule}
-use Rattle.tables.specs.PrivatePass.{framesOf, framesOfAll, taken}
+use Rattle.tables.specs.PrivatePass.{framesOf, framesOfAll, isCopyEntry, taken}
 use Rattle.tables.proofs.ListLaws.{all-first, all-rest, count-none, count-all}
 use Rattle.tables.proofs.RuleLaws.{StandingPage, standing, length-in-use, copy-at}
 use Rattle.tables.proofs.PageChanges.{none-null}
@@ -32,7 +32,7 @@ unfolding sumBelow
 sum-same zero a b e = refl
 sum-same (suc n) a b e = let x = e n (omega arith) in let y = sum-same n a b (λ i l. e i (omega arith)) in omega arith
 
-sum-le : (n : ℕ) (a b : ℕ → ℕ) → ((i : ℕ) → i < n → a i ≤ b i) → sumBelow n a ≤ sumBelow n b
+pub sum-le : (n : ℕ) (a b : ℕ → ℕ) → ((i : ℕ) → i < n → a i ≤ b i) → sumBelow n a ≤ sumBelow n b
 unfolding sumBelow
 sum-le zero a b e = omega arith
 sum-le (suc n) a b e = let x = e n (omega arith) in let y = sum-le n a b (λ i l. e i (omega arith)) in omega arith
@@ -71,8 +71,8 @@ unfolding count sumBelow
 count-sum g [] d = refl
 count-sum g (x ∷ xs) d = ap (λ (k : ℕ). cond (g x) 1 0 + k) (count-sum g xs d) ∙ sym (sum-first (length xs) (λ i. cond (g (getD (x ∷ xs) i d)) 1 0))
 
-pub taken-sum : (r : List ℕ) → taken r ≡ sumBelow (length r) (λ f. cond (not (eqb (getD r f noHolder) noHolder)) 1 0)
-taken-sum r = count-sum (λ e. not (eqb e noHolder)) r noHolder
+pub taken-sum : (r : List ℕ) → taken r ≡ sumBelow (length r) (λ f. cond (isCopyEntry (getD r f freeEntry)) 1 0)
+taken-sum r = count-sum isCopyEntry r freeEntry
 
 -- ---- copies by their frames
 
@@ -103,19 +103,19 @@ copies-sum (c ∷ cs) =
 
 -- of a page that keeps its rule
 module _ (limit : ℕ) (low : limit ≤ 254) (g : Page) (ok : pageRule limit g ≡ true) where
-  standing-placed : (s : StandingPage limit g) (b : Bool) → isNull (getD (g .copies) 0 noCopyEntry) ≡ b → count placed (inUse g) ≡ cond b 0 (g .n)
+  standing-placed : (s : StandingPage limit g) (b : Bool) → isNull (getD (g .copies) 0 zeroCopy) ≡ b → count placed (inUse g) ≡ cond b 0 (g .n)
   standing-placed s true e =
       let one : g .n ≡ 1 = copy-at s 0 (s .some) .lone e in
-      count-none placed (inUse g) noCopyEntry (λ k l.
+      count-none placed (inUse g) zeroCopy (λ k l.
       let z : k ≡ 0 = let m = length-in-use s in omega arith in
-      let first : getD (inUse g) k noCopyEntry ≡ getD (g .copies) 0 noCopyEntry = rw z (getD-take (g .n) (g .copies) 0 noCopyEntry (s .some)) in
-      rw (first, eqb-true (getD (g .copies) 0 noCopyEntry .frame) 255 e))
+      let first : getD (inUse g) k zeroCopy ≡ getD (g .copies) 0 zeroCopy = rw z (getD-take (g .n) (g .copies) 0 zeroCopy (s .some)) in
+      rw (first, eqb-true (getD (g .copies) 0 zeroCopy .frame) 255 e))
   standing-placed s false e =
-      count-all placed (inUse g) noCopyEntry (λ k l.
+      count-all placed (inUse g) zeroCopy (λ k l.
       let m : k < g .n = rw (length-in-use s) at l in
-      let own : getD (inUse g) k noCopyEntry ≡ getD (g .copies) k noCopyEntry = getD-take (g .n) (g .copies) k noCopyEntry m in
+      let own : getD (inUse g) k zeroCopy ≡ getD (g .copies) k zeroCopy = getD-take (g .n) (g .copies) k zeroCopy m in
       let w = copy-at s k m .placed (none-null s 0 (s .some) e k m) in
-      rw own (lt-ltb (getD (g .copies) k noCopyEntry .frame) 254 (omega arith)))
+      rw own (lt-ltb (getD (g .copies) k zeroCopy .frame) 254 (omega arith)))
       ∙ length-in-use s
 
   page-placed : count placed (inUse g) ≡ framesOf g
@@ -125,8 +125,8 @@ module _ (limit : ℕ) (low : limit ≤ 254) (g : Page) (ok : pageRule limit g �
       by : (b : Bool) → absent g ≡ b → count placed (inUse g) ≡ framesOf g
       by true e =
           let z : g .n ≡ 0 = eqb-true (g .n) 0 e in
-          ap (λ (n : ℕ). count placed (take n (g .copies))) z ∙ rw z (sym (either (isNull (getD (g .copies) 0 noCopyEntry)) 0))
-      by false e = standing-placed (standing limit g ok e) (isNull (getD (g .copies) 0 noCopyEntry)) refl
+          ap (λ (n : ℕ). count placed (take n (g .copies))) z ∙ rw z (sym (either (isNull (getD (g .copies) 0 zeroCopy)) 0))
+      by false e = standing-placed (standing limit g ok e) (isNull (getD (g .copies) 0 zeroCopy)) refl
 
 -- and of all pages
 pub uses-sum : (limit : ℕ) → limit ≤ 254 → (gs : List Page) → all (pageRule limit) gs ≡ true → sumBelow 254 (λ f. uses f gs) ≡ framesOfAll gs

@@ -9,8 +9,8 @@ use Rattle.tables.specs.declared.Page.{Page}
 use Rattle.tables.specs.declared.Tables.{Tables}
 use Rattle.tables.specs.declared.Change.{Change}
 use Rattle.tables.specs.declared.Edit.{Edit}
-use Rattle.tables.specs.declared.Edit.the-variants.{Kept, Created, Deleted, Granted, Staled, Placed, Added, Removed, Marked, Retired}
-use Rattle.tables.specs.Model.{freshCopy, freshPage, noCopyEntry, pageAt}
+use Rattle.tables.specs.declared.Edit.the-variants.{Kept, Created, Deleted, Granted, Staled, Placed, Added, Removed, Marked}
+use Rattle.tables.specs.Model.{nullFrame, retiredEntry, freshCopy, freshPage, withPages, zeroCopy, pageAt}
 use Rattle.tables.specs.Register.{registerAfter}
 
 -- step 1: "the page stands with one null copy; the station is owner with right 2, others 0". The null copy is recent
@@ -18,7 +18,7 @@ unfoldable pub created : ℕ → Page
 created station =
     record {
       rights = set (replicate 16 0) station 2;
-      copies = set (replicate 8 freshCopy) 0 (record { frame = 255; current = false; recent = true });
+      copies = set (replicate 8 freshCopy) 0 (record { frame = nullFrame; current = false; recent = true });
       owner = station;
       n = 1;
     }
@@ -44,7 +44,7 @@ newCopy frame recent = record { frame = frame; current = false; recent = recent 
 abbrev pub withCopy : Page → Copy → Page
 withCopy g c = cond (ltb (g .n) 8) (withCopies g (g .n + 1) (set (g .copies) (g .n) c)) g
 
--- "a deleted one closes the gap": the entries after it move down, and the last one is fresh
+-- "a deleted one closes the gap": the copy entries after it move down, and the last one is fresh
 unfoldable pub closeGap : List Copy → ℕ → List Copy
 closeGap [] k = []
 closeGap (c ∷ cs) zero = cs ++ (freshCopy ∷ [])
@@ -56,48 +56,39 @@ markedCopy c current = record { frame = c .frame; current = current; recent = c 
 
 -- the record of a page after an edit
 unfoldable pub changed : Page → Edit → Page
+-- "accepted, no change", and kinds that change no page
 changed g Kept = g
+-- step 1: "the page stands with one null copy; the station is owner with right 2, others 0"
 changed g (Created station) = created station
+-- step 2: "All copies go": the page is absent
 changed g Deleted = freshPage
+-- step 3: the other station's right is the one named
 changed g (Granted station right) = granted g station right
+-- step 5: "all other copies lose MOST RECENT"
 changed g Staled = withCopies g (g .n) (map staleCopy (g .copies))
+-- step 6, "From a null copy: .. the new copy is recent, the null copy goes": it is alone, so it is copy 0
 changed g (Placed frame) = withCopies g (g .n) (set (g .copies) 0 (newCopy frame true))
+-- step 6: "the new copy is not CURRENT, and MOST RECENT if the source is"
 changed g (Added frame recent) = withCopy g (newCopy frame recent)
+-- step 7, with the gap closed
 changed g (Removed k) = withCopies g (g .n - 1) (closeGap (g .copies) k)
-changed g (Marked k current) = withCopies g (g .n) (set (g .copies) k (markedCopy (getD (g .copies) k noCopyEntry) current))
-changed g (Retired frame) = g
+-- steps 8 and 9: CURRENT set or removed
+changed g (Marked k current) = withCopies g (g .n) (set (g .copies) k (markedCopy (getD (g .copies) k zeroCopy) current))
 
--- document 02, request [5]: the frame that an edit retires; 255 for none
-abbrev pub retiredBy : Edit → ℕ
-retiredBy Kept = 255
-retiredBy (Created station) = 255
-retiredBy Deleted = 255
-retiredBy (Granted station right) = 255
-retiredBy Staled = 255
-retiredBy (Placed frame) = 255
-retiredBy (Added frame recent) = 255
-retiredBy (Removed k) = 255
-retiredBy (Marked k current) = 255
-retiredBy (Retired frame) = frame
+-- a change of the tables: page p gets the record g, and frame f is retired; 255 for none
+abbrev pub changeTo : ℕ → Page → ℕ → Change
+changeTo p g f = record { page = p; becomes = g; retires = f }
 
--- a change of the tables: the record of page p edited, and the frame that is retired
-abbrev pub edited : Tables → ℕ → Edit → Change
-edited t p e = record { page = p; becomes = changed (pageAt t p) e; retires = retiredBy e }
+-- the same with the page's record edited
+abbrev pub edited : Tables → ℕ → Edit → ℕ → Change
+edited t p e f = changeTo p (changed (pageAt t p) e) f
 
--- the tables with g as the record of page p, and the register as that leaves it
-abbrev pub withPage : Tables → ℕ → Page → Tables
-withPage t p g =
-    record {
-      shared = t .shared;
-      pages = set (t .pages) p g;
-      register = cond (ltb p 64) (registerAfter p (pageAt t p) g (t .register)) (t .register);
-      retired = t .retired;
-    }
+-- document 02, request [5]: the tables with frame f retired: its register entry says so, and nothing else changes
+abbrev pub withRetired : Tables → ℕ → Tables
+withRetired t f = withPages t (t .pages) (set (t .register) f retiredEntry)
 
--- document 02, request [5]: the tables with frame f marked as retired; 255 is no frame
-abbrev pub withMark : Tables → ℕ → Tables
-withMark t f = record { shared = t .shared; pages = t .pages; register = t .register; retired = set (t .retired) f true }
-
--- "Each change of the tables takes them and gives back the new ones."
+-- "Each change of the tables takes them and gives back the new ones." Copies come last: a frame that a copy of the page
+-- leaves or takes is not retired by the same change.
 unfoldable pub after : Tables → Change → Tables
-after t change = withMark (withPage t (change .page) (change .becomes)) (change .retires)
+after t change =
+    withPages t (set (t .pages) (change .page) (change .becomes)) (registerAfter (t .pages) change (t .register))

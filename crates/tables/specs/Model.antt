@@ -12,20 +12,46 @@ use Rattle.tables.specs.declared.Made.{Made}
 use Rattle.tables.specs.Numbers.{accepted, tooManyFrames}
 
 -- "P fast frames and S slow frames .. numbered 0 to P+S-1"
-abbrev pub frames : Tables → ℕ
-frames t = t .shared .p + t .shared .s
+abbrev pub frameCount : Shared → ℕ
+frameCount a = a .p + a .s
 
--- "A copy has a frame, or none (a null copy)": 255 stands for none
+abbrev pub frames : Tables → ℕ
+frames t = frameCount (t .shared)
+
+-- "A copy has a frame, or none (a null copy)": 255, which no frame has, stands for none
+abbrev pub nullFrame : ℕ
+nullFrame = 255
+
 abbrev pub isNull : Copy → Bool
-isNull c = eqb (c .frame) 255
+isNull c = eqb (c .frame) nullFrame
 
 -- whether a copy is on frame f; 255 is no frame, and asks for null copies
 abbrev pub onFrame : ℕ → Copy → Bool
 onFrame f c = eqb (c .frame) f
 
--- document 02, request [5]: whether frame f is marked as retired
+-- ---- the register
+
+-- The entry of a free frame (0xFFFF) and, document 02, request [5], that of a retired one (0xF0F0). They differ in
+-- eight bits from each other and in four or more from the entry of any copy, 0 to 511, so that no flip of one or two
+-- bits makes another state of one. 0x3C00 + page, which differs from all of these in four or more, is left for the
+-- frame of the unfinished copy of request [10].
+abbrev pub freeEntry : ℕ
+freeEntry = 65535
+
+abbrev pub retiredEntry : ℕ
+retiredEntry = 61680
+
+-- the entry of frame f; a number past the register is taken as free
+abbrev pub entryAt : Tables → ℕ → ℕ
+entryAt t f = getD (t .register) f freeEntry
+
+-- whether an entry is that of a retired frame
+abbrev pub isRetiredEntry : ℕ → Bool
+isRetiredEntry e = eqb e retiredEntry
+
+-- request [5]: whether frame f is retired
 abbrev pub retiredAt : Tables → ℕ → Bool
-retiredAt t f = getD (t .retired) f false
+retiredAt t f = isRetiredEntry (entryAt t f)
 
 -- "eight copy entries, of which the first n are in use": the page's copies, numbered from 0
 abbrev pub inUse : Page → List Copy
@@ -37,13 +63,9 @@ absent g = eqb (g .n) 0
 
 -- ---- "Fresh: no pages."
 
--- an entry that is not in use
+-- a copy entry that is not in use
 abbrev pub freshCopy : Copy
-freshCopy = record { frame = 255; current = false; recent = false }
-
--- the entry of a frame that nobody is on
-abbrev pub noHolder : ℕ
-noHolder = 65535
+freshCopy = record { frame = nullFrame; current = false; recent = false }
 
 -- an absent page
 unfoldable pub freshPage : Page
@@ -55,7 +77,12 @@ sized p s = record { p = p; s = s }
 
 unfoldable pub freshTables : ℕ → ℕ → Tables
 freshTables p s =
-    record { shared = sized p s; pages = replicate 64 freshPage; register = replicate 254 noHolder; retired = replicate 254 false }
+    record { shared = sized p s; pages = replicate 64 freshPage; register = replicate 254 freeEntry }
+
+-- the tables with other pages and another register, and all else the same; every field is named here, in `freshTables`
+-- and in the tables' bytes (embed) alone
+abbrev pub withPages : Tables → List Page → List ℕ → Tables
+withPages t gs r = record { shared = t .shared; pages = gs; register = r }
 
 -- 19: "fresh with P or S above 127; returns fresh tables with P = S = 0"
 abbrev pub made : ℕ → ℕ → Made
@@ -66,11 +93,11 @@ made p s =
 -- ---- one page of the tables
 
 -- what stands past the end of an array, where no index in range leads
-abbrev pub noCopyEntry : Copy
-noCopyEntry = record { frame = 0; current = false; recent = false }
+abbrev pub zeroCopy : Copy
+zeroCopy = record { frame = 0; current = false; recent = false }
 
-abbrev pub noPageRecord : Page
-noPageRecord = record { rights = []; copies = []; owner = 0; n = 0 }
+abbrev pub zeroPage : Page
+zeroPage = record { rights = []; copies = []; owner = 0; n = 0 }
 
 abbrev pub pageAt : Tables → ℕ → Page
-pageAt t p = getD (t .pages) p noPageRecord
+pageAt t p = getD (t .pages) p zeroPage

@@ -75,8 +75,8 @@ abbrev pub noFrame : ℕ
 noFrame = 17
 
 -- reply buffer below 70 bytes; nothing is written
-abbrev pub shortSlip : ℕ
-shortSlip = 18
+abbrev pub shortBuffer : ℕ
+shortBuffer = 18
 
 -- fresh with P or S above 127; returns fresh tables with P = S = 0
 abbrev pub tooManyFrames : ℕ
@@ -90,7 +90,7 @@ retired = 20
 abbrev pub table : List ℕ
 table =
     cutShort ∷ foreignVersion ∷ unknownKind ∷ wrongLength ∷ brokenTables ∷ misfitStore ∷ outOfRange ∷ pageStands ∷ noPage ∷
-    noRight ∷ nothingCurrent ∷ noCopy ∷ frameHeld ∷ eightCopies ∷ lastRecent ∷ stale ∷ noFrame ∷ shortSlip ∷ retired ∷ []
+    noRight ∷ nothingCurrent ∷ noCopy ∷ frameHeld ∷ eightCopies ∷ lastRecent ∷ stale ∷ noFrame ∷ shortBuffer ∷ retired ∷ []
 
 -- all rows
 abbrev pub rows : List ℕ

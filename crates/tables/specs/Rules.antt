@@ -1,30 +1,37 @@
 -- Document 01, "Table rules", as tests, for any tables whatever.
 use Prim.Native.Nat.{ℕ, _+_}
-use mathlib.Core.Bool.{Bool, false, not, _&&_, _||_, cond}
+use mathlib.Core.Bool.{Bool, not, _&&_, _||_, cond}
 use mathlib.Core.List.{List, [], _∷_}
-use lib.ListN.{length, getD, drop}
+use lib.ListN.{length, drop}
 use lib.Dec.{leb, ltb, eqb}
 use Rattle.tables.specs.declared.Copy.{Copy}
 use Rattle.tables.specs.declared.Page.{Page}
+use Rattle.tables.specs.declared.Shared.{Shared}
 use Rattle.tables.specs.declared.Tables.{Tables}
 use Rattle.tables.specs.Lists.{all, count, allBelow}
 use Rattle.tables.specs.Model.{frames, isNull, retiredAt, inUse, absent, onFrame}
-use Rattle.tables.specs.Register.{rightRegister}
+use Rattle.tables.specs.Register.{registerRule}
 
--- how many copies are on frame f
+-- how many copies of some pages are on frame f
 unfoldable pub uses : ℕ → List Page → ℕ
 uses f [] = 0
 uses f (g ∷ gs) = count (onFrame f) (inUse g) + uses f gs
 
--- "A frame is free if no copy has it", and document 02, request [5], if it is not retired
+-- how many copies hold frame f: what "no copy has it" and "no frame under two copies" go by
+unfoldable pub holders : Tables → ℕ → ℕ
+holders t f = uses f (t .pages)
+
+-- "A frame is free if no copy has it", and document 02, request [5], if it is not retired; so is a number past the last
+-- frame, for which 7 comes first
 unfoldable pub free : Tables → ℕ → Bool
-free t f = not (retiredAt t f) && eqb (uses f (t .pages)) 0
+free t f = not (retiredAt t f) && eqb (holders t f) 0
 
 -- "unused entries .. are as in fresh tables"
 abbrev pub isFresh : Copy → Bool
 isFresh c = isNull c && not (c .current || c .recent)
 
--- of a page with n copies: "CURRENT only with MOST RECENT"; "a null copy only alone, recent and not current"; "frames in range"
+-- of a page with n copies: "CURRENT only with MOST RECENT"; "a null copy only alone, recent and not current"; "frames
+-- in range"
 abbrev pub copyRule : ℕ → ℕ → Copy → Bool
 copyRule limit n c =
     (c .recent || not (c .current))
@@ -39,7 +46,8 @@ isCurrent c = c .current
 abbrev pub atMost : ℕ → ℕ → Bool
 atMost k r = leb r k
 
--- "a page that stands has an owner 0 to 15, rights 0 to 2, n from 1 to 8; .. at least one MOST RECENT"; n is not 0 where a page stands
+-- "a page that stands has an owner 0 to 15, rights 0 to 2, n from 1 to 8; .. at least one MOST RECENT"; n is not 0
+-- where a page stands
 unfoldable pub standingRule : ℕ → Page → Bool
 standingRule limit g =
     leb (g .owner) 15 && (all (atMost 2) (g .rights) && (leb (g .n) 8
@@ -57,18 +65,19 @@ unfoldable pub pageRule : ℕ → Page → Bool
 pageRule limit g = shaped g && cond (absent g) (absentRule g) (standingRule limit g)
 
 -- "no frame under two copies"
-unfoldable pub alone : ℕ → List Page → Bool
-alone limit gs = allBelow limit (λ f. leb (uses f gs) 1)
+unfoldable pub alone : ℕ → (ℕ → ℕ) → Bool
+alone limit held = allBelow limit (λ f. leb (held f) 1)
 
--- document 02, request [5]: "A copy on a retired frame, or a mark past the last frame, breaks the table rules": no mark past the last of so many
--- frames, and no copy on a frame with one
-unfoldable pub rightMarks : ℕ → List Page → List Bool → Bool
-rightMarks limit gs marks =
-    eqb (length marks) 254 && (all not (drop limit marks) && allBelow 254 (λ f. not (getD marks f false) || eqb (uses f gs) 0))
+-- "P and S in range"
+unfoldable pub sizesRule : Shared → Bool
+sizesRule a = leb (a .p) 127 && leb (a .s) 127
 
--- the table rules: "P and S in range", "Pages 0 to 63", each page's, those on frames, that "the register is right", and those on marks
+-- "Pages 0 to 63", and each page's rule
+unfoldable pub pagesRule : ℕ → List Page → Bool
+pagesRule limit gs = eqb (length gs) 64 && all (pageRule limit) gs
+
+-- the table rules, each on the fields that it is about; one that is added comes last
 unfoldable pub sound : Tables → Bool
 sound t =
-    leb (t .shared .p) 127 && (leb (t .shared .s) 127 && (eqb (length (t .pages)) 64
-    && (all (pageRule (frames t)) (t .pages) && (alone (frames t) (t .pages)
-    && (rightRegister (t .pages) (t .register) && rightMarks (frames t) (t .pages) (t .retired))))))
+    sizesRule (t .shared) && (pagesRule (frames t) (t .pages) && (alone (frames t) (holders t)
+    && registerRule (frames t) (t .pages) (t .register)))

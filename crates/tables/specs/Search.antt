@@ -1,7 +1,9 @@
--- Document 01, step 11: "it goes through the pages in order and each one's copies, and stops at the first on that frame".
+-- Document 01, step 11: "it goes through the pages in order and each one's copies, and stops at the first on that
+-- frame".
 use Prim.Native.Nat.{ℕ, _+_}
 use mathlib.Core.Bool.{Bool, cond}
 use mathlib.Core.List.{List, [], _∷_}
+use mathlib.Core.Path.{_≡_}
 use lib.ListN.{getD}
 use lib.Dec.{eqb}
 use Rattle.tables.specs.declared.Copy.{Copy}
@@ -25,20 +27,29 @@ inPages f p (g ∷ gs) = inCopies f p 0 (inUse g) (inPages f (p + 1) gs)
 abbrev pub searched : Tables → ℕ → Holder
 searched t f = inPages f 0 (t .pages)
 
--- Document 02, request [5]: "A frame is from now on free, held or retired". A retired frame has no copy where the table rules are kept.
+-- Document 02, request [5]: "A frame is from now on free, held or retired". A retired frame has no copy where the table
+-- rules are kept.
 abbrev pub holderOf : Tables → ℕ → Holder
 holderOf t f = cond (retiredAt t f) Retired (searched t f)
 
--- "1, page, copy. Free: 0, 255, 255", and request [5]: "2, 255, 255": the papers' number and values for each case, the number first
+-- "1, page, copy. Free: 0, 255, 255", and request [5]: "2, 255, 255": the papers' number and values for each case, the
+-- number first
 abbrev pub shown : Holder → List ℕ
 shown (At p c) = 1 ∷ p ∷ c ∷ []
 shown Free = 0 ∷ 255 ∷ 255 ∷ []
 shown Retired = 2 ∷ 255 ∷ 255 ∷ []
 
--- whether that number is 0; `free-holder` says that this is so exactly where "no copy has it" and it is not retired
+-- what a function promises that tells the holder of a frame, where this is h: the case, and the papers' number and
+-- values for it
+pub record Tells (h r : Holder) : Type 0 where
+  pub case : r ≡ h
+  pub values : shown r ≡ shown h
+
+-- whether a look at the frame shows 0; `free-holder` says that this is so exactly where "no copy has it" and it is not
+-- retired
 abbrev pub isFree : Holder → Bool
 isFree h = eqb (getD (shown h) 0 0) 0
 
--- whether it is 2
+-- whether a look at the frame shows 2
 abbrev pub isRetired : Holder → Bool
 isRetired h = eqb (getD (shown h) 0 0) 2

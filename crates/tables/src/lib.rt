@@ -1,16 +1,16 @@
-// The tables layer of document 01: the page records, the register of frames and the marks of retired ones, the table rules, the
-// search for a frame's holder, and every change of the tables. It needs no store.
+// The tables layer of document 01: the page records, the register of frames, the table rules, the search for a frame's
+// holder, and every change of the tables. It needs no store.
 mod record;
 mod register;
 mod rules;
 mod search;
 
 use record::fresh_page;
-use register::mark;
+use register::enter;
 use register::occupy;
 use register::vacate;
 ghost use mathlib.Core.Path.{_≡_};
-ghost use Rattle.tables.specs.Model.{made};
+ghost use Rattle.tables.specs.Model.{freshTables, made};
 ghost use Rattle.tables.specs.Changes.{after};
 
 // Number 19 of document 01's table.
@@ -19,8 +19,11 @@ pub const TOO_MANY_FRAMES: u8 = 19;
 // The frame of a null copy.
 pub const NULL_FRAME: u8 = 255;
 
-// The entry in the register of a frame that nobody is on.
-pub(crate) const NO_HOLDER: u16 = 65535;
+// The entry in the register of a free frame, and that of a retired one: eight bits apart, and four or more from any
+// copy's.
+pub(crate) const FREE_ENTRY: u16 = 65535;
+
+pub(crate) const RETIRED_ENTRY: u16 = 61680;
 
 // A copy entry: its frame, and the marks CURRENT and MOST RECENT.
 pub struct Copy {
@@ -43,13 +46,12 @@ pub struct Shared {
     pub s: u8,
 }
 
-// The tables: what is shared, the 64 pages, the register: for each frame the copy on it, as 8 × page + copy; and for each frame
-// whether it is retired.
+// The tables: what is shared, the 64 pages, and the register, which says the state of each frame: the copy on it, as 8
+// × page + copy, that it is free, or that it is retired.
 pub struct Tables {
     pub shared: Shared,
     pub pages: [Page; 64],
     pub register: [u16; 254],
-    pub retired: [bool; 254],
 }
 
 // What making tables answers: 0 or 19, and the tables.
@@ -65,7 +67,7 @@ pub enum Holder {
     Retired,
 }
 
-// What a step changes in a page's record, or that it retires a frame.
+// What a step changes in a page's record.
 pub enum Edit {
     Kept,
     Created { station: u8 },
@@ -81,8 +83,6 @@ pub enum Edit {
     Removed { copy: u8 },
     // A copy's CURRENT mark.
     Marked { copy: u8, current: bool },
-    // A frame retired; the record stays.
-    Retired { frame: u8 },
 }
 
 // A change of the tables: what the record of a page becomes, and the frame that is retired, 255 for none.
@@ -92,40 +92,41 @@ pub struct Change {
     pub retires: u8,
 }
 
+// Fresh tables of P fast and S slow frames.
+fn fresh_tables(p: u8, s: u8) -> Tables
+    ensures { λ r. ⌜ r ≡ freshTables p s ⌝ }
+{
+    let g = fresh_page();
+    Tables {
+        shared: Shared { p, s },
+        pages: [g; 64],
+        register: [FREE_ENTRY; 254],
+    }
+}
+
 impl Tables {
     pub fn fresh(p: u8, s: u8) -> Made
         ensures { λ r. ⌜ r ≡ made p s ⌝ }
     {
-        let g = fresh_page();
         if (p <= 127) & (s <= 127) {
             return Made {
                 number: 0,
-                tables: Tables {
-                    shared: Shared { p, s },
-                    pages: [g; 64],
-                    register: [NO_HOLDER; 254],
-                    retired: [false; 254],
-                },
+                tables: fresh_tables(p, s),
             };
         }
         Made {
             number: TOO_MANY_FRAMES,
-            tables: Tables {
-                shared: Shared { p: 0, s: 0 },
-                pages: [g; 64],
-                register: [NO_HOLDER; 254],
-                retired: [false; 254],
-            },
+            tables: fresh_tables(0, 0),
         }
     }
 
-    // The tables after a change; a page number above 63 changes no page, and a frame number above 253 no mark.
+    // The tables after a change; a page number above 63 changes no page, and a frame number above 253 retires none.
     pub fn after(mut self, change: Change) -> Tables
         ensures { λ r. ⌜ r ≡ after self change ⌝ }
     {
         let p = change.page as usize;
         let g = change.becomes;
-        mark(&mut self.retired, change.retires);
+        enter(&mut self.register, change.retires, RETIRED_ENTRY);
         if p < 64 {
             let old = self.pages[p];
             self.pages[p] = g;

@@ -9,8 +9,8 @@ ghost use mathlib.Core.List.{map};
 ghost use Prim.Native.Nat.{_-_, _≤_};
 ghost use lib.ListN.{length, set, getD};
 ghost use Rattle.tables.specs.Lists.{all};
-ghost use Rattle.tables.specs.Model.{freshCopy, freshPage, noCopyEntry, inUse};
-ghost use Rattle.tables.specs.Changes.{created, staleCopy, newCopy, withCopy, withCopies, closeGap, markedCopy, changed, retiredBy};
+ghost use Rattle.tables.specs.Model.{freshCopy, freshPage, zeroCopy, inUse};
+ghost use Rattle.tables.specs.Changes.{created, staleCopy, newCopy, withCopy, withCopies, closeGap, markedCopy, changed};
 ghost use Rattle.tables.specs.Keep.{unchanged, staysRecent, isMarked};
 
 fn fresh_copy() -> Copy
@@ -83,7 +83,7 @@ fn stale_copies(copies: [Copy; 8]) -> [Copy; 8]
     cs
 }
 
-// The entries after entry k move down, and the last one is fresh.
+// The copy entries after entry k move down, and the last one is fresh.
 fn close_gap(copies: [Copy; 8], k: u8) -> [Copy; 8]
     ensures { λ r. ⌜ r ≡ closeGap copies k ⌝ }
 {
@@ -188,7 +188,7 @@ impl Page {
     }
 
     fn marked(mut self, copy: u8, current: bool) -> Page
-        ensures { λ r. ⌜ r ≡ withCopies self (self .n) (set (self .copies) copy (markedCopy (getD (self .copies) copy noCopyEntry) current)) ⌝ }
+        ensures { λ r. ⌜ r ≡ withCopies self (self .n) (set (self .copies) copy (markedCopy (getD (self .copies) copy zeroCopy) current)) ⌝ }
     {
         let k = copy as usize;
         if k < 8 {
@@ -235,13 +235,11 @@ impl Page {
             Edit::Marked { copy, current } => {
                 self = self.marked(copy, current);
             }
-            Edit::Retired { frame: _ } => {}
         }
         self
     }
 
-    // Whether the edit is seen at a glance to leave the record as it is and to retire no frame: the tables then need not be
-    // moved.
+    // Whether the edit is seen at a glance to leave the record as it is: the tables then need not be moved for it.
     pub fn keeps(self, edit: Edit) -> bool
         ensures { λ r. ⌜ r ≡ unchanged self edit ⌝ }
     {
@@ -262,37 +260,6 @@ impl Page {
             } => false,
             Edit::Removed { copy: _ } => false,
             Edit::Marked { copy, current } => is_marked(copies, copy, current),
-            Edit::Retired { frame: _ } => false,
-        }
-    }
-}
-
-impl Edit {
-    // The frame that the edit retires; 255 for none.
-    pub fn retires(self) -> u8
-        ensures { λ r. ⌜ r ≡ retiredBy self ⌝ }
-    {
-        let edit = self;
-        match edit {
-            Edit::Kept => NULL_FRAME,
-            Edit::Created { station: _ } => NULL_FRAME,
-            Edit::Deleted => NULL_FRAME,
-            Edit::Granted {
-                station: _,
-                right: _,
-            } => NULL_FRAME,
-            Edit::Staled => NULL_FRAME,
-            Edit::Placed { frame: _ } => NULL_FRAME,
-            Edit::Added {
-                frame: _,
-                recent: _,
-            } => NULL_FRAME,
-            Edit::Removed { copy: _ } => NULL_FRAME,
-            Edit::Marked {
-                copy: _,
-                current: _,
-            } => NULL_FRAME,
-            Edit::Retired { frame } => frame,
         }
     }
 }

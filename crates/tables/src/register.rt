@@ -1,14 +1,16 @@
-// The register: for each frame the copy on it; beside it the marks of retired frames.
+// The register: for each frame the copy on it, that it is free, or that it is retired.
+use crate::FREE_ENTRY;
 use crate::Holder;
-use crate::NO_HOLDER;
 use crate::Page;
+use crate::RETIRED_ENTRY;
 use crate::Tables;
 ghost use mathlib.Core.Path.{_≡_};
-ghost use mathlib.Core.Bool.{true, cond};
+ghost use mathlib.Core.Bool.{cond};
 ghost use lib.Dec.{ltb};
 ghost use lib.ListN.{length, set};
-ghost use Rattle.tables.specs.declared.Holder.the-variants.{Free, Retired};
+ghost use Rattle.tables.specs.declared.Holder.the-variants.{Free};
 ghost use Rattle.tables.specs.Model.{inUse};
+ghost use Rattle.tables.specs.Search.{Tells};
 ghost use Rattle.tables.specs.Register.{entry, named, registered, vacated, occupied};
 
 // The entry of a copy of a page.
@@ -18,8 +20,8 @@ pub(crate) fn entry(page: u8, copy: u8) -> u16
     8 * page as u16 + copy as u16
 }
 
-// Sets a frame's entry; a null copy has no frame.
-fn enter(register: &mut [u16; 254], frame: u8, entry: u16)
+// Sets a frame's entry; 255 is no frame.
+pub(crate) fn enter(register: &mut [u16; 254], frame: u8, entry: u16)
     requires { ⌜ length (now register) ≡ 254 ⌝ }
     ensures { λ _. ⌜ now (register .exit) ≡ set (now (register .entry)) frame entry ⌝ }
 {
@@ -37,7 +39,7 @@ pub(crate) fn vacate(register: &mut [u16; 254], page: Page)
     let n = page.in_use();
     let mut j: usize = 0;
     while j < n {
-        enter(register, page.copies[j].frame, NO_HOLDER);
+        enter(register, page.copies[j].frame, FREE_ENTRY);
         j += 1;
     }
 }
@@ -55,39 +57,24 @@ pub(crate) fn occupy(register: &mut [u16; 254], p: u8, page: Page)
     }
 }
 
-// Marks a frame as retired; 255 is no frame.
-pub(crate) fn mark(retired: &mut [bool; 254], frame: u8)
-    requires { ⌜ length (now retired) ≡ 254 ⌝ }
-    ensures { λ _. ⌜ now (retired .exit) ≡ set (now (retired .entry)) frame true ⌝ }
-{
-    let f = frame as usize;
-    if f < 254 {
-        retired[f] = true;
-    }
-}
-
-// The holder of a frame by its entry and its mark; a number past the register has none.
-fn holder_by(entry: u16, retired: bool, frame: u8) -> Holder
-    ensures { λ r. ⌜ r ≡ cond (ltb frame 254) (cond retired Retired (named entry)) Free ⌝ }
+// The holder of a frame by its entry; a number past the register has none.
+fn holder_by(entry: u16, frame: u8) -> Holder
+    ensures { λ r. ⌜ r ≡ cond (ltb frame 254) (named entry) Free ⌝ }
 {
     if frame >= 254 {
         return Holder::Free;
-    }
-    if retired {
-        return Holder::Retired;
     }
     Holder::named(entry)
 }
 
 impl Tables {
-    // The copy on a frame, by the register, or that it is retired. Behind a reference, so that the tables are not copied.
+    // The copy on a frame, or that it is retired, by the register. Behind a reference, so that the tables are not
+    // copied.
     pub fn registered(&self, frame: u8) -> Holder
-        ensures { λ r. ⌜ r ≡ registered (now (self .entry)) frame ⌝ }
+        ensures { λ r. ⌜ Tells (registered (now (self .entry)) frame) r ⌝ }
     {
-        let i = (frame % 254) as usize;
-        let entry = self.register[i];
-        let retired = self.retired[i];
-        holder_by(entry, retired, frame)
+        let entry = self.register[(frame % 254) as usize];
+        holder_by(entry, frame)
     }
 }
 
@@ -101,6 +88,9 @@ impl Holder {
                 page: (entry / 8) as u8,
                 copy: (entry % 8) as u8,
             };
+        }
+        if entry == RETIRED_ENTRY {
+            return Holder::Retired;
         }
         Holder::Free
     }

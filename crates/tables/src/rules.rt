@@ -1,19 +1,19 @@
-// The test of the table rules, in one pass over the pages and the register.
+// The test of the table rules: one pass over the pages, and the entries of the register counted.
 use crate::Copy;
-use crate::NO_HOLDER;
+use crate::FREE_ENTRY;
 use crate::NULL_FRAME;
 use crate::Page;
+use crate::RETIRED_ENTRY;
 use crate::Tables;
 use crate::register::entry;
 ghost use mathlib.Core.Path.{_≡_};
-ghost use mathlib.Core.Bool.{false, not, _&&_};
+ghost use mathlib.Core.Bool.{false, _&&_};
 ghost use Prim.Native.Nat.{_≤_};
-ghost use lib.Dec.{eqb};
 ghost use lib.ListN.{length, take, drop};
 ghost use Rattle.tables.specs.Lists.{all};
 ghost use Rattle.tables.specs.Model.{inUse};
 ghost use Rattle.tables.specs.Rules.{isFresh, copyRule, atMost, absentRule, standingRule, sound};
-ghost use Rattle.tables.specs.PrivatePass.{names, namesAll, scanCopies, scanPage, framesOf, taken, noneOn};
+ghost use Rattle.tables.specs.PrivatePass.{names, entriesAre, scanCopies, scanPage, framesOf, entriesOf, notRetired, othersOk};
 
 fn is_fresh(c: Copy) -> bool
     ensures { λ r. ⌜ r ≡ isFresh c ⌝ }
@@ -111,7 +111,7 @@ fn absent_ok(g: Page) -> bool
 
 fn standing_ok(register: &[u16; 254], p: u8, g: Page, limit: u8) -> bool
     requires { ⌜ length (now register) ≡ 254 ⌝ }
-    ensures { λ r. ⌜ r ≡ (standingRule limit g && namesAll (now (register .entry)) p 0 (inUse g)) ⌝ }
+    ensures { λ r. ⌜ r ≡ (standingRule limit g && entriesAre (now (register .entry)) p 0 (inUse g)) ⌝ }
 {
     let rights = g.rights;
     let copies = g.copies;
@@ -151,15 +151,16 @@ fn frames_of(g: Page) -> usize
     g.n as usize
 }
 
-// How many entries name a copy. Branch-free, in vectors.
-fn taken(register: &[u16; 254]) -> u16
+// How many entries are this one. Branch-free, in vectors.
+fn entries_of(register: &[u16; 254], entry: u16) -> u16
     requires { ⌜ length (now register) ≡ 254 ⌝ }
-    ensures { λ r. ⌜ r ≡ taken (now (register .entry)) ⌝ }
+    ensures { λ r. ⌜ (r ≡ entriesOf entry (now (register .entry))) × (r ≤ 254) ⌝ }
 {
     let mut k: u16 = 0;
     let mut f: usize = 0;
     while f < 254 {
-        if register[f] != NO_HOLDER {
+        let e = register[f];
+        if e == entry {
             k += 1;
         }
         f += 1;
@@ -167,50 +168,39 @@ fn taken(register: &[u16; 254]) -> u16
     k
 }
 
-// No frame from the limit on is marked as retired.
-fn none_past(retired: &[bool; 254], limit: u8) -> bool
-    requires { ⌜ length (now retired) ≡ 254 ⌝ }
-    ensures { λ r. ⌜ r ≡ all not (drop limit (now (retired .entry))) ⌝ }
+// No frame from the limit on is retired.
+fn none_past(register: &[u16; 254], limit: u8) -> bool
+    requires { ⌜ length (now register) ≡ 254 ⌝ }
+    ensures { λ r. ⌜ r ≡ all notRetired (drop limit (now (register .entry))) ⌝ }
 {
     let mut ok = true;
     let mut f = limit as usize;
     while f < 254 {
-        ok = ok & !retired[f];
+        ok = ok & (register[f] != RETIRED_ENTRY);
         f += 1;
     }
     ok
 }
 
-// Nobody is on a retired frame. Branch-free, in vectors.
-fn none_on(register: &[u16; 254], retired: &[bool; 254]) -> bool
-    requires { ⌜ (length (now register) ≡ 254) × (length (now retired) ≡ 254) ⌝ }
-    ensures { λ r. ⌜ r ≡ noneOn (now (register .entry)) (now (retired .entry)) ⌝ }
+// Of pages whose copies are on so many frames and are named: every other entry is that of a free frame, or of a retired
+// one before the limit. Retired frames are rare, so they are counted only where held and free ones are not all.
+fn others_ok(register: &[u16; 254], held: usize, limit: u8) -> bool
+    requires { ⌜ (length (now register) ≡ 254) × (held ≤ 16320) ⌝ }
+    ensures { λ r. ⌜ r ≡ othersOk limit held (now (register .entry)) ⌝ }
 {
-    let mut ok = true;
-    let mut f: usize = 0;
-    while f < 254 {
-        ok = (!retired[f] | (register[f] == NO_HOLDER)) & ok;
-        f += 1;
+    let free = entries_of(register, FREE_ENTRY) as usize;
+    if held + free == 254 {
+        return true;
     }
-    ok
-}
-
-// Of pages whose copies are on so many frames and are named: no entry names anything else, and the marks keep their rules.
-fn frames_ok(register: &[u16; 254], retired: &[bool; 254], held: usize, limit: u8) -> bool
-    requires { ⌜ (length (now register) ≡ 254) × (length (now retired) ≡ 254) ⌝ }
-    ensures { λ r. ⌜ r ≡ (eqb held (taken (now (register .entry))) && (all not (drop limit (now (retired .entry))) && noneOn (now (register .entry)) (now (retired .entry)))) ⌝ }
-{
-    if held != taken(register) as usize {
+    let retired = entries_of(register, RETIRED_ENTRY) as usize;
+    if held + free + retired != 254 {
         return false;
     }
-    if !none_past(retired, limit) {
-        return false;
-    }
-    none_on(register, retired)
+    none_past(register, limit)
 }
 
 impl Tables {
-    // All table rules, for any tables, in one pass over the pages and the register.
+    // All table rules, for any tables.
     pub fn sound(self) -> bool
         ensures { λ r. ⌜ r ≡ sound self ⌝ }
     {
@@ -233,8 +223,6 @@ impl Tables {
             held += frames_of(g);
             i += 1;
         }
-        // A copy: two fields of one local cannot be lent at once.
-        let retired = self.retired;
-        frames_ok(&self.register, &retired, held, limit)
+        others_ok(&self.register, held, limit)
     }
 }

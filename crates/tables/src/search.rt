@@ -1,10 +1,11 @@
 // Who is on a frame.
 use crate::Holder;
+use crate::RETIRED_ENTRY;
 use crate::Tables;
 ghost use mathlib.Core.Path.{_≡_};
 ghost use Rattle.tables.specs.Model.{retiredAt};
 ghost use Rattle.tables.specs.Rules.{free};
-ghost use Rattle.tables.specs.Search.{searched, holderOf, shown, isFree, isRetired};
+ghost use Rattle.tables.specs.Search.{searched, holderOf, shown, Tells, isFree, isRetired};
 
 impl Holder {
     // The three bytes that looking at a frame shows.
@@ -45,7 +46,7 @@ impl Holder {
 impl Tables {
     // The first copy, page by page, that is on the frame.
     pub fn search(self, frame: u8) -> Holder
-        ensures { λ r. ⌜ r ≡ searched self frame ⌝ }
+        ensures { λ r. ⌜ Tells (searched self frame) r ⌝ }
     {
         let mut i: usize = 0;
         'pages: loop {
@@ -68,29 +69,26 @@ impl Tables {
         }
     }
 
-    // Whether the frame is marked as retired; a number past the marks is not.
+    // Whether the frame is retired; a number past the register is not.
     fn retired_at(self, frame: u8) -> bool
         ensures { λ r. ⌜ r ≡ retiredAt self frame ⌝ }
     {
         let f = frame as usize;
-        if f < 254 { self.retired[f] } else { false }
+        if f < 254 {
+            self.register[f] == RETIRED_ENTRY
+        } else {
+            false
+        }
     }
 
     // The copy on the frame by the search, or that the frame is retired.
     pub fn holder(self, frame: u8) -> Holder
-        ensures { λ r. ⌜ r ≡ holderOf self frame ⌝ }
+        ensures { λ r. ⌜ Tells (holderOf self frame) r ⌝ }
         ensures { λ r. ⌜ isFree r ≡ free self frame ⌝ }
     {
         if self.retired_at(frame) {
             return Holder::Retired;
         }
         self.search(frame)
-    }
-
-    pub fn free(self, frame: u8) -> bool
-        ensures { λ r. ⌜ r ≡ free self frame ⌝ }
-    {
-        let h = self.holder(frame);
-        h.is_free()
     }
 }

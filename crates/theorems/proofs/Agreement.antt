@@ -2,7 +2,7 @@
 use Prim.Native.Nat.{ℕ, _≤_, _<_}
 use mathlib.Core.Path.{_≡_, refl, sym, _∙_, subst}
 use mathlib.Core.Logic.{_≢_}
-use mathlib.Core.Bool.{Bool, true, false, not, _&&_, cond}
+use mathlib.Core.Bool.{Bool, true, false, not, _&&_, _||_, cond}
 use mathlib.Core.List.{List, [], _∷_}
 use native.Mathlib.Decide.{ℕ-discrete}
 use lib.ListN.{length, take, drop, set, length-set, take-append-drop}
@@ -10,9 +10,9 @@ use lib.Seq.{getD-set-same, getD-set-other, set-getD}
 use lib.Dec.{eqb}
 use Rattle.tables.specs.declared.Page.{Page}
 use Rattle.tables.specs.declared.Edit.{Edit}
-use Rattle.tables.specs.declared.Edit.the-variants.{Kept, Retired}
+use Rattle.tables.specs.declared.Edit.the-variants.{Kept}
 use Rattle.tables.specs.Lists.{count}
-use Rattle.tables.specs.Numbers.{noPage, nothingCurrent}
+use Rattle.tables.specs.Numbers.{accepted, noPage, noRight, nothingCurrent}
 use Rattle.tables.specs.Model.{frames, inUse, absent, pageAt, onFrame}
 use Rattle.tables.specs.Changes.{changed, edited, after}
 use Rattle.tables.proofs.RuleLaws.{sound-of}
@@ -20,7 +20,7 @@ use Rattle.tables.proofs.ChangeLaws.{after-same, after-other}
 use Rattle.steps.specs.declared.Kind.{Kind}
 use Rattle.steps.specs.declared.Call.{Call}
 use Rattle.steps.specs.Stores.{block}
-use Rattle.steps.specs.Steps.{Outcome, refuse, accept, test, mapped, Plan, decide}
+use Rattle.steps.specs.Steps.{Outcome, refuse, accept, test, guarded, mapped, Plan, decide}
 use Rattle.steps.specs.Effects.{State, joined, Result, carriedOut, left}
 use Rattle.messages.specs.Replies.{reply}
 use Rattle.theorems.specs.Flat.{Flat, FlatPage, Slot, gone, here, slotAt, Reaction, silent, no, yes, unless, onPage, flatKind, react, flatLeft, answersOf, accepts}
@@ -72,6 +72,32 @@ module _ {A : Type 0} {P : A → Flat → Type 0} {shows : A → List ℕ} {f : 
   alone true n e k = turned-back e
   alone false n e k = k refl
 
+  -- a number n where both test the same
+  pub both-number : {lack : Bool} (o : Outcome A) {w : Reaction} (b′ b : Bool) (n m : ℕ) → b′ ≡ b → eqb n nothingCurrent ≡ false → eqb n accepted ≡ false
+      → (b ≡ false → Agree P shows f true lack (guarded m o) w) → Agree P shows f true lack (guarded (cond b′ n m) o) (unless b n w)
+  both-number o b′ true n m q e z k = rw (q, z) (both-refuse e)
+  both-number o b′ false n m q e z k = rw q (k refl)
+
+  -- two tests with one number, which the kernel makes at once
+  pub both-either : {lack : Bool} (o : Outcome A) {w : Reaction} (a b : Bool) (n m : ℕ) → eqb n nothingCurrent ≡ false → eqb n accepted ≡ false
+      → (a ≡ false → Agree P shows f true lack (guarded m o) w)
+      → Agree P shows f true lack (guarded (cond (a || b) n m) o) (unless a n (unless b n w))
+  both-either o true b n m e z k = rw z (both-refuse e)
+  both-either o false true n m e z k = rw z (both-refuse e)
+  both-either o false false n m e z k = k refl
+
+  -- one in a call that the flat memory passes over
+  pub alone-number : (o : Outcome A) (b : Bool) (n m : ℕ) → eqb n nothingCurrent ≡ false → eqb n accepted ≡ false
+      → (b ≡ false → Agree P shows f false false (guarded m o) silent) → Agree P shows f false false (guarded (cond b n m) o) silent
+  alone-number o true n m e z k = rw z (turned-back e)
+  alone-number o false n m e z k = k refl
+
+  -- 10, where the kernel asks what is allowed and the flat memory what is lacking
+  pub both-lack : {lack : Bool} (o : Outcome A) {w : Reaction} (may b : Bool) → not may ≡ b → (b ≡ false → Agree P shows f true lack o w)
+      → Agree P shows f true lack (guarded (cond may accepted noRight) o) (unless b noRight w)
+  both-lack o true b q k = rw (← q) (k (sym q))
+  both-lack o false b q k = rw (← q) (both-refuse refl)
+
   -- 11, where nothing is CURRENT
   pub lacking : {o : Outcome A} {f′ : Flat} {bs : List ℕ} (b : Bool) → (b ≡ false → Agree P shows f true false o (yes f′ bs))
       → Agree P shows f true b (test b nothingCurrent o) (yes f′ bs)
@@ -79,11 +105,11 @@ module _ {A : Type 0} {P : A → Flat → Type 0} {shows : A → List ℕ} {f : 
   lacking false k = k refl
 
   -- 9
-  pub on-page : {lack : Bool} {o : Outcome A} {k : FlatPage → Reaction} (st : List ℕ) (g : Page) (x : Slot) → AlikeSlot st g x
-      → ((b : FlatPage) → absent g ≡ false → Alike st g b → Agree P shows f true lack o (k b))
-      → Agree P shows f true lack (test (absent g) noPage o) (onPage x k)
-  on-page st g gone e h = rw e (both-refuse refl)
-  on-page st g (here b) e h = rw (e .0) (h b (e .0) (e .1))
+  pub on-page : {lack : Bool} (o : Outcome A) {k : FlatPage → Reaction} (st : List ℕ) (g : Page) (x : Slot) → AlikeSlot st g x
+      → (m : ℕ) → ((b : FlatPage) → absent g ≡ false → Alike st g b → Agree P shows f true lack (guarded m o) (k b))
+      → Agree P shows f true lack (guarded (cond (absent g) noPage m) o) (onPage x k)
+  on-page o st g gone e m h = rw e (both-refuse refl)
+  on-page o st g (here b) e m h = rw (e .0) (h b (e .0) (e .1))
 
 -- ---- what demand 3 asks of a turn
 
@@ -133,11 +159,11 @@ OthersKept s p st′ =
 pub stores-kept : (s : State) (p : ℕ) → OthersKept s p (joined s)
 stores-kept s p q d y l used = refl
 
--- the state with the record of page p edited, and the joined stores st′ taken apart again
+-- the state with the record of page p edited, no frame retired, and the joined stores st′ taken apart again
 abbrev pub applied : State → ℕ → Edit → List ℕ → State
 applied s p e st′ =
     record {
-      tables = after (s .tables) (edited (s .tables) p e);
+      tables = after (s .tables) (edited (s .tables) p e 255);
       fast = take (length (s .fast)) st′;
       slow = drop (length (s .fast)) st′;
     }
@@ -164,17 +190,17 @@ module _ (s : State) (f : Flat) (i : Inv s f) where
     page-changed x own keep =
         record {
           long = length-set f p x ∙ i .same .long;
-          alike = λ q h. subst (λ (l : List ℕ). AlikeSlot l (pageAt (after (s .tables) (edited (s .tables) p e)) q) (slotAt (set f p x) q))
+          alike = λ q h. subst (λ (l : List ℕ). AlikeSlot l (pageAt (after (s .tables) (edited (s .tables) p e 255)) q) (slotAt (set f p x) q))
               (sym (take-append-drop (length (s .fast)) st′)) (at q h (ℕ-discrete q p));
         }
       where
-        at : (q : ℕ) → q < 64 → Dec (q ≡ p) → AlikeSlot st′ (pageAt (after (s .tables) (edited (s .tables) p e)) q) (slotAt (set f p x) q)
+        at : (q : ℕ) → q < 64 → Dec (q ≡ p) → AlikeSlot st′ (pageAt (after (s .tables) (edited (s .tables) p e 255)) q) (slotAt (set f p x) q)
         at q h (Dec.yes same) =
-            let pages : p < length (s .tables .pages) = rw (sound-of (s .tables) (i .good .tables-sound) .pages-long) near in
+            let pages : p < length (s .tables .pages) = rw (sound-of (s .tables) (i .good .tables-sound) .paged .pages-long) near in
             let slots : p < length f = rw (i .same .long) near in
-            rw (same, after-same (s .tables) p e pages, getD-set-same f p x gone slots) own
+            rw (same, after-same (s .tables) p e 255 pages, getD-set-same f p x gone slots) own
         at q h (Dec.no d) =
-            rw (after-other (s .tables) p e q d, getD-set-other f p q x gone d)
+            rw (after-other (s .tables) p e 255 q d, getD-set-other f p q x gone d)
             (kept-alike st′ q h (slotAt f q) (keep q d) (i .same .alike q h))
 
     -- the flat memory as it was
@@ -188,10 +214,15 @@ module _ (s : State) (f : Flat) (i : Inv s f) where
   unfolding changed
   page-kept p near = page-moved p near Kept (joined s) (i .same .alike p near) (stores-kept s p)
 
-  -- but for the mark of a frame
-  pub page-retired : (p : ℕ) → p < 64 → (x : ℕ) → Same (applied s p (Retired x) (joined s)) f
-  unfolding changed
-  page-retired p near x = page-moved p near (Retired x) (joined s) (i .same .alike p near) (stores-kept s p)
+  -- also where a frame is retired: the register is not looked at
+  pub page-retired : (p : ℕ) → p < 64 → (x : ℕ)
+      → Same (record {
+        tables = after (s .tables) (edited (s .tables) p Kept x);
+        fast = take (length (s .fast)) (joined s);
+        slow = drop (length (s .fast)) (joined s);
+      }) f
+  unfolding after changed
+  page-retired p near x = let k = page-kept p near in record { long = k .long; alike = k .alike }
 
 -- ---- a call, from number 7 on
 

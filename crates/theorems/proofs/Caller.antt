@@ -4,7 +4,7 @@ use mathlib.Core.Path.{_≡_, refl, sym, ap, ap₂, _∙_, subst}
 use mathlib.Core.Bool.{Bool, not, _&&_, cond}
 use mathlib.Core.List.{List, [], _∷_, _++_, map}
 use native.Mathlib.Omega.{arith}
-use lib.ListN.{drop, replicate, length-replicate}
+use lib.ListN.{drop}
 use lib.Seq.{drop-drop}
 use lib.Dec.{eqb}
 use Rattle.tables.specs.Numbers.{nothingCurrent}
@@ -12,12 +12,12 @@ use Rattle.tables.specs.Model.{freshTables}
 use Rattle.steps.specs.Effects.{State}
 use Rattle.steps.specs.Promises.{stateOf}
 use Rattle.messages.specs.Replies.{replyIn}
-use Rattle.messages.specs.Run.{Sent, whole, asked, Turn, messagesOf, run, replies}
+use Rattle.messages.specs.Run.{Sent, whole, asked, Turn, messagesOf, turnsOf, endOf, replies, joinedReplies}
 use Rattle.messages.proofs.JoinLaws.{parts-run, parts-reach, replies-apart}
 use Rattle.theorems.specs.Flat.{none, Answer}
-use Rattle.theorems.specs.Demand3.{numberIn, sentIn, elevens, flatAnswers, answered, taken, runAnswers, Agrees}
+use Rattle.theorems.specs.Demand3.{numberIn, sentIn, elevens, flatAnswers, answered, taken, runAnswers, AgreesOn}
 use Rattle.theorems.specs.Held.{numberHeld, elevenHeld, answersHeld, Demand3Held, CallsEnough}
-use Rattle.theorems.proofs.Whole.{demand3}
+use Rattle.theorems.proofs.Whole.{demand3-on}
 
 -- a reply without its length: its number and its bytes are where they were
 abbrev apart : List ℕ → Sent
@@ -44,25 +44,31 @@ answers-apart (t ∷ ts) =
     rw (number-apart r, bytes-apart r)
     (ap (λ (l : List Answer). cond (not (eqb (numberIn r) nothingCurrent) && answered (asked (t .sent))) (taken r ∷ []) [] ++ l) (answers-apart ts))
 
+-- the two lists of the demand, by the joined replies of the messages xs alone
+pub held-answers : (p k : ℕ) (s s′ : State) (xs : List Sent) → AgreesOn p k 70 xs (record { turns = turnsOf 70 s xs; final = s′ })
+    → let rs = messagesOf (joinedReplies 70 (turnsOf 70 s xs)) in flatAnswers none xs (map elevenHeld rs) ≡ answersHeld xs rs
+held-answers p k s s′ xs agrees =
+    let ts : List Turn = turnsOf 70 s xs in
+    let told = replies-apart s xs in
+    ap (λ (rs : List Sent). flatAnswers none xs (map elevenHeld rs)) told
+    ∙ ap (flatAnswers none xs) (elevens-apart ts)
+    ∙ agrees .answers
+    ∙ sym (answers-apart ts)
+    ∙ ap (λ (ys : List Sent). answersHeld ys (map apart (replies 70 ts))) (agrees .messages)
+    ∙ ap (answersHeld xs) (sym told)
+
 pub demand3-held : Demand3Held
 demand3-held p s fast slow file n ks hp hs lp ls calls h =
     let s₀ : State = stateOf (freshTables p s) fast slow in
     let q = parts-run file s₀ n ks calls h in
-    let room = length-replicate {A = ℕ} 70 0 in
-    let ts : List Turn = run 70 file s₀ .turns in
-    let told = ap messagesOf (q .0) ∙ replies-apart s₀ (messagesOf file) in
-    let agrees = subst (λ (k : ℕ). Agrees p s k file (run k file s₀)) room
-    (demand3 p s fast slow (replicate 70 0) file hp hs lp ls (omega (arith, room))) in
+    let xs : List Sent = messagesOf file in
+    let agrees = demand3-on 70 p s fast slow xs hp hs lp ls (omega arith) in
     record {
       replies-held = q .0;
-      replies-apart = told;
+      replies-apart = ap messagesOf (q .0) ∙ replies-apart s₀ xs;
       answers-held =
-          ap (λ (rs : List Sent). flatAnswers none (messagesOf file) (map elevenHeld rs)) told
-          ∙ ap (flatAnswers none (messagesOf file)) (elevens-apart ts)
-          ∙ agrees .answers
-          ∙ sym (answers-apart ts)
-          ∙ ap (λ (xs : List Sent). answersHeld xs (map apart (replies 70 ts))) (agrees .messages)
-          ∙ ap (answersHeld (messagesOf file)) (sym told);
+          subst (λ (l : List ℕ). flatAnswers none xs (map elevenHeld (messagesOf l)) ≡ answersHeld xs (messagesOf l))
+          (sym (q .0)) (held-answers p s s₀ (endOf 70 s₀ xs) xs agrees);
       state-held = q .1;
       tally-held = q .2;
       agrees = agrees;

@@ -10,18 +10,19 @@ use lib.Dec.{eqb}
 use borrow.Author.Tests.{eqb-true, not-false}
 use Rattle.tables.specs.declared.Shared.{Shared}
 use Rattle.tables.specs.Model.{frames, freshTables, pageAt}
-use Rattle.tables.specs.Rules.{uses}
-use Rattle.tables.specs.Changes.{changed, retiredBy, after}
+use Rattle.tables.specs.Rules.{holders}
+use Rattle.tables.specs.Changes.{changed, edited, after}
 use Rattle.tables.proofs.ListLaws.{or-left}
 use Rattle.tables.proofs.RuleLaws.{sound-of}
-use Rattle.tables.proofs.UsesLaws.{uses-set, uses-at}
+use Rattle.tables.proofs.UsesLaws.{holders-at, holders-after}
 use Rattle.steps.specs.declared.Call.{Call}
 use Rattle.steps.specs.Stores.{part, block, zeros}
-use Rattle.steps.specs.Steps.{Outcome, refuse, accept, mapped, Plan}
+use Rattle.steps.specs.Steps.{Outcome, refuse, accept, mapped, Plan, pageFor}
 use Rattle.steps.specs.Effects.{State, joined, carriedOut, step, left}
 use Rattle.steps.proofs.StoreLaws.{part-right}
-use Rattle.steps.proofs.ClearLaws.{on}
+use Rattle.steps.proofs.ClearLaws.{on, frees-clears}
 use Rattle.steps.proofs.DecideLaws.{IfAccepted, if-accepted}
+use Rattle.steps.proofs.DecisionLaws.{page-near}
 use Rattle.steps.proofs.StepLaws.{joined-long, Sure, sure}
 use Rattle.messages.specs.Run.{Sent, leftBy, turnsOf, endOf, messagesOf}
 use Rattle.theorems.specs.Clean.{isHeld, everHeld, Blank, NoneHeld, Clean}
@@ -38,23 +39,24 @@ module _ (s : State) (f : ℕ) (low : f < frames (s .tables)) where
   same none = rw none refl
 
   by-call : (c : Call) (bs : List ℕ) → Cleared (left s (step s c bs))
-  unfolding step after
+  unfolding step
   by-call c bs = go _ (sure s c bs)
     where
       go : (o : Outcome Plan) → IfAccepted (Sure s c bs) o → Cleared (left s (mapped (carriedOut s c bs) o))
       go (refuse n) k = same
       go (accept plan) (if-accepted u) = λ none.
           let t = s .tables in
-          let g = pageAt t (c .page) in
+          let g = pageAt t (pageFor c) in
           let ok = u .plan-ok in
-          let gone : uses f (after t (record { page = c .page; becomes = changed g (plan .edit); retires = retiredBy (plan .edit) }) .pages) ≡ 0 = eqb-true _ 0 (not-false _ none) in
-          let pages : c .page < length (t .pages) = rw (sound-of t (u .good .tables-sound) .pages-long) (ok .near) in
-          let moved = uses-set f (t .pages) (c .page) (changed g (plan .edit)) pages in
-          let own = uses-at f (t .pages) (c .page) in
+          let gone : holders (after t (edited t (pageFor c) (plan .edit) (plan .retires))) f ≡ 0 = eqb-true _ 0 (not-false _ none) in
+          let pages : pageFor c < length (t .pages) = rw (sound-of t (u .good .tables-sound) .paged .pages-long) (page-near c) in
+          let moved = holders-after t f (pageFor c) (changed g (plan .edit)) (plan .retires) pages in
+          let own = holders-at t f (pageFor c) in
           let z : on f (changed g (plan .edit)) ≡ 0 = omega arith in
-          let mine : uses f (t .pages) ≡ on f g = omega arith in
+          let mine : holders t f ≡ on f g = omega arith in
           ap (λ (st : List ℕ). block st f) (take-append-drop (length (s .fast)) _)
-          ∙ ok .clears bs (joined s) refl (joined-long (u .good)) f low z
+          ∙ frees-clears (frames t) (plan .len) (length bs) g (changed g (plan .edit)) (plan .work) (ok .inside) (ok .frees) bs (joined s) refl
+          (joined-long (u .good)) f low z
           ∙ ap (λ (n : ℕ). cond (not (eqb n 0)) zeros (block (joined s) f)) (sym mine)
 
   message-clean : (room : ℕ) (x : Sent) → Cleared (leftBy room s x)
@@ -126,42 +128,46 @@ slow-block p x y long j =
     ap (λ (k : ℕ). part (x ++ y) k 64) e ∙ part-right x y (64 * j) 64
 
 -- a frame that was held at any time has zeros, and else those of a blank card
-stays : (room : ℕ) (file : List ℕ) (s : State) → Blank s → Blank (endOf room s (messagesOf file))
-stays room file s blank f slow low end =
-    let same = end-frames room (messagesOf file) s in
+pub stays-blank : (room : ℕ) (xs : List Sent) (s : State) → Blank s → Blank (endOf room s xs)
+stays-blank room xs s blank f slow low end =
+    let same = end-frames room xs s in
     let low′ : f < frames (s .tables) = rw (ap (λ (a : Shared). a .p + a .s) same) at low in
     let slow′ : s .tables .shared .p ≤ f = rw (ap (λ (a : Shared). a .p) same) at slow in
-    messages-clean room f (messagesOf file) s low′ end
-    ∙ go (everHeld (turnsOf room s (messagesOf file)) f) (λ none. blank f slow′ low′ (never room f (messagesOf file) s end none))
+    messages-clean room f xs s low′ end
+    ∙ go (everHeld (turnsOf room s xs) f) (λ none. blank f slow′ low′ (never room f xs s end none))
   where
     go : (v : Bool) → (v ≡ false → block (joined s) f ≡ zeros) → cond v zeros (block (joined s) f) ≡ zeros
     go true h = refl
     go false h = h refl
 
-fresh : (p s : ℕ) (fast : List ℕ) → length fast ≡ 64 * p → Blank (record { tables = freshTables p s; fast = fast; slow = replicate (64 * s) 0 })
+pub fresh-blank : (p s : ℕ) (fast : List ℕ) → length fast ≡ 64 * p → Blank (record { tables = freshTables p s; fast = fast; slow = replicate (64 * s) 0 })
 unfolding freshTables
-fresh p s fast long f slow low none =
+fresh-blank p s fast long f slow low none =
     let e : f ≡ p + (f - p) = omega arith in
     ap (block (fast ++ replicate (64 * s) 0)) e ∙ slow-block p fast (replicate (64 * s) 0) long (f - p) ∙ zeros-at s (f - p) (omega arith)
 
-card : (room : ℕ) (file : List ℕ) (s : State) → length (s .fast) ≡ 64 * s .tables .shared .p → length (s .slow) ≡ 64 * s .tables .shared .s
-    → Blank s → NoneHeld (endOf room s (messagesOf file) .tables) → endOf room s (messagesOf file) .slow ≡ replicate (64 * s .tables .shared .s) 0
-card room file s fits-fast fits-slow blank none =
+pub card-cleared : (room : ℕ) (xs : List Sent) (s : State) → length (s .fast) ≡ 64 * s .tables .shared .p
+    → length (s .slow) ≡ 64 * s .tables .shared .s → Blank s → NoneHeld (endOf room s xs .tables)
+    → endOf room s xs .slow ≡ replicate (64 * s .tables .shared .s) 0
+card-cleared room xs s fits-fast fits-slow blank none =
     let p = s .tables .shared .p in
-    let t : State = endOf room s (messagesOf file) in
-    let same = end-frames room (messagesOf file) s in
+    let t : State = endOf room s xs in
+    let same = end-frames room xs s in
     let slow : t .tables .shared .p ≡ p = ap (λ (a : Shared). a .p) same in
     let all : t .tables .shared .s ≡ s .tables .shared .s = ap (λ (a : Shared). a .s) same in
-    let l = end-long room (messagesOf file) s in
+    let l = end-long room xs s in
     all-zeros (s .tables .shared .s) (t .slow) (l .1 ∙ fits-slow) (λ j h.
     sym (slow-block p (t .fast) (t .slow) (l .0 ∙ fits-fast) j)
-    ∙ stays room file s blank (p + j) (omega arith) (omega arith) (none (p + j) (omega arith) (omega arith)))
+    ∙ stays-blank room xs s blank (p + j) (omega arith) (omega arith) (none (p + j) (omega arith) (omega arith)))
 
 pub clean : Clean
 clean =
     record {
-      frames-cleared = λ room file s f low end. messages-clean room f (messagesOf file) s low end;
-      stays-blank = stays;
-      fresh-blank = fresh;
-      card-cleared = card;
+      runs = λ room file s.
+          record {
+            frames-cleared = λ f low end. messages-clean room f (messagesOf file) s low end;
+            stays-blank = stays-blank room (messagesOf file) s;
+            card-cleared = card-cleared room (messagesOf file) s;
+          };
+      fresh-blank = fresh-blank;
     }

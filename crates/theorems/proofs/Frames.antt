@@ -5,7 +5,7 @@ use mathlib.Core.Bool.{Bool, true, false}
 use mathlib.Core.List.{List, [], _∷_}
 use lib.ListN.{length}
 use lib.Dec.{ltb}
-use Rattle.tables.specs.Numbers.{shortSlip}
+use Rattle.tables.specs.Numbers.{shortBuffer}
 use Rattle.tables.specs.Changes.{after}
 use Rattle.steps.specs.declared.Call.{Call}
 use Rattle.steps.specs.Steps.{Outcome, refuse, accept, test, mapped, Plan, decideAny}
@@ -25,7 +25,7 @@ module _ (s : State) (P : State → Type 0) (here : P s) (by-call : (c : Call) (
   unfolding answer
   by-message room x = behind (ltb room 70) (respond s (asked x) (bytesOf x)) (by-parsed (asked x) (bytesOf x))
     where
-      behind : (b : Bool) (o : Outcome Result) → P (left s o) → P (left s (test b shortSlip o))
+      behind : (b : Bool) (o : Outcome Result) → P (left s o) → P (left s (test b shortBuffer o))
       behind true o h = here
       behind false o h = h
 

@@ -4,11 +4,13 @@ pub mod Owners
 pub mod Access
 pub mod Moves
 pub mod Frames
+pub mod Sound
 pub mod Induction
 pub mod Whole
 pub mod Caller
 pub mod Refusals
 pub mod Searched
+pub mod Together
 pub mod Clean
 pub mod Retired
 pub mod Written

@@ -9,7 +9,7 @@ use lib.ListN.{length}
 use lib.Dec.{ltb, eqb}
 use borrow.Author.Tests.{lt-ltb, ne-eqb}
 use Rattle.tables.specs.Lists.{all}
-use Rattle.tables.specs.Numbers.{accepted, shortSlip}
+use Rattle.tables.specs.Numbers.{accepted, shortBuffer}
 use Rattle.tables.proofs.ListLaws.{all-listed}
 use Rattle.steps.specs.Stores.{over}
 use Rattle.steps.specs.Steps.{Outcome, refuse, accept, test, numberOf}
@@ -32,15 +32,15 @@ responded s bs (bad {n} some own) = all-listed allowed ownNumbers n refl own
 responded s bs (good {c}) = step-number s c bs
 
 module _ (room : ℕ) (s : State) (x : Sent) where
-  answer-allowed : allowed (numberOf (answer room s x)) ≡ true
+  pub answer-allowed : allowed (numberOf (answer room s x)) ≡ true
   unfolding answer
   answer-allowed = behind (ltb room 70) (respond s (asked x) (bytesOf x)) (responded s (bytesOf x) (asked-known x))
     where
-      behind : (b : Bool) (o : Outcome Result) → allowed (numberOf o) ≡ true → allowed (numberOf (test b shortSlip o)) ≡ true
+      behind : (b : Bool) (o : Outcome Result) → allowed (numberOf o) ≡ true → allowed (numberOf (test b shortBuffer o)) ≡ true
       behind true o h = refl
       behind false o h = h
 
-  answer-short : room < 70 → numberOf (answer room s x) ≡ shortSlip
+  answer-short : room < 70 → numberOf (answer room s x) ≡ shortBuffer
   unfolding answer
   answer-short h = rw (lt-ltb room 70 h)
 
@@ -107,12 +107,12 @@ module _ (room : ℕ) where
       }
 
   -- each later turn finds what the one before it left
-  next-found : (xs : List Sent) (s : State) → next (turnsOf room s xs) (endOf room s xs) ≡ s
+  pub next-found : (xs : List Sent) (s : State) → next (turnsOf room s xs) (endOf room s xs) ≡ s
   unfolding turnsOf endOf
   next-found [] s = refl
   next-found (x ∷ xs) s = refl
 
-  turns-obey : (xs : List Sent) (s : State) → TurnsObey room (turnsOf room s xs) (replies room (turnsOf room s xs)) (endOf room s xs)
+  pub turns-obey : (xs : List Sent) (s : State) → TurnsObey room (turnsOf room s xs) (replies room (turnsOf room s xs)) (endOf room s xs)
   unfolding turnsOf endOf
   turns-obey [] s = tt
   turns-obey (x ∷ xs) s =

@@ -26,7 +26,7 @@ use Rattle.messages.specs.declared.Parsed.the-variants.{Refused, Asked}
 use Rattle.messages.specs.Replies.{reply}
 use Rattle.messages.specs.Run.{Sent, cut, whole, asked, bytesOf, respond, answer}
 use Rattle.messages.proofs.ParseLaws.{ownNumbers, Known, bad, good, asked-known, asked-by}
-use Rattle.stations.specs.Reader.{isReply}
+use Rattle.stations.specs.Reader.{isReply, readReply}
 use Rattle.stations.proofs.ReaderLaws.{formed-short, read-front, read-past, ReadEnds, read-ends, read-long, read-whole}
 use Rattle.theorems.specs.Stations.{OfKind, ReplyTold, RepliesTold, replyOf, replyAt, RepliesDiffer, PastUnread}
 
@@ -45,7 +45,7 @@ not-accepted : (n : ℕ) → listed n table ≡ true → eqb n 0 ≡ false
 unfolding all
 not-accepted n e = not-true (eqb n 0) (all-listed (λ (m : ℕ). not (eqb m 0)) table n refl e)
 
-told-at : (kind : ℕ) (o : Outcome Result) (rest : List ℕ) → isUnknown kind ≡ false → Tells kind o → ReplyTold kind (reply o ++ rest) o
+told-at : (kind : ℕ) (o : Outcome Result) (rest : List ℕ) → isUnknown kind ≡ false → Tells kind o → ReplyTold readReply kind (reply o ++ rest) o
 unfolding reply isReply part
 told-at kind (refuse n) rest u (if-refused row) =
     record {
@@ -77,7 +77,7 @@ tells-of room s x kind h k = rw (le-ltb room 70 h) (go (asked x) (asked-known x)
         subst (λ (q : Kind). IfAccepted (λ (r : Result). (formed (tells q) (r .data-out) ≡ true) × (r .laid ≤ 512)) (step s c (bytesOf x))) (k .same c e)
         (step-formed s c (bytesOf x))
 
-pub replies-told : RepliesTold
+pub replies-told : RepliesTold readReply
 replies-told room s x kind rest h k =
     rw (le-ltb room 70 h) (told-at kind (answer room s x) rest (k .known) (tells-of room s x kind h k))
 
@@ -92,7 +92,7 @@ of-cut kind e = record { known = e; same = λ c a. let z : _≡_ {A = ℕ} 0 1 =
 
 -- ---- two replies
 
-pub replies-differ : RepliesDiffer
+pub replies-differ : RepliesDiffer readReply
 replies-differ kind l l′ number laid start len start′ len′ b b′ e e′ p =
     let long = read-long kind l number laid start len e in
     let long′ = read-long kind l′ number laid start′ len′ e′ in
@@ -105,5 +105,5 @@ replies-differ kind l l′ number laid start len start′ len′ b b′ e e′ p
     whole-reply : (x : List ℕ) (s n : ℕ) → ReadEnds x (s + n) → replyAt x ≡ take (s + n) x
     whole-reply x s n d = ap (replyOf x) (d .found)
 
-pub past-unread : PastUnread
+pub past-unread : PastUnread readReply
 past-unread kind l rest start len next e = read-past kind l rest start len next e

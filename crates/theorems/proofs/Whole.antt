@@ -10,7 +10,7 @@ use borrow.Author.Tests.{le-ltb, eq-eqb, not-true}
 use Rattle.tables.specs.declared.Shared.{Shared}
 use Rattle.tables.specs.Lists.{all}
 use Rattle.tables.specs.Numbers.{nothingCurrent}
-use Rattle.tables.specs.Model.{freshPage, freshTables, noPageRecord, pageAt}
+use Rattle.tables.specs.Model.{freshPage, freshTables, zeroPage, pageAt}
 use Rattle.tables.proofs.ListLaws.{and-intro, all-listed}
 use Rattle.tables.proofs.FreshLaws.{fresh-sound}
 use Rattle.steps.specs.declared.Kind.{Kind}
@@ -21,9 +21,9 @@ use Rattle.steps.specs.Effects.{State, joined, step, left}
 use Rattle.steps.proofs.StepLaws.{Good, fit-lengths, page-stands, step-good}
 use Rattle.messages.specs.declared.Parsed.{Parsed}
 use Rattle.messages.specs.declared.Parsed.the-variants.{Refused, Asked}
-use Rattle.messages.specs.Run.{Sent, asked, bytesOf, respond, answer, messagesOf}
+use Rattle.messages.specs.Run.{Sent, asked, bytesOf, respond, answer, messagesOf, turnsOf, endOf}
 use Rattle.theorems.specs.Flat.{Flat, Slot, gone, here, slotAt, none, flatKind, react, reactTo, accepts}
-use Rattle.theorems.specs.Demand3.{flatAfter, answered, lacks, due, SameSlot, Demand3}
+use Rattle.theorems.specs.Demand3.{flatAfter, answered, lacks, due, SameSlot, AgreesOn, Demand3}
 use Rattle.messages.proofs.ParseLaws.{ownNumbers, Known, bad, asked-known}
 use Rattle.theorems.proofs.Agreement.{AlikeSlot, turned-back, ResultAgrees, says, eleven, leaves, ofKind, CallAgrees, carried-agrees, Inv}
 use Rattle.theorems.proofs.Owners.{create-agrees, delete-agrees, grant-agrees}
@@ -94,7 +94,7 @@ start-inv p s fast slow hp hs lp ls =
       good = record { tables-sound = fresh-sound p s hp hs; stores-fit = and-intro (eq-eqb _ _ lp) (eq-eqb _ _ ls) };
       same = record {
         long = refl;
-        alike = λ q h. rw (getD-replicate 64 q freshPage noPageRecord h, getD-replicate 64 q gone gone h) refl;
+        alike = λ q h. rw (getD-replicate 64 q freshPage zeroPage h, getD-replicate 64 q gone gone h) refl;
       };
     }
 
@@ -113,13 +113,17 @@ end-same s f i p h = go (slotAt f p) (i .same .alike p h)
       },
     )
 
-pub demand3 : Demand3
+-- of any messages, whatever file they stand in
+pub demand3-on : (room p s : ℕ) (fast slow : List ℕ) (xs : List Sent) → p ≤ 127 → s ≤ 127
+    → length fast ≡ 64 * p → length slow ≡ 64 * s → 70 ≤ room
+    → let s₀ : State = record { tables = freshTables p s; fast = fast; slow = slow } in
+    AgreesOn p s room xs (record { turns = turnsOf room s₀ xs; final = endOf room s₀ xs })
 unfolding freshTables
-demand3 p s fast slow out file hp hs lp ls h =
+demand3-on room p s fast slow xs hp hs lp ls h =
     let s₀ : State = record { tables = freshTables p s; fast = fast; slow = slow } in
-    let k = run-agrees Inv (length out) (λ f s′ x i. turn-agrees s′ f i (length out) h x) (messagesOf file) none s₀
+    let k = run-agrees Inv room (λ f s′ x i. turn-agrees s′ f i room h x) xs none s₀
     (start-inv p s fast slow hp hs lp ls) in
-    let same = end-frames (length out) (messagesOf file) s₀ in
+    let same = end-frames room xs s₀ in
     let long = fit-lengths _ _ _ (k .inv .good .stores-fit) in
     record {
       messages = k .messages;
@@ -131,3 +135,6 @@ demand3 p s fast slow out file hp hs lp ls h =
       slow-long = long .1 ∙ ap (λ (a : Shared). 64 * a .s) same;
       pages = end-same _ _ (k .inv);
     }
+
+pub demand3 : Demand3
+demand3 p s fast slow out file hp hs lp ls h = demand3-on (length out) p s fast slow (messagesOf file) hp hs lp ls h

@@ -9,6 +9,7 @@ use lib.Seq.{take-all, take-at, drop-at, drop-drop, length-take-le}
 use lib.Dec.{eqb}
 use borrow.Author.Tests.{ne-eqb, eqb-true, eqb-false, le-ltb, not-false}
 use Rattle.tables.proofs.ListLaws.{or-left, or-right}
+use Rattle.tables.specs.Numbers.{accepted}
 use Rattle.steps.specs.declared.Kind.{Kind}
 use Rattle.steps.specs.declared.Call.{Call}
 use Rattle.steps.specs.Kinds.{bytes, names, kindNumber, kindOf, has, leastLength, mostLength, callOf, values}
@@ -86,7 +87,7 @@ module _ (c : Call) (bs : List ℕ) (i : InRange c bs) where
       let size : n ≡ n / 256 % 256 * 256 + n % 256 = omega arith in
       record { message = m; sent = sent-front (n / 256 % 256) (n % 256) m rest size; same-call = parsed; same-bytes = bytes-kept }
 
-pub calls-kept : CallsKept
+pub calls-kept : CallsKept written
 calls-kept c bs out out′ r i h w =
     let a = left-by c bs i out out′ r h w in
     record {
@@ -154,14 +155,14 @@ sent-taken l m e few = go (nextAt l 0) refl e
     go Cut q p = let z : _≡_ {A = ℕ} 0 1 = cc in absurd (omega arith)
     go End q p = let z : _≡_ {A = ℕ} 0 1 = cc in absurd (omega arith)
 
-pub messages-kept : MessagesKept
+pub messages-kept : MessagesKept written
 messages-kept m l c out out′ r sent asked within h w =
     let a = asked-by m c asked in
     let is = again m c a in
     let bs = writeBytes m in
     let plain : named c ≡ c =
     subst (λ (d : Call). named d ≡ d) (a .call) (named-made (kindOf (getD m 1 0)) (drop 2 m) bs) in
-    let i : InRange c bs = subst (λ (d : Call). outside 254 (length bs) d ≡ false) (sym plain) within in
+    let i : InRange c bs = subst (λ (d : Call). outside 254 (length bs) d ≡ accepted) (sym plain) within in
     let same = ap length is in
     let short = body-short c bs i in
     let x = left-by c bs i out out′ r h w in

@@ -5,15 +5,16 @@ use mathlib.Core.Bool.{true, false}
 use mathlib.Core.List.{List, [], _∷_, _++_, map, flatten}
 use lib.ListN.{replicate, set}
 use Rattle.tables.specs.Lists.{all, count, allBelow}
-use Rattle.tables.specs.Model.{freshPage, freshTables}
-use Rattle.tables.specs.Rules.{uses, standingRule, absentRule, pageRule, alone, rightMarks, sound}
+use Rattle.tables.specs.Model.{retiredEntry, freeEntry, freshPage, freshTables}
+use Rattle.tables.specs.Rules.{uses, holders, standingRule, absentRule, pageRule, alone, sizesRule, pagesRule, sound}
 use Rattle.tables.specs.Search.{inCopies, inPages}
-use Rattle.tables.specs.Register.{rightRegister, vacated, occupied}
-use Rattle.tables.specs.Changes.{created, closeGap, changed, withMark, after}
-use Rattle.steps.specs.Stores.{part, splice, zeros, fits, layEach}
+use Rattle.tables.specs.Register.{registerRule, vacated, occupied}
+use Rattle.tables.specs.Changes.{created, closeGap, changed, withRetired, after}
+use Rattle.tables.specs.Keep.{unchanged}
+use Rattle.steps.specs.Stores.{part, splice, zeros, fits, framesOf, layAll}
 use Rattle.steps.specs.Kinds.{names, kinds, code, among, leastLength, mostLength, argument, callOf}
 use Rattle.steps.specs.Steps.{Outcome, firstCurrent, perform, decideOn}
-use Rattle.steps.specs.Effects.{entries, laidIn, shownOf, State, joined, Result, step}
+use Rattle.steps.specs.Effects.{entries, laidFrames, shownOf, State, joined, Result, step}
 use Rattle.messages.specs.Messages.{parse}
 use Rattle.messages.specs.Replies.{reply}
 use Rattle.messages.specs.Run.{Sent, split, messagesOf, turnsOf, endOf, answer, Run, run, replies}
@@ -43,12 +44,12 @@ file₁ =
 
 -- the run with the least reply buffer; to open it is to open all that it computes by
 unfoldable pub runOn : State → List ℕ → Run
-unfolding messagesOf split turnsOf endOf answer parse names kinds code among argument callOf step decideOn laidIn shownOf sound alone rightMarks allBelow all count uses pageRule standingRule absentRule fits freshTables freshPage after changed created closeGap inPages inCopies rightRegister vacated occupied perform firstCurrent entries layEach splice part reply
+unfolding messagesOf split turnsOf endOf answer parse names kinds code among argument callOf step decideOn laidFrames shownOf sound sizesRule pagesRule alone allBelow all count holders uses pageRule standingRule absentRule fits freshTables freshPage after changed unchanged created closeGap inPages inCopies registerRule vacated occupied perform firstCurrent entries framesOf layAll splice part reply
 runOn s file = run 70 file s
 
 -- one turn of it
 unfoldable pub rightTurn : State → Sent → Outcome Result
-unfolding answer parse names kinds code among argument callOf step decideOn laidIn shownOf sound alone rightMarks allBelow all count uses pageRule standingRule absentRule fits freshTables freshPage after changed created closeGap inPages inCopies rightRegister vacated occupied perform firstCurrent entries layEach splice part reply
+unfolding answer parse names kinds code among argument callOf step decideOn laidFrames shownOf sound sizesRule pagesRule alone allBelow all count holders uses pageRule standingRule absentRule fits freshTables freshPage after changed unchanged created closeGap inPages inCopies registerRule vacated occupied perform firstCurrent entries framesOf layAll splice part reply
 rightTurn s x = answer 70 s x
 
 abbrev pub repliesOf : State → List ℕ → List (List ℕ)
@@ -115,8 +116,8 @@ starred = refl
 
 -- ---- document 02, request [2]: what deletes lay and leave
 
--- Copies are made on frames 4 and 1; copy 0, which is on frame 0, is deleted; copy 2, which is none any more; the page, by a station that does
--- not own it and by its owner; page 6 is created and deleted with its null copy.
+-- Copies are made on frames 4 and 1; copy 0, which is on frame 0, is deleted; copy 2, which is none any more; the page,
+-- by a station that does not own it and by its owner; page 6 is created and deleted with its null copy.
 abbrev pub deleting : Case
 deleting =
     ((0 ∷ 5 ∷ 1 ∷ 6 ∷ 5 ∷ 0 ∷ 4 ∷ []) ∷ (0 ∷ 5 ∷ 1 ∷ 6 ∷ 5 ∷ 0 ∷ 1 ∷ []) ∷ (0 ∷ 4 ∷ 1 ∷ 7 ∷ 5 ∷ 0 ∷ []) ∷ (0 ∷ 4 ∷ 1 ∷ 7 ∷ 5 ∷ 2 ∷ [])
@@ -150,9 +151,9 @@ eight-replies = refl
 
 -- ---- document 02, request [5]: retired frames
 
--- Frame 7, the last one, is retired and looked at; a copy is made on it, of copy 0 and of a copy that the page does not have; it is retired again;
--- frame 0, which is held, and frame 8 are to be retired; page 6 is created and its null copy brought to frame 7; page 5 is deleted, and frames 7
--- and 0 are looked at; a retire that is too long, and kind 13.
+-- Frame 7, the last one, is retired and looked at; a copy is made on it, of copy 0 and of a copy that the page does not
+-- have; it is retired again; frame 0, which is held, and frame 8 are to be retired; page 6 is created and its null copy
+-- brought to frame 7; page 5 is deleted, and frames 7 and 0 are looked at; a retire that is too long, and kind 13.
 abbrev pub retiring : Case
 retiring =
     ((0 ∷ 3 ∷ 1 ∷ 0xC ∷ 7 ∷ []) ∷ (0 ∷ 3 ∷ 1 ∷ 0xB ∷ 7 ∷ []) ∷ (0 ∷ 5 ∷ 1 ∷ 6 ∷ 5 ∷ 0 ∷ 7 ∷ []) ∷ (0 ∷ 5 ∷ 1 ∷ 6 ∷ 5 ∷ 1 ∷ 7 ∷ [])
@@ -166,8 +167,10 @@ pub retiring-replies : repliesOf state₀ (fileOf retiring) ≡ replies₁ ++ re
 unfolding runOn flatten
 retiring-replies = refl
 
--- one mark, and of the stores only frame 0 is other than at the start: the delete cleared it
-pub retiring-leaves : (runOn state₀ (fileOf retiring) .final .tables .retired ≡ set (replicate 254 false) 7 true)
+-- frame 7 is retired, every other one free, and of the stores only frame 0 is other than at the start: the delete
+-- cleared it
+pub retiring-leaves :
+    (runOn state₀ (fileOf retiring) .final .tables .register ≡ set (replicate 254 freeEntry) 7 retiredEntry)
     × (joined (runOn state₀ (fileOf retiring) .final) ≡ (zeros ++ replicate 192 0xEE) ++ replicate 256 0xDD)
 unfolding runOn flatten
 retiring-leaves = (refl, refl)
@@ -185,10 +188,10 @@ pub ninth-replies : repliesOf stateNine (fileOf retiringNinth) ≡ replies₁ ++
 unfolding runOn flatten
 ninth-replies = refl
 
--- of the tables that the worked example leaves: a mark on the last frame, past it, and on the frame of the copy
-pub marks-tested : map (λ (f : ℕ). sound (withMark (runOn state₀ file₁ .final .tables) f)) (7 ∷ 8 ∷ 253 ∷ 0 ∷ []) ≡ (true ∷ false ∷ false ∷ false ∷ [])
-unfolding runOn sound alone rightMarks allBelow all count uses pageRule standingRule absentRule rightRegister inPages inCopies
-marks-tested = refl
+-- of the tables that the worked example leaves: the last frame retired, one past it, and the frame of the copy
+pub retired-tested : map (λ (f : ℕ). sound (withRetired (runOn state₀ file₁ .final .tables) f)) (7 ∷ 8 ∷ 253 ∷ 0 ∷ []) ≡ (true ∷ false ∷ false ∷ false ∷ [])
+unfolding runOn sound sizesRule pagesRule alone allBelow all count holders uses pageRule standingRule absentRule registerRule inPages inCopies
+retired-tested = refl
 
 -- ---- the flat memory beside the worked example, a read answered 11 after it and a delete by another station
 

@@ -1,5 +1,5 @@
--- Document 02, request [2]: "the mills' rule on withdrawn media now wants deleted records gone". What a run leaves in the frames that no
--- copy has at its end.
+-- Document 02, request [2]: "the mills' rule on withdrawn media now wants deleted records gone". What a run leaves in
+-- the frames that no copy has at its end.
 use Prim.Native.Nat.{ℕ, _*_, _≤_, _<_}
 use mathlib.Core.Path.{_≡_}
 use mathlib.Core.Bool.{Bool, false, not, _||_, cond}
@@ -8,22 +8,22 @@ use lib.ListN.{length, replicate}
 use lib.Dec.{eqb}
 use Rattle.tables.specs.declared.Tables.{Tables}
 use Rattle.tables.specs.Model.{frames, freshTables}
-use Rattle.tables.specs.Rules.{uses}
+use Rattle.tables.specs.Rules.{holders}
 use Rattle.steps.specs.Stores.{block, zeros}
 use Rattle.steps.specs.Effects.{State, joined}
 use Rattle.messages.specs.Run.{Turn, Run, run}
 
 -- a copy has frame f
 abbrev pub isHeld : Tables → ℕ → Bool
-isHeld t f = not (eqb (uses f (t .pages)) 0)
+isHeld t f = not (eqb (holders t f) 0)
 
 -- held in a state that one of the turns found
 abbrev pub everHeld : List Turn → ℕ → Bool
 everHeld [] f = false
 everHeld (t ∷ ts) f = isHeld (t .found .tables) f || everHeld ts f
 
--- After a run r from state s a frame that is not held at the end holds 64 zeros if it was held at any time, and else the bytes that it began
--- with. Only frames in range: 255 would ask for null copies.
+-- After a run r from state s a frame that is not held at the end holds 64 zeros if it was held at any time, and else
+-- the bytes that it began with. Only frames in range: 255 would ask for null copies.
 abbrev pub Cleared : State → Run → Type 0
 Cleared s r =
     (f : ℕ) → f < frames (s .tables) → isHeld (r .final .tables) f ≡ false
@@ -41,15 +41,18 @@ Blank s = EachSlow (s .tables) (λ f. isHeld (s .tables) f ≡ false → block (
 abbrev pub NoneHeld : Tables → Type 0
 NoneHeld t = EachSlow t (λ f. isHeld t f ≡ false)
 
+-- of a run r from state s
+pub record LeftClean (s : State) (r : Run) : Type 0 where
+  pub frames-cleared : Cleared s r
+  -- so a card that is blank stays so, from one run to the next
+  pub stays-blank : Blank s → Blank (r .final)
+  -- and one that is blank at the start, and that no copy has at the end, is all zeros there, if the stores fit
+  pub card-cleared : length (s .fast) ≡ 64 * s .tables .shared .p → length (s .slow) ≡ 64 * s .tables .shared .s
+      → Blank s → NoneHeld (r .final .tables) → r .final .slow ≡ replicate (64 * s .tables .shared .s) 0
+
 pub record Clean : Type 0 where
   -- of any file, with a reply buffer of any length, on any tables and stores
-  pub frames-cleared : (room : ℕ) (file : List ℕ) (s : State) → Cleared s (run room file s)
-  -- so a card that is blank stays so, from one run to the next
-  pub stays-blank : (room : ℕ) (file : List ℕ) (s : State) → Blank s → Blank (run room file s .final)
-  -- one of zeros is blank where the tables are fresh
+  pub runs : (room : ℕ) (file : List ℕ) (s : State) → LeftClean s (run room file s)
+  -- a card of zeros is blank where the tables are fresh
   pub fresh-blank : (p s : ℕ) (fast : List ℕ) → length fast ≡ 64 * p
       → Blank (record { tables = freshTables p s; fast = fast; slow = replicate (64 * s) 0 })
-  -- and one that is blank at the start, and that no copy has at the end, is all zeros there, if the stores fit
-  pub card-cleared : (room : ℕ) (file : List ℕ) (s : State) → length (s .fast) ≡ 64 * s .tables .shared .p
-      → length (s .slow) ≡ 64 * s .tables .shared .s → Blank s → NoneHeld (run room file s .final .tables)
-      → run room file s .final .slow ≡ replicate (64 * s .tables .shared .s) 0

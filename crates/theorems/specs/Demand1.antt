@@ -1,5 +1,6 @@
--- Demand 1: any message is answered with 0 or a number of the table; a refused one changes nothing and gets the fixed reply.
--- It is said of what the code gives: of whatever meets the contracts of `answer` and `count`, and of the turns and replies of a run.
+-- Demand 1: any message is answered with 0 or a number of the table; a refused one changes nothing and gets the fixed
+-- reply. It is said of what the code gives: of whatever meets the contracts of `answer` and `count`, and of the turns
+-- and replies of a run.
 use Prim.Native.Nat.{ℕ, _≤_, _<_}
 use mathlib.Core.Path.{_≡_}
 use mathlib.Core.Bool.{Bool, true, not, cond}
@@ -9,7 +10,7 @@ use lib.ListN.{length}
 use lib.Dec.{ltb, eqb}
 use Rattle.tables.specs.declared.Tables.{Tables}
 use Rattle.tables.specs.Lists.{listed}
-use Rattle.tables.specs.Numbers.{accepted, shortSlip, table}
+use Rattle.tables.specs.Numbers.{accepted, shortBuffer, table}
 use Rattle.steps.specs.Stores.{over}
 use Rattle.steps.specs.Steps.{numberOf}
 use Rattle.steps.specs.Effects.{State}
@@ -44,7 +45,7 @@ refusedOnce n = record { messages = upTo (n .messages) 1; refusals = upTo (n .re
 pub record Obeys (b : Loan) (r : Answered) (a : Loan) : Type 0 where
   pub in-table : allowed (r .number) ≡ true
   -- 18 before all others
-  pub short : length (b .out) < 70 → r .number ≡ shortSlip
+  pub short : length (b .out) < 70 → r .number ≡ shortBuffer
   -- "Tables and stores remain exactly as they were in every row."
   pub unchanged : r .number ≢ accepted → a .state ≡ b .state
   pub none-laid : r .number ≢ accepted → r .laid ≡ 0
@@ -53,7 +54,8 @@ pub record Obeys (b : Loan) (r : Answered) (a : Loan) : Type 0 where
   pub fixed : r .number ≢ accepted → a .out ≡ over (refusalIn (length (b .out)) (r .number)) (b .out)
   pub len-fixed : r .number ≢ accepted → r .len ≡ length (refusalIn (length (b .out)) (r .number))
 
--- A tally's numbers are at most 4294967295. The tally is brought up to date with the number and the bytes laid that were told.
+-- A tally's numbers are at most 4294967295. The tally is brought up to date with the number and the bytes laid that
+-- were told.
 abbrev pub OneMessage : Type 0
 OneMessage =
     (t : Tables) (fast slow message out fast′ slow′ out′ : List ℕ) (n n′ : Tally) (r : Answered) → n .laid ≤ 4294967295
@@ -67,7 +69,7 @@ OneMessage =
 -- of a turn t with a reply buffer of `room` bytes, its reply, and the state after it
 pub record TurnObeys (room : ℕ) (t : Turn) (reply : List ℕ) (after : State) : Type 0 where
   pub in-table : allowed (numberOf (t .outcome)) ≡ true
-  pub short : room < 70 → numberOf (t .outcome) ≡ shortSlip
+  pub short : room < 70 → numberOf (t .outcome) ≡ shortBuffer
   pub unchanged : numberOf (t .outcome) ≢ accepted → after ≡ t .found
   pub fixed : numberOf (t .outcome) ≢ accepted → reply ≡ refusalIn room (numberOf (t .outcome))
 

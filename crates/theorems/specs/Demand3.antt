@@ -1,7 +1,7 @@
 -- Demand 3: the flat memory beside a run.
 use Prim.Native.Nat.{ℕ, _*_, _≤_, _<_}
 use mathlib.Core.Path.{_≡_}
-use mathlib.Core.Bool.{Bool, true, false, not, _&&_, cond}
+use mathlib.Core.Bool.{Bool, true, false, not, _&&_, _||_, cond}
 use mathlib.Core.List.{List, [], _∷_, _++_, map}
 use lib.ListN.{length, drop, getD}
 use lib.Dec.{eqb}
@@ -13,7 +13,7 @@ use Rattle.tables.specs.Numbers.{nothingCurrent}
 use Rattle.tables.specs.Model.{inUse, absent, pageAt, freshTables}
 use Rattle.tables.specs.Rules.{isRecent}
 use Rattle.steps.specs.declared.Call.{Call}
-use Rattle.steps.specs.Kinds.{offset, has}
+use Rattle.steps.specs.Kinds.{kindNumber}
 use Rattle.steps.specs.Stores.{held}
 use Rattle.steps.specs.Steps.{currents}
 use Rattle.steps.specs.Effects.{State, joined}
@@ -40,8 +40,8 @@ abbrev pub elevens : ℕ → List Turn → List Bool
 elevens room ts = map (eleven room) ts
 
 -- ---- the flat memory beside the messages xs of a file, of which those that es marks were answered 11
--- "It gets the messages of the file in order. Messages that the kernel answers 11 are kept from it; nothing else of the kernel's
--- answers or tables reaches it."
+-- "It gets the messages of the file in order. Messages that the kernel answers 11 are kept from it; nothing else of the
+-- kernel's answers or tables reaches it."
 
 abbrev pub reaction : Flat → Sent → Reaction
 reaction f x = reactTo f (asked x) (bytesOf x)
@@ -76,9 +76,9 @@ runAnswers room (t ∷ ts) =
 
 -- ---- number 11 exactly where the flat memory would accept and nothing is current
 
--- a read or write, which are the calls that name an offset, of a page with no CURRENT copy
+-- "11: read or write, no CURRENT copy": kinds 4 and 5
 abbrev pub lacks : Tables → Call → Bool
-lacks t c = has offset (c .kind) && eqb (currents (pageAt t (c .page))) 0
+lacks t c = (eqb (kindNumber (c .kind)) 4 || eqb (kindNumber (c .kind)) 5) && eqb (currents (pageAt t (c .page))) 0
 
 abbrev pub due : Flat → State → Parsed → List ℕ → Bool
 due f s (Refused n) bs = false
@@ -108,12 +108,12 @@ SameSlot st g (here b) = (absent g ≡ false) × SamePage st g b
 
 -- ---- the one theorem
 
--- of a run r over the file, with P = p, S = s and a reply buffer of `room` bytes
-pub record Agrees (p s room : ℕ) (file : List ℕ) (r : Run) : Type 0 where
-  -- a turn for each message of the file, in order
-  pub messages : map sentIn (r .turns) ≡ messagesOf file
+-- of a run r over the messages xs, with P = p, S = s and a reply buffer of `room` bytes
+pub record AgreesOn (p s room : ℕ) (xs : List Sent) (r : Run) : Type 0 where
+  -- a turn for each message, in order
+  pub messages : map sentIn (r .turns) ≡ xs
   -- "Two lists, in the file's order, are equal"
-  pub answers : flatAnswers none (messagesOf file) (elevens room (r .turns)) ≡ runAnswers room (r .turns)
+  pub answers : flatAnswers none xs (elevens room (r .turns)) ≡ runAnswers room (r .turns)
   -- 11 exactly where it is due
   pub elevens-due : elevens room (r .turns) ≡ dues room none (r .turns)
   -- P, S and the lengths of the stores stay, so that frame f is the f-th block of both together
@@ -123,9 +123,14 @@ pub record Agrees (p s room : ℕ) (file : List ℕ) (r : Run) : Type 0 where
   pub slow-long : length (r .final .slow) ≡ 64 * s
   pub pages : (q : ℕ) → q < 64
       → SameSlot (joined (r .final)) (pageAt (r .final .tables) q)
-      (slotAt (flatEnd none (messagesOf file) (elevens room (r .turns))) q)
+      (slotAt (flatEnd none xs (elevens room (r .turns))) q)
 
--- "The file is of any length"; "fresh tables of any P and S in range"; "The stores' bytes may be anything", and so may the reply buffer's
+-- over those of a file
+abbrev pub Agrees : ℕ → ℕ → ℕ → List ℕ → Run → Type 0
+Agrees p s room file r = AgreesOn p s room (messagesOf file) r
+
+-- "The file is of any length"; "fresh tables of any P and S in range"; "The stores' bytes may be anything", and so may
+-- the reply buffer's
 abbrev pub Demand3 : Type 0
 Demand3 =
     (p s : ℕ) (fast slow out file : List ℕ) → p ≤ 127 → s ≤ 127 → length fast ≡ 64 * p → length slow ≡ 64 * s → 70 ≤ length out

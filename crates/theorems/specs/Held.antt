@@ -1,4 +1,5 @@
--- Demand 3 as a caller of `fill` holds it: what it took out of its reply buffers, and the tables, stores and tally that it has at the end.
+-- Demand 3 as a caller of `fill` holds it: what it took out of its reply buffers, and the tables, stores and tally that
+-- it has at the end.
 use Prim.Native.Nat.{ℕ, _*_, _≤_}
 use mathlib.Core.Path.{_≡_}
 use mathlib.Core.Bool.{Bool, not, _&&_, cond}
@@ -49,7 +50,8 @@ pub record Held (p s : ℕ) (file : List ℕ) (s₀ : State) (n : Tally) (ks : L
   pub tally-held : tallyLeft n ks ≡ tally (r .turns) n
   pub agrees : Agrees p s 70 file r
 
--- from fresh tables of any P and S in range, with buffers of any lengths from 70 on, where the calls came to the file's end
+-- from fresh tables of any P and S in range, with buffers of any lengths from 70 on, where the calls came to the file's
+-- end
 abbrev pub Demand3Held : Type 0
 Demand3Held =
     (p s : ℕ) (fast slow file : List ℕ) (n : Tally) (ks : List FillCall) → p ≤ 127 → s ≤ 127 → length fast ≡ 64 * p → length slow ≡ 64 * s

@@ -1,5 +1,5 @@
--- Document 01, "Try these impostors": wrong kernels beside the right one on the worked example, computed.
--- Each differs from the definitions that the contracts cite (demand 2), and where demand 3 sees it too, it is shown there.
+-- Document 01, "Try these impostors": wrong kernels beside the right one on the worked example, computed. Each differs
+-- from the definitions that the contracts cite (demand 2), and where demand 3 sees it too, it is shown there.
 use Prim.Native.Nat.{ℕ}
 use mathlib.Core.Path.{_≡_, refl, ap}
 use mathlib.Core.Bool.{Bool, true, false, _&&_, cond, false≢true}
@@ -8,8 +8,8 @@ use lib.ListN.{length, take, drop, getD, replicate}
 use lib.Dec.{eqb}
 use Rattle.tables.specs.Lists.{count, countBelow}
 use Rattle.tables.specs.Numbers.{noPage, nothingCurrent}
-use Rattle.tables.specs.Model.{retiredAt, absent, inUse, pageAt, freshTables}
-use Rattle.tables.specs.Rules.{uses, free}
+use Rattle.tables.specs.Model.{freeEntry, isRetiredEntry, retiredAt, absent, inUse, pageAt, freshTables, withPages}
+use Rattle.tables.specs.Rules.{uses, holders, free}
 use Rattle.steps.specs.declared.Call.{Call}
 use Rattle.steps.specs.Kinds.{offset, bytes, copy, frame, names, kinds, code, among, has, argument, callOf}
 use Rattle.steps.specs.Stores.{part, splice, block, lay, zeros}
@@ -22,7 +22,7 @@ use Rattle.messages.specs.Replies.{reply}
 use Rattle.messages.specs.Run.{Sent, cut, whole, split, messagesOf, asked, Turn, bytesOf}
 use Rattle.theorems.specs.Flat.{none, reactAs, reactTo, Answer}
 use Rattle.theorems.specs.Demand3.{sentIn, elevens, flatAfter, flatAnswers, runAnswers, dues}
-use Rattle.theorems.specs.Retired.{threeNumbers, everRetired, onlyMarked}
+use Rattle.theorems.specs.Retired.{threeNumbers, everRetired, onlyRetired}
 use Rattle.theorems.specs.Cases.{state₀, file₁, replies₁, rightTurn}
 
 -- what answers a message
@@ -58,7 +58,7 @@ except picked wrong s x (Asked c) = cond (picked c) (wrong c) (rightTurn s x)
 
 -- acknowledged, and nothing done
 abbrev pub acknowledged : State → ℕ → Outcome Result
-acknowledged s laid = accept (record { state = s; laid = laid; data-out = [] })
+acknowledged s laid = accept (record { state = s; moved = false; laid = laid; data-out = [] })
 
 -- ---- says "nothing current" before looking: 11 for every read and write
 
@@ -137,7 +137,7 @@ dropping-replies = refl
 
 abbrev pub inflated : Outcome Result → Outcome Result
 inflated (refuse n) = refuse n
-inflated (accept r) = accept (record { state = r .state; laid = 1; data-out = r .data-out })
+inflated (accept r) = accept (record { state = r .state; moved = r .moved; laid = 1; data-out = r .data-out })
 
 abbrev pub inventing : Kernel
 inventing s x = inflated (rightTurn s x)
@@ -170,7 +170,8 @@ pub early-messages : map sentIn earlyTurns ≡ messagesOf file₁ → ⊥
 unfolding turnsBy messagesOf split rightTurn parse names kinds code among argument callOf
 early-messages e = false≢true (ap (λ (l : List Sent). eqb (length l) 6) e)
 
--- one that stops at a message that is turned back by its own bytes: here L is 0, and the worked example after it is lost
+-- one that stops at a message that is turned back by its own bytes: here L is 0, and the worked example after it is
+-- lost
 abbrev pub unlessRefused : Parsed → List Sent → List Sent
 unlessRefused (Refused n) xs = []
 unlessRefused (Asked c) xs = xs
@@ -195,6 +196,7 @@ withStores (refuse n) st p = refuse n
 withStores (accept r) st p =
     accept (record {
       state = record { tables = r .state .tables; fast = take p st; slow = drop p st };
+      moved = r .moved;
       laid = r .laid;
       data-out = r .data-out;
     })
@@ -248,8 +250,8 @@ sends kind (whole m) = eqb (getD m 1 0) kind
 abbrev pub deletingTo : (State → Outcome Result → List ℕ) → Kernel
 deletingTo stores s x = cond (sends 2 x) (withStores (rightTurn s x) (stores s (rightTurn s x)) (length (s .fast))) (rightTurn s x)
 
--- With P = 2 and S = 1, page 5 is made, copied to frame 0, set current and written, so that its bytes begin with 9; it is copied to frame 2, and
--- deleted.
+-- With P = 2 and S = 1, page 5 is made, copied to frame 0, set current and written, so that its bytes begin with 9; it
+-- is copied to frame 2, and deleted.
 abbrev pub state₄ : State
 state₄ = record { tables = freshTables 2 1; fast = replicate 128 0xEE; slow = replicate 64 0xDD }
 
@@ -306,7 +308,8 @@ remaining-unseen = refl
 
 -- ---- document 02, request [5]: wrong retires
 
--- Page 5 is made and copied to frame 0; frame 1 is retired, and frame 0, which is held, is to be; then the page is deleted.
+-- Page 5 is made and copied to frame 0; frame 1 is retired, and frame 0, which is held, is to be; then the page is
+-- deleted.
 abbrev pub retiring : List Sent
 retiring =
     whole (1 ∷ 1 ∷ 3 ∷ 5 ∷ []) ∷ whole (1 ∷ 6 ∷ 5 ∷ 0 ∷ 0 ∷ []) ∷ whole (1 ∷ 0xC ∷ 1 ∷ []) ∷ whole (1 ∷ 0xC ∷ 0 ∷ []) ∷ []
@@ -314,19 +317,19 @@ retiring =
 abbrev pub retiringAll : List Sent
 retiringAll = retiring ++ (whole (1 ∷ 2 ∷ 3 ∷ 5 ∷ []) ∷ [])
 
--- which frames are retired at the end, and which `marks-told` says
-abbrev pub marksBy : Kernel → List Bool
-marksBy k = map (λ f. retiredAt (endBy k state₄ retiringAll .tables) f) (0 ∷ 1 ∷ 2 ∷ [])
+-- which frames are retired at the end, and which `retired-told` says
+abbrev pub retiredBy : Kernel → List Bool
+retiredBy k = map (λ f. retiredAt (endBy k state₄ retiringAll .tables) f) (0 ∷ 1 ∷ 2 ∷ [])
 
 abbrev pub toldBy : Kernel → List Bool
 toldBy k = map (λ f. everRetired (turnsBy k state₄ retiringAll) f) (0 ∷ 1 ∷ 2 ∷ [])
 
-pub right-marks : (marksBy rightTurn ≡ (false ∷ true ∷ false ∷ [])) × (toldBy rightTurn ≡ (false ∷ true ∷ false ∷ []))
+pub right-retired : (retiredBy rightTurn ≡ (false ∷ true ∷ false ∷ [])) × (toldBy rightTurn ≡ (false ∷ true ∷ false ∷ []))
 unfolding endBy turnsBy rightTurn parse names kinds code among argument callOf
-right-marks = (refl, refl)
+right-retired = (refl, refl)
 
 pub right-numbers : threeNumbers (endBy rightTurn state₄ retiring .tables) ≡ 3
-unfolding endBy rightTurn free countBelow count uses
+unfolding endBy rightTurn free countBelow count holders uses
 right-numbers = refl
 
 -- "the mark lost when a page is deleted"
@@ -339,17 +342,18 @@ forgetting s x = cond (sends 2 x) (forget (rightTurn s x)) (rightTurn s x)
         let t = r .state .tables in
         accept (record {
           state = record {
-            tables = record { shared = t .shared; pages = t .pages; register = t .register; retired = replicate 254 false };
+            tables = withPages t (t .pages) (map (λ (e : ℕ). cond (isRetiredEntry e) freeEntry e) (t .register));
             fast = r .state .fast;
             slow = r .state .slow;
           };
+          moved = r .moved;
           laid = r .laid;
           data-out = r .data-out;
         })
 
-pub forgetting-marks : (marksBy forgetting ≡ (false ∷ false ∷ false ∷ [])) × (toldBy forgetting ≡ (false ∷ true ∷ false ∷ []))
+pub forgetting-retired : (retiredBy forgetting ≡ (false ∷ false ∷ false ∷ [])) × (toldBy forgetting ≡ (false ∷ true ∷ false ∷ []))
 unfolding endBy turnsBy rightTurn parse names kinds code among argument callOf
-forgetting-marks = (refl, refl)
+forgetting-retired = (refl, refl)
 
 -- "a held frame retired": of three frames one is free, one held and two are retired
 abbrev pub greedy : Kernel
@@ -357,8 +361,8 @@ greedy s x = cond (sends 0xC x) (mark x) (rightTurn s x)
   where
     mark : Sent → Outcome Result
     mark cut = refuse 1
-    mark (whole m) = accept (onlyMarked s (getD m 2 0))
+    mark (whole m) = accept (onlyRetired s (getD m 2 0))
 
 pub greedy-numbers : threeNumbers (endBy greedy state₄ retiring .tables) ≡ 4
-unfolding endBy rightTurn free countBelow count uses
+unfolding endBy rightTurn free countBelow count holders uses
 greedy-numbers = refl

@@ -4,10 +4,17 @@ pub mod Demand3
 pub mod Held
 pub mod Clean
 pub mod Searched
+pub mod Sound
+pub mod Together
 pub mod Retired
 pub mod Stations
 pub mod Cases
+pub mod Borders
 pub mod StationCases
 pub mod Impostors
 pub mod Witness3
 pub mod Witness1
+pub mod WitnessClean
+pub mod WitnessRetired
+pub mod WitnessStations
+pub mod WitnessHeld

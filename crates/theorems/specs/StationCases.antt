@@ -31,7 +31,8 @@ pub messages-written :
 unfolding write
 messages-written = refl
 
--- frames 254 and 255, also to be retired; station 16, page 64, right 3; a read of nothing and one past the page; a write of no byte and one of 65; kinds 0 and 13
+-- frames 254 and 255, also to be retired; station 16, page 64, right 3; a read of nothing and one past the page; a
+-- write of no byte and one of 65; kinds 0 and 13
 pub calls-refused :
     (write 11 (254 ∷ []) [] ∷ write 12 (254 ∷ []) [] ∷ write 6 (5 ∷ 0 ∷ 255 ∷ []) [] ∷ write 1 (16 ∷ 5 ∷ []) [] ∷ write 10 (64 ∷ []) [] ∷ write 3 (3 ∷ 5 ∷ 4 ∷ 3 ∷ []) []
     ∷ write 4 (3 ∷ 5 ∷ 0 ∷ 0 ∷ []) [] ∷ write 4 (3 ∷ 5 ∷ 63 ∷ 2 ∷ []) [] ∷ write 5 (3 ∷ 5 ∷ 0 ∷ []) [] ∷ write 5 (3 ∷ 5 ∷ 0 ∷ []) (replicate 65 7)
@@ -51,7 +52,8 @@ unfoldable pub read : ℕ → List ℕ → Reading
 unfolding readReply nextAt part isReply formed eachIs kinds tells
 read kind l = readReply kind l
 
--- accepted: a creation, a refusal carrying 1, 18, 19 and 20, a retirement, a read, a look at a page and one at a frame, bytes laid of any kind, bytes past the reply
+-- accepted: a creation, a refusal carrying 1, 18, 19 and 20, a retirement, a read, a look at a page and one at a frame,
+-- bytes laid of any kind, bytes past the reply
 pub replies-read :
     (read 1 (0 ∷ 4 ∷ 1 ∷ 0 ∷ 0 ∷ 0 ∷ []) ∷ read 4 (0 ∷ 4 ∷ 1 ∷ 1 ∷ 0 ∷ 0 ∷ []) ∷ read 4 (0 ∷ 4 ∷ 1 ∷ 18 ∷ 0 ∷ 0 ∷ []) ∷ read 4 (0 ∷ 4 ∷ 1 ∷ 19 ∷ 0 ∷ 0 ∷ [])
     ∷ read 6 (0 ∷ 4 ∷ 1 ∷ 20 ∷ 0 ∷ 0 ∷ []) ∷ read 12 (0 ∷ 4 ∷ 1 ∷ 0 ∷ 0 ∷ 0 ∷ [])
@@ -61,7 +63,8 @@ pub replies-read :
 unfolding read
 replies-read = refl
 
--- 1: no byte, one byte, a cut reply even of an unknown kind; 2: L is 0, a foreign version of an unknown kind; 3: an unknown kind
+-- 1: no byte, one byte, a cut reply even of an unknown kind; 2: L is 0, a foreign version of an unknown kind; 3: an
+-- unknown kind
 pub early-refused :
     (read 1 [] ∷ read 1 (0 ∷ []) ∷ read 13 (0 ∷ 4 ∷ 1 ∷ 0 ∷ 0 ∷ []) ∷ read 1 (0 ∷ 0 ∷ []) ∷ read 13 (0 ∷ 4 ∷ 2 ∷ 0 ∷ 0 ∷ 0 ∷ [])
     ∷ read 13 (0 ∷ 4 ∷ 1 ∷ 0 ∷ 0 ∷ 0 ∷ []) ∷ read 0 (0 ∷ 1 ∷ 1 ∷ []) ∷ [])
@@ -69,8 +72,9 @@ pub early-refused :
 unfolding read
 early-refused = refl
 
--- 4: L of 1 and of 3; data where the kind has none, as for a retirement; number 21; a refusal with bytes laid, and one with data; a read of no byte; looks at a page
--- with n of 0, with a byte too many, and with a CURRENT and a MOST RECENT byte of 2; a look at a frame with two bytes
+-- 4: L of 1 and of 3; data where the kind has none, as for a retirement; number 21; a refusal with bytes laid, and one
+-- with data; a read of no byte; looks at a page with n of 0, with a byte too many, and with a CURRENT and a MOST RECENT
+-- byte of 2; a look at a frame with two bytes
 pub forms-refused :
     (read 1 (0 ∷ 1 ∷ 1 ∷ []) ∷ read 1 (0 ∷ 3 ∷ 1 ∷ 0 ∷ 0 ∷ []) ∷ read 1 (0 ∷ 5 ∷ 1 ∷ 0 ∷ 0 ∷ 0 ∷ 7 ∷ []) ∷ read 1 (0 ∷ 4 ∷ 1 ∷ 21 ∷ 0 ∷ 0 ∷ [])
     ∷ read 12 (0 ∷ 7 ∷ 1 ∷ 0 ∷ 0 ∷ 0 ∷ 2 ∷ 255 ∷ 255 ∷ [])

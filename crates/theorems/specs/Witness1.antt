@@ -1,4 +1,5 @@
--- Demand 1: for each field of `Obeys`, `TurnObeys` and `RunObeys` a wrong answer or turn that this field rules out and no other does, computed.
+-- Demand 1: for each field of `Obeys`, `TurnObeys` and `RunObeys` a wrong answer or turn that this field rules out and
+-- no other does, and the numbers that it allows, computed.
 use Prim.Native.Nat.{ℕ, _<_}
 use mathlib.Core.Path.{_≡_, refl, ap}
 use mathlib.Core.Bool.{true, false, false≢true, true≢false}
@@ -7,9 +8,10 @@ use mathlib.Core.Logic.{_≢_}
 use native.Mathlib.Omega.{arith}
 use lib.ListN.{length, getD, set, replicate}
 use lib.Dec.{eqb}
-use Rattle.tables.specs.Numbers.{accepted, shortSlip}
+use Rattle.tables.specs.Lists.{allBelow, countBelow}
+use Rattle.tables.specs.Numbers.{accepted, shortBuffer}
 use Rattle.tables.specs.Model.{absent, freshPage, freshTables, pageAt}
-use Rattle.tables.specs.Changes.{created}
+use Rattle.tables.specs.Changes.{created, after}
 use Rattle.steps.specs.Stores.{over}
 use Rattle.steps.specs.Steps.{refuse, numberOf}
 use Rattle.steps.specs.Effects.{State}
@@ -56,7 +58,7 @@ module _ (w : Tried) where
 
   abbrev pub Tells : Part → Type 0
   Tells in-table = allowed (w .told .number) ≡ true
-  Tells short = length (w .before .out) < 70 → w .told .number ≡ shortSlip
+  Tells short = length (w .before .out) < 70 → w .told .number ≡ shortBuffer
   Tells unchanged = refused → w .after .state ≡ w .before .state
   Tells none-laid = refused → w .told .laid ≡ 0
   Tells tallied = refused → w .after .tally ≡ refusedOnce (w .before .tally)
@@ -183,7 +185,7 @@ module _ (w : Taken) where
 
   abbrev pub TurnTells : TurnPart → Type 0
   TurnTells turn-in-table = allowed number ≡ true
-  TurnTells turn-short = w .room < 70 → number ≡ shortSlip
+  TurnTells turn-short = w .room < 70 → number ≡ shortBuffer
   TurnTells turn-unchanged = number ≢ accepted → w .after ≡ w .turn .found
   TurnTells turn-fixed = number ≢ accepted → w .reply ≡ refusalIn (w .room) number
 
@@ -220,7 +222,7 @@ abbrev pub TurnRow : TurnPart → TurnPart → Type 0
 TurnRow i j = But (eqb (turnPlace i) (turnPlace j)) (TurnTells (wrongTurn i) j)
 
 pub turn-alone : (i j : TurnPart) → TurnRow i j
-unfolding freshTables freshPage created
+unfolding freshTables freshPage created after
 turn-alone turn-in-table = each-turn-part (TurnRow turn-in-table) false≢true (λ h. absurd (omega arith)) (λ _. refl) (λ _. refl)
 turn-alone turn-short = each-turn-part (TurnRow turn-short) refl (λ k. omega (arith, k (omega arith))) (λ _. refl) (λ _. refl)
 turn-alone turn-unchanged =
@@ -235,7 +237,7 @@ abbrev pub strayed : Run
 strayed = record { turns = []; final = made }
 
 pub starts-alone : (next (strayed .turns) (strayed .final) ≡ start → ⊥) × TurnsObey 70 (strayed .turns) [] (strayed .final)
-unfolding freshTables freshPage created
+unfolding freshTables freshPage created after
 starts-alone = (λ e. false≢true (ap (λ (s : State). absent (pageAt (s .tables) 5)) e), tt)
 
 -- and one of a wrong turn
@@ -245,3 +247,14 @@ misnumbered = record { turns = wrongTurn turn-in-table .turn ∷ []; final = sta
 pub turns-alone : (next (misnumbered .turns) (misnumbered .final) ≡ start)
     × (TurnsObey 70 (misnumbered .turns) (wrongTurn turn-in-table .reply ∷ []) (misnumbered .final) → ⊥)
 turns-alone = (refl, λ k. false≢true (k .0 .in-table))
+
+-- ---- the numbers
+
+-- of all bytes just 0 to 18 and 20 are allowed
+pub twenty-allowed : countBelow 256 allowed ≡ 20
+unfolding countBelow
+twenty-allowed = refl
+
+pub each-allowed : (allBelow 19 allowed ≡ true) × (allowed 19 ≡ false) × (allowed 20 ≡ true)
+unfolding allBelow
+each-allowed = (refl, refl, refl)

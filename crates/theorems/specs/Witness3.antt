@@ -1,4 +1,5 @@
--- Demand 3: for each field of `Agrees` and of `SamePage` a wrong run that this field rules out and no other does, computed.
+-- Demand 3: for each field of `Agrees` and of `SamePage` a wrong run that this field rules out and no other does,
+-- computed.
 use Prim.Native.Nat.{ℕ, _*_, _≤_, _<_}
 use mathlib.Core.Path.{_≡_, refl, sym, ap, subst}
 use mathlib.Core.Bool.{Bool, true, false, false≢true, true≢false}
@@ -9,12 +10,10 @@ use lib.ListN.{length, take, getD, set, replicate, getD-replicate}
 use lib.Seq.{getD-set-other}
 use lib.Dec.{eqb}
 use Rattle.tables.specs.declared.Page.{Page}
-use Rattle.tables.specs.declared.Shared.{Shared}
 use Rattle.tables.specs.Lists.{count}
-use Rattle.tables.specs.Model.{noHolder, inUse, absent, freshCopy, freshPage, sized, freshTables, noPageRecord, pageAt}
+use Rattle.tables.specs.Model.{inUse, absent, freshCopy, freshPage, freshTables, zeroPage, pageAt}
 use Rattle.tables.specs.Rules.{isRecent}
-use Rattle.tables.specs.Register.{registerAfter}
-use Rattle.tables.specs.Changes.{created, withCopies, newCopy}
+use Rattle.tables.specs.Changes.{created, withCopies, newCopy, changeTo, after}
 use Rattle.steps.specs.Kinds.{names, kinds, code, among, argument, callOf}
 use Rattle.steps.specs.Stores.{part}
 use Rattle.steps.specs.Steps.{refuse, accept}
@@ -177,26 +176,22 @@ slowBytes = replicate 64 0xDD
 abbrev pub start : State
 start = record { tables = freshTables 1 1; fast = fastBytes; slow = slowBytes }
 
--- a state with pages 5 and 6 as given
-abbrev pub with56 : Shared → Page → Page → List ℕ → List ℕ → State
-with56 a g g′ fast slow =
-    record {
-      tables = record {
-        shared = a;
-        pages = set (set (replicate 64 freshPage) 5 g) 6 g′;
-        register = registerAfter 6 freshPage g′ (registerAfter 5 freshPage g (replicate 254 noHolder));
-        retired = replicate 254 false;
-      };
-      fast = fast;
-      slow = slow;
-    }
+-- a state with P, S and pages 5 and 6 as given
+abbrev pub with56 : ℕ → ℕ → Page → Page → List ℕ → List ℕ → State
+with56 p s g g′ fast slow =
+    record { tables = after (after (freshTables p s) (changeTo 5 g 255)) (changeTo 6 g′ 255); fast = fast; slow = slow }
 
 -- as the create leaves it
 abbrev pub made : State
-made = with56 (sized 1 1) (created 3) freshPage fastBytes slowBytes
+made = with56 1 1 (created 3) freshPage fastBytes slowBytes
 
 abbrev pub first : Turn
-first = record { found = start; sent = whole (1 ∷ 1 ∷ 3 ∷ 5 ∷ []); outcome = accept (record { state = made; laid = 0; data-out = [] }) }
+first =
+    record {
+      found = start;
+      sent = whole (1 ∷ 1 ∷ 3 ∷ 5 ∷ []);
+      outcome = accept (record { state = made; moved = true; laid = 0; data-out = [] });
+    }
 
 -- the read, answered with n
 abbrev pub second : ℕ → Turn
@@ -212,7 +207,8 @@ pub right-run : runOn start file₃ ≡ answering 10
 unfolding runOn
 right-run = refl
 
--- page 5 with another owner; with no rights; with no MOST RECENT copy; with a MOST RECENT copy on frame 0, whose bytes are 0xEE
+-- page 5 with another owner; with no rights; with no MOST RECENT copy; with a MOST RECENT copy on frame 0, whose bytes
+-- are 0xEE
 abbrev pub foreign : Page
 foreign = record { rights = created 3 .rights; copies = created 3 .copies; owner = 4; n = 1 }
 
@@ -233,17 +229,17 @@ wrong answers = answering 9
 -- 11 where it is not due
 wrong elevens-due = answering 11
 -- P or S moved; a store with one byte more
-wrong fast-kept = ending (with56 (sized 2 1) (created 3) freshPage fastBytes slowBytes)
-wrong slow-kept = ending (with56 (sized 1 2) (created 3) freshPage fastBytes slowBytes)
-wrong fast-long = ending (with56 (sized 1 1) (created 3) freshPage (0 ∷ fastBytes) slowBytes)
-wrong slow-long = ending (with56 (sized 1 1) (created 3) freshPage fastBytes (0 ∷ slowBytes))
+wrong fast-kept = ending (with56 2 1 (created 3) freshPage fastBytes slowBytes)
+wrong slow-kept = ending (with56 1 2 (created 3) freshPage fastBytes slowBytes)
+wrong fast-long = ending (with56 1 1 (created 3) freshPage (0 ∷ fastBytes) slowBytes)
+wrong slow-long = ending (with56 1 1 (created 3) freshPage fastBytes (0 ∷ slowBytes))
 -- a page that nobody created
-wrong standing = ending (with56 (sized 1 1) (created 3) (created 3) fastBytes slowBytes)
+wrong standing = ending (with56 1 1 (created 3) (created 3) fastBytes slowBytes)
 -- page 5 not as created
-wrong owners = ending (with56 (sized 1 1) foreign freshPage fastBytes slowBytes)
-wrong rights = ending (with56 (sized 1 1) closed freshPage fastBytes slowBytes)
-wrong some-recent = ending (with56 (sized 1 1) outdated freshPage fastBytes slowBytes)
-wrong holds = ending (with56 (sized 1 1) uncleared freshPage fastBytes slowBytes)
+wrong owners = ending (with56 1 1 foreign freshPage fastBytes slowBytes)
+wrong rights = ending (with56 1 1 closed freshPage fastBytes slowBytes)
+wrong some-recent = ending (with56 1 1 outdated freshPage fastBytes slowBytes)
+wrong holds = ending (with56 1 1 uncleared freshPage fastBytes slowBytes)
 
 -- the first is the right kernel's run behind a reader that does so: over the file without that message
 pub early-run : runOn start (take 6 file₃) ≡ wrong messages
@@ -257,7 +253,7 @@ flat₅ = here (record { owner = 3; rights = set (replicate 16 0) 3 2; bytes = r
 -- what holds of pages 5 and 6 and of an absent page holds of every page
 module _ (X : Page → Slot → Type 0) (g g′ : Page) where
   abbrev Here : ℕ → Type 0
-  Here q = X (getD (set (set (replicate 64 freshPage) 5 g) 6 g′) q noPageRecord) (slotAt (set none 5 flat₅) q)
+  Here q = X (getD (set (set (replicate 64 freshPage) 5 g) 6 g′) q zeroPage) (slotAt (set none 5 flat₅) q)
 
   on : X g flat₅ → X g′ gone → X freshPage gone → (q : ℕ) → q < 64 → Here q
   on h₅ h₆ h q near = go (ℕ-discrete q 6) (ℕ-discrete q 5)
@@ -267,10 +263,10 @@ module _ (X : Page → Slot → Type 0) (g g′ : Page) where
       go (no ne) (yes e) = subst Here (sym e) h₅
       go (no ne) (no ne′) =
           rw (
-            getD-set-other (set (replicate 64 freshPage) 5 g) 6 q g′ noPageRecord ne,
-            getD-set-other (replicate 64 freshPage) 5 q g noPageRecord ne′,
+            getD-set-other (set (replicate 64 freshPage) 5 g) 6 q g′ zeroPage ne,
+            getD-set-other (replicate 64 freshPage) 5 q g zeroPage ne′,
             getD-set-other none 5 q flat₅ gone ne′,
-            getD-replicate 64 q freshPage noPageRecord near,
+            getD-replicate 64 q freshPage zeroPage near,
             getD-replicate 64 q gone gone near,
           ) h
 
@@ -300,7 +296,7 @@ abbrev pub Row : Field → Field → Type 0
 Row i j = But (eqb (place i) (place j)) (Says 1 1 70 file₃ (wrong i) j)
 
 pub alone : (i j : Field) → Row i j
-unfolding messagesOf split flatAnswers flatAfter flatEnd runAnswers dues reactAs reactTo parse names kinds code among argument callOf reply count created freshPage freshTables part
+unfolding messagesOf split flatAnswers flatAfter flatEnd runAnswers dues reactAs reactTo parse names kinds code among argument callOf reply count created freshPage freshTables after part
 alone messages =
     each (Row messages) (λ e. false≢true (ap (λ (l : List Sent). eqb (length l) 2) e)) refl refl refl refl refl refl
     stands₃ owners₃ rights₃ recent₃ (holds₃ _)

@@ -1,7 +1,7 @@
 -- Messages that are answered one by one, each by itself, come to the run over their file.
 use Prim.Native.Nat.{ℕ, _-_, _≤_}
 use mathlib.Core.Path.{_≡_, sym, _∙_}
-use mathlib.Core.Bool.{true, not, true≢false}
+use mathlib.Core.Bool.{not}
 use mathlib.Core.List.{List, [], _∷_}
 use native.Mathlib.Omega.{arith}
 use lib.ListN.{length, take, drop, length-drop}
@@ -16,9 +16,10 @@ use Rattle.messages.specs.declared.Answered.{Answered}
 use Rattle.messages.specs.Messages.{nextAt}
 use Rattle.messages.specs.Replies.{counted, isRefusal}
 use Rattle.messages.specs.Run.{Sent, cut, whole, answer, messagesOf, yielded, run}
-use Rattle.messages.specs.Promises.{sentBy, sentAlone, Replied, RunEnded}
+use Rattle.messages.specs.Promises.{sentBy, sentAlone, Replied}
 use Rattle.messages.proofs.ReaderLaws.{reader-yields, message-at}
 use Rattle.messages.proofs.TurnLaws.{answer-told}
+use Rattle.timing.specs.Timed.{AnswersEnded}
 use Rattle.timing.proofs.RestLaws.{Rest, rest-message, rest-cut, rest-none}
 
 -- ---- the first message of what is left of the file
@@ -81,7 +82,7 @@ module _ {s₀ : State} {file out₀ : List ℕ} {n₀ : Tally} {at : ℕ} {s : 
   pub going-cut : (s′ : State) (out′ : List ℕ) (n′ : Tally) (a : Answered) → Cut ≡ nextAt file at
       → Replied s (answer (length out) s (sentAlone (take (length file - at) (drop at file)))) out s′ out′ a
       → n′ ≡ counted n (not (eqb (a .number) 0)) (a .laid)
-      → RunEnded s₀ (run (length out₀) file s₀) n₀ out₀ s′ out′ (record { moved = true; tables = a .tables; tally = n′ })
+      → AnswersEnded (run (length out₀) file s₀) n₀ out₀ s′ out′ (record { tables = a .tables; tally = n′ })
   going-cut s′ out′ n′ a e v en =
       let follows : messagesOf (drop at file) ≡ cut ∷ [] = reader-yields file at ∙ rw (← e) in
       let w = rest-cut (length out₀) file s₀ out₀ n₀ at s out n (q .rest) out′ n′ e
@@ -92,16 +93,14 @@ module _ {s₀ : State} {file out₀ : List ℕ} {n₀ : Tally} {at : ℕ} {s : 
         state-out = z;
         buffer-out = w .buffer-is;
         tally-out = w .tally-is;
-        kept = λ e. absurd (true≢false e);
       }
 
   -- at the end
-  pub going-none : End ≡ nextAt file at → RunEnded s₀ (run (length out₀) file s₀) n₀ out₀ s out (record { moved = true; tables = s .tables; tally = n })
+  pub going-none : End ≡ nextAt file at → AnswersEnded (run (length out₀) file s₀) n₀ out₀ s out (record { tables = s .tables; tally = n })
   going-none e =
       let w = rest-none (length out₀) file s₀ out₀ n₀ at s out n (q .rest) e in
       record {
         state-out = w .state-is;
         buffer-out = w .buffer-is;
         tally-out = w .tally-is;
-        kept = λ e. absurd (true≢false e);
       }

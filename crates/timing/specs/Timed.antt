@@ -6,15 +6,23 @@ use mathlib.Core.Path.{_≡_}
 use lib.ListN.{length, set}
 use Rattle.tables.specs.declared.Tables.{Tables}
 use Rattle.tables.specs.declared.Page.{Page}
-use Rattle.tables.specs.Model.{pageAt}
+use Rattle.tables.specs.Model.{withPages, pageAt}
 use Rattle.tables.specs.Rules.{sound}
+use Rattle.steps.specs.Effects.{State}
 use Rattle.steps.specs.Promises.{Lent, lent}
 use Rattle.messages.specs.declared.Tally.{Tally}
 use Rattle.messages.specs.Run.{Run, buffer, tally}
 use Rattle.embed.specs.Exports.{withTables}
+use Rattle.timing.specs.declared.Left.{Left}
 
 abbrev pub none : Tally
 none = record { messages = 0; refusals = 0; laid = 0 }
+
+-- what `answers` leaves of a run w, with a tally n and a reply buffer: the state s′, the buffer and the tally
+pub record AnswersEnded (w : Run) (n : Tally) (out : List ℕ) (s′ : State) (out′ : List ℕ) (r : Left) : Type 0 where
+  pub state-out : s′ ≡ w .final
+  pub buffer-out : out′ ≡ buffer (length out) (w .turns) out
+  pub tally-out : r .tally ≡ tally (w .turns) n
 
 -- what `reel_answers` leaves of a run w: the same as `reel_run`, and the count of the messages
 pub record AnsweredAll (w : Run) (b : List ℕ) (l : Lent) (b′ : List ℕ) (l′ : Lent) (r : ℕ) : Type 0 where
@@ -27,7 +35,7 @@ withOwner g s = record { rights = g .rights; copies = g .copies; owner = s; n = 
 
 -- the tables with another record of page 0, which has the same copies
 abbrev pub withFirst : Tables → Page → Tables
-withFirst t g = record { shared = t .shared; pages = set (t .pages) 0 g; register = t .register; retired = t .retired }
+withFirst t g = withPages t (set (t .pages) 0 g) (t .register)
 
 -- the tables with another owner of page 0
 abbrev pub owned : Tables → ℕ → Tables

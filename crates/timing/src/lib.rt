@@ -3,7 +3,6 @@
 use embed::put_back;
 use embed::tables_of;
 use messages::Next;
-use messages::Ran;
 use messages::Tally;
 use messages::answer;
 use messages::message_at;
@@ -13,12 +12,16 @@ ghost use mathlib.Core.Path.{_≡_};
 ghost use lib.ListN.{length};
 ghost use Rattle.steps.specs.Promises.{stateOf, lent};
 ghost use Rattle.messages.specs.Run.{run};
-ghost use Rattle.messages.specs.Promises.{RunEnded};
 ghost use Rattle.embed.specs.Exports.{tablesOf, lentState};
-ghost use Rattle.timing.specs.Timed.{soundTimes, AnsweredAll};
+ghost use Rattle.timing.specs.Timed.{soundTimes, AnswersEnded, AnsweredAll};
 
-// What a run does, but every message is answered as if by itself: the rules are tested at each. The
-// tables count as moved.
+// What is left after all messages of a file.
+struct Left {
+    tables: Tables,
+    tally: Tally,
+}
+
+// What a run does, but every message is answered as if by itself: the rules are tested at each.
 fn answers(
     mut tables: Tables,
     fast: &mut [u8],
@@ -26,8 +29,8 @@ fn answers(
     file: &[u8],
     out: &mut [u8],
     mut tally: Tally,
-) -> Ran
-    ensures { λ r. ⌜ RunEnded (stateOf tables (now (fast .entry)) (now (slow .entry)))
+) -> Left
+    ensures { λ r. ⌜ AnswersEnded
         (run (length (now (out .entry))) (now (file .entry)) (stateOf tables (now (fast .entry)) (now (slow .entry)))) tally
         (now (out .entry)) (stateOf (r .tables) (now (fast .exit)) (now (slow .exit))) (now (out .exit)) r ⌝ }
 {
@@ -44,17 +47,9 @@ fn answers(
                 let a = answer(tables, fast, slow, &file[at..], out);
                 tables = a.tables;
                 tally = tally_after(tally, a.number != 0, a.laid);
-                return Ran {
-                    moved: true,
-                    tables,
-                    tally,
-                };
+                return Left { tables, tally };
             }
-            Next::End => return Ran {
-                moved: true,
-                tables,
-                tally,
-            },
+            Next::End => return Left { tables, tally },
         }
     }
 }
@@ -80,9 +75,9 @@ pub extern "C" fn reel_answers(
         refusals: 0,
         laid: 0,
     };
-    let ran = answers(before, fast, slow, file, out, none);
-    put_back(ran.tables, tables);
-    ran.tally.messages
+    let left = answers(before, fast, slow, file, out, none);
+    put_back(left.tables, tables);
+    left.tally.messages
 }
 
 // Tests the rules again and again, and returns how often they held. Each test finds another owner of

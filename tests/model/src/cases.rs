@@ -1,9 +1,8 @@
-//! The cases of document 01 as call files, each with the whole list of its replies: the worked
-//! example, the starred cases on its end state, and for each trap and impostor a file whose replies
-//! it gets wrong. Then the pairs of right and act of request [3] of document 02, the deletes of its
-//! request [2] and the retired frames of its request [5], each also with the bytes that it leaves in
-//! the stores. Last the calls and the replies of its request [4]: the worked example's, and such as
-//! are refused or just not.
+//! The cases of document 01 as call files, each with the whole list of its replies: the worked example, the starred
+//! cases on its end state, for each trap and impostor a file whose replies it gets wrong, and borders that these leave
+//! out. Then the pairs of right and act of request [3] of document 02, the deletes of its request [2] and the retired
+//! frames of its request [5], each also with the bytes that it leaves in the stores. Last the calls and the replies of
+//! its request [4]: the worked example's, and such as are refused or just not.
 
 use crate::kernel::Kernel;
 use crate::model::{frame_bytes, Lent, Reader, Tables, Tally, FRAME, PROGRAM_FRAMES, SLIP};
@@ -244,6 +243,158 @@ pub const PAIRS: [Case; 6] = [
     },
 ];
 
+/// Borders that the starred cases leave out: accepted without change, and for each two numbers that
+/// can both apply which comes first. The page of the worked example is page 5, of station 3.
+pub const BORDERS: [Case; 18] = [
+    Case {
+        name: "look at a held frame: 1, page, copy",
+        calls: &["copy 5 0 6", "look-frame 0", "look-frame 6"],
+        replies: &[
+            ONE_FRAME,
+            "00 07 01 00 00 00 01 05 00",
+            "00 07 01 00 00 00 01 05 01",
+        ],
+    },
+    Case {
+        name: "set current of a current copy: accepted, no change",
+        calls: &["current 5 0", "look-page 5"],
+        replies: &[DONE, "00 08 01 00 00 00 01 00 01 01"],
+    },
+    Case {
+        name: "set current of a second copy: a write lays its bytes twice",
+        calls: &[
+            "copy 5 0 6",
+            "current 5 1",
+            "write 3 5 0 01 02",
+            "look-page 5",
+        ],
+        replies: &[
+            ONE_FRAME,
+            DONE,
+            "00 04 01 00 00 04",
+            "00 0B 01 00 00 00 02 00 01 01 06 01 01",
+        ],
+    },
+    Case {
+        name: "remove current of a copy that is not current: accepted, no change",
+        calls: &["remove-current 5 0", "remove-current 5 0", "look-page 5"],
+        replies: &[DONE, DONE, "00 08 01 00 00 00 01 00 00 01"],
+    },
+    Case {
+        name: "remove current of a null copy: accepted, no change",
+        calls: &["create 3 6", "remove-current 6 0", "look-page 6"],
+        replies: &[DONE, DONE, "00 08 01 00 00 00 01 FF 00 01"],
+    },
+    Case {
+        name: "2 before 3",
+        calls: &["raw 00 02 02 0D", "raw 00 01 02"],
+        replies: &["00 04 01 02 00 00", "00 04 01 02 00 00"],
+    },
+    Case {
+        name: "3 before 4",
+        calls: &["raw 00 02 01 0D"],
+        replies: &["00 04 01 03 00 00"],
+    },
+    Case {
+        name: "4 before 7",
+        calls: &["raw 00 04 01 0A 40 40"],
+        replies: &["00 04 01 04 00 00"],
+    },
+    Case {
+        name: "7 before 8",
+        calls: &["create 16 5"],
+        replies: &[OUTSIDE],
+    },
+    Case {
+        name: "7 before 9 and 12, kinds 6 to 12",
+        calls: &[
+            "copy 64 9 0",
+            "copy 7 9 8",
+            "delete-copy 64 9",
+            "current 64 9",
+            "remove-current 64 9",
+            "look-page 64",
+            "look-frame 8",
+            "retire 8",
+        ],
+        replies: &[
+            OUTSIDE, OUTSIDE, OUTSIDE, OUTSIDE, OUTSIDE, OUTSIDE, OUTSIDE, OUTSIDE,
+        ],
+    },
+    Case {
+        name: "9 before 12, 13, 15, 17 and 16",
+        calls: &[
+            "copy 7 9 0",
+            "delete-copy 7 9",
+            "current 7 9",
+            "remove-current 7 9",
+        ],
+        replies: &[NO_PAGE, NO_PAGE, NO_PAGE, NO_PAGE],
+    },
+    Case {
+        name: "9 before 10 and 11",
+        calls: &[
+            "delete-page 4 7",
+            "grant 4 7 4 2",
+            "read 4 7 0 1",
+            "write 4 7 0 01",
+        ],
+        replies: &[NO_PAGE, NO_PAGE, NO_PAGE, NO_PAGE],
+    },
+    Case {
+        name: "10 before 11",
+        calls: &["create 3 6", "read 4 6 0 1", "write 4 6 0 01"],
+        replies: &[DONE, NO_RIGHT, NO_RIGHT],
+    },
+    Case {
+        name: "12 before 13",
+        calls: &["copy 5 1 0"],
+        replies: &[NO_COPY],
+    },
+    Case {
+        name: "12 before 13 and 14",
+        calls: &[
+            "copy 5 0 1",
+            "copy 5 0 2",
+            "copy 5 0 3",
+            "copy 5 0 4",
+            "copy 5 0 5",
+            "copy 5 0 6",
+            "copy 5 0 7",
+            "copy 5 8 0",
+        ],
+        replies: &[
+            ONE_FRAME, ONE_FRAME, ONE_FRAME, ONE_FRAME, ONE_FRAME, ONE_FRAME, ONE_FRAME, NO_COPY,
+        ],
+    },
+    Case {
+        name: "13 before 14",
+        calls: &[
+            "copy 5 0 1",
+            "copy 5 0 2",
+            "copy 5 0 3",
+            "copy 5 0 4",
+            "copy 5 0 5",
+            "copy 5 0 6",
+            "copy 5 0 7",
+            "copy 5 0 7",
+        ],
+        replies: &[
+            ONE_FRAME, ONE_FRAME, ONE_FRAME, ONE_FRAME, ONE_FRAME, ONE_FRAME, ONE_FRAME, HELD,
+        ],
+    },
+    Case {
+        name: "12 before 15",
+        calls: &["delete-copy 5 1"],
+        replies: &[NO_COPY],
+    },
+    Case {
+        name: "12 before 17",
+        calls: &["create 3 6", "current 6 1"],
+        replies: &[DONE, NO_COPY],
+    },
+];
+
 /// A case, and what it leaves in the stores.
 pub struct StoreCase {
     pub case: Case,
@@ -257,6 +408,62 @@ const FIRST: &str = "first";
 const ZEROS: &str = "";
 /// The worked example's page 5.
 const PAGE: &str = "41 37";
+
+/// The 64 bytes of a whole page.
+macro_rules! whole_page {
+    () => {
+        "40 41 42 43 44 45 46 47 48 49 4A 4B 4C 4D 4E 4F \
+         50 51 52 53 54 55 56 57 58 59 5A 5B 5C 5D 5E 5F \
+         60 61 62 63 64 65 66 67 68 69 6A 6B 6C 6D 6E 6F \
+         70 71 72 73 74 75 76 77 78 79 7A 7B 7C 7D 7E 7F"
+    };
+}
+
+/// As many bytes laid as a write can lay.
+pub const WIDEST: StoreCase = StoreCase {
+    case: Case {
+        name: "64 bytes to eight CURRENT copies: 512 laid, in two bytes",
+        calls: &[
+            "copy 5 0 1",
+            "copy 5 0 2",
+            "copy 5 0 3",
+            "copy 5 0 4",
+            "copy 5 0 5",
+            "copy 5 0 6",
+            "copy 5 0 7",
+            "current 5 1",
+            "current 5 2",
+            "current 5 3",
+            "current 5 4",
+            "current 5 5",
+            "current 5 6",
+            "current 5 7",
+            concat!("write 3 5 0 ", whole_page!()),
+            "read 3 5 0 64",
+            "look-page 5",
+        ],
+        replies: &[
+            ONE_FRAME,
+            ONE_FRAME,
+            ONE_FRAME,
+            ONE_FRAME,
+            ONE_FRAME,
+            ONE_FRAME,
+            ONE_FRAME,
+            DONE,
+            DONE,
+            DONE,
+            DONE,
+            DONE,
+            DONE,
+            DONE,
+            "00 04 01 00 02 00",
+            concat!("00 44 01 00 00 00 ", whole_page!()),
+            "00 1D 01 00 00 00 08 00 01 01 01 01 01 02 01 01 03 01 01 04 01 01 05 01 01 06 01 01 07 01 01",
+        ],
+    },
+    frames: [whole_page!(); 8],
+};
 
 pub const DELETES: [StoreCase; 13] = [
     StoreCase {
@@ -443,6 +650,8 @@ const WORN: &str = "00 07 01 00 00 00 02 FF FF";
 const OUTSIDE: &str = "00 04 01 07 00 00";
 const HELD: &str = "00 04 01 0D 00 00";
 const RETIRED: &str = "00 04 01 14 00 00";
+const NO_PAGE: &str = "00 04 01 09 00 00";
+const NO_COPY: &str = "00 04 01 0C 00 00";
 
 pub const RETIRES: [StoreCase; 12] = [
     StoreCase {

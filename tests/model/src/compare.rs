@@ -4,11 +4,11 @@ use crate::clean::Clean;
 use crate::exchange::Turns;
 use crate::flat::Demand3;
 use crate::frames::Frames;
-use crate::gen::{self, Moves, Rng, DAMAGES, SHORT_SLIPS, SLIPS};
+use crate::gen::{self, Moves, Rng, DAMAGES, SHORT_BUFFERS, BUFFERS};
 use crate::kernel::{packed, Kernel, Modelled};
 use crate::model::{
-    self, frame_bytes, Call, Lent, PageCopy, Reached, Reader, Refusal, Tables, ENTRIES, FRAME, RAW,
-    RECORD, REGISTER, RETIRED, SLIP,
+    self, frame_bytes, Call, Lent, PageCopy, Reached, Reader, Refusal, Tables, ENTRIES, FRAME,
+    MOST_FRAMES, RAW, RECORD, REGISTER, SLIP,
 };
 use reel::words::{self, hex, WORDS};
 
@@ -84,6 +84,7 @@ pub fn compare(kernel: &dyn Kernel, seed: u64, messages: u64) -> Result<Counts, 
     };
     compare.sweeps()?;
     compare.fresh_tables()?;
+    compare.deep_files()?;
     while compare.counts.messages < messages {
         compare.trial()?;
     }
@@ -107,7 +108,7 @@ impl Compare<'_> {
             let length = match self.rng.below(64) {
                 0 => self
                     .rng
-                    .pick(&[0, 1, 2, REGISTER, RETIRED, RAW - 1, RAW + 1, 2 * RAW]),
+                    .pick(&[0, 1, 2, REGISTER, RAW - 1, RAW + 1, 2 * RAW]),
                 _ => RAW,
             };
             let mut by_kernel = self.rng.bytes(length);
@@ -286,7 +287,7 @@ impl Compare<'_> {
                 self.run(lent, &message)?;
             }
         }
-        for length in SHORT_SLIPS.into_iter().chain(SLIPS) {
+        for length in SHORT_BUFFERS.into_iter().chain(BUFFERS) {
             let out = self.rng.bytes(length);
             self.every_kind(&Lent {
                 out,
@@ -358,6 +359,28 @@ impl Compare<'_> {
     }
 
     // ---- Trials ----
+
+    /// Files that come to every depth and every number, as often as these must come up: no floor hangs
+    /// on the seed.
+    fn deep_files(&mut self) -> Result<(), String> {
+        for _ in 0..LEAST {
+            let start = gen::roomy(&mut self.rng);
+            let file = gen::deep_file(&mut self.rng, start.tables[0], start.tables[1]);
+            let mut short = start.clone();
+            short.out.truncate(self.rng.pick(&SHORT_BUFFERS));
+            let mut broken = start.clone();
+            broken.tables[0] = MOST_FRAMES + 1;
+            let mut misfit = start.clone();
+            misfit.fast.pop();
+            for hindered in [short, broken, misfit] {
+                self.answer(&hindered, &file)?;
+            }
+            let mut trial = Trial::from_fresh(start);
+            self.turns(&mut trial, &file)?;
+            self.whole_run(&trial)?;
+        }
+        Ok(())
+    }
 
     /// One whole file, message by message and then at once.
     fn trial(&mut self) -> Result<(), String> {
@@ -676,7 +699,6 @@ fn first_difference(name: &str, kernel: &[u8], model: &[u8]) -> Option<String> {
     }
     let at = kernel.iter().zip(model).position(|(k, m)| k != m)?;
     let place = match name {
-        "tables" if at >= RETIRED => format!("byte {at} (the mark of frame {})", at - RETIRED),
         "tables" if at >= REGISTER => {
             let (frame, byte) = ((at - REGISTER) / 2, (at - REGISTER) % 2);
             format!("byte {at} (the register, frame {frame}, byte {byte} of its entry)")

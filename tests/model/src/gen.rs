@@ -2,7 +2,7 @@
 
 use crate::model::{
     frame_bytes, message, Call, Lent, Page, PageCopy, Tables, ENTRIES, FRAME, KINDS, MOST_FRAMES,
-    NO_FRAME, NO_HOLDER, PAGES, RAW, RECORD, REGISTER, REGISTERED, RETIRED, SLIP, STATIONS,
+    NO_FRAME, FREE_ENTRY, PAGES, RAW, RECORD, REGISTER, REGISTERED, RETIRED, SLIP, STATIONS,
     VERSION,
 };
 use crate::stations::{arguments, Sent};
@@ -68,8 +68,8 @@ impl Rng {
 // ---- What a caller lends ----
 
 /// Reply buffers that serve, and those that are short slips.
-pub const SLIPS: [usize; 3] = [SLIP, 71, 200];
-pub const SHORT_SLIPS: [usize; 4] = [0, 1, 6, 69];
+pub const BUFFERS: [usize; 3] = [SLIP, 71, 200];
+pub const SHORT_BUFFERS: [usize; 4] = [0, 1, 6, 69];
 
 /// P or S: mostly of the four named sizes.
 fn size(rng: &mut Rng) -> u8 {
@@ -81,7 +81,7 @@ fn size(rng: &mut Rng) -> u8 {
 
 /// Tables with stores that fit them; stores and reply buffer hold random bytes.
 fn lend(rng: &mut Rng, tables: &Tables) -> Lent {
-    let slip = rng.pick(&SLIPS);
+    let slip = rng.pick(&BUFFERS);
     Lent {
         tables: tables.to_raw(),
         fast: rng.bytes(FRAME * usize::from(tables.fast)),
@@ -196,11 +196,6 @@ fn owner(page: usize) -> usize {
     record(page) + RECORD - 2
 }
 
-/// The mark of a retired frame.
-fn retired(frame: u8) -> usize {
-    RETIRED + usize::from(frame)
-}
-
 fn n(page: usize) -> usize {
     record(page) + RECORD - 1
 }
@@ -208,12 +203,12 @@ fn n(page: usize) -> usize {
 /// The register's entry of a frame.
 pub fn holder(tables: &[u8], frame: u8) -> u16 {
     let place = REGISTER + 2 * usize::from(frame);
-    u16::from_be_bytes([tables[place], tables[place + 1]])
+    u16::from_le_bytes([tables[place], tables[place + 1]])
 }
 
 pub fn set_holder(tables: &mut [u8], frame: u8, holder: u16) {
     let place = REGISTER + 2 * usize::from(frame);
-    tables[place..][..2].copy_from_slice(&holder.to_be_bytes());
+    tables[place..][..2].copy_from_slice(&holder.to_le_bytes());
 }
 
 fn exchange_holders(tables: &mut [u8], one: u8, other: u8) {
@@ -223,9 +218,13 @@ fn exchange_holders(tables: &mut [u8], one: u8, other: u8) {
 }
 
 /// Makes the register right for the page records as they are, sound or not: for each frame the
-/// first copy on it.
+/// first copy on it, or that it is retired, if it was.
 pub fn register_anew(tables: &mut [u8]) {
-    tables[REGISTER..RETIRED].fill(255);
+    for frame in 0..REGISTERED as u8 {
+        if holder(tables, frame) != RETIRED {
+            set_holder(tables, frame, FREE_ENTRY);
+        }
+    }
     for page in (0..PAGES).rev() {
         for copy in (0..ENTRIES.min(tables[n(page)].into())).rev() {
             let frame = tables[entry(page, copy)];
@@ -248,9 +247,9 @@ pub(crate) fn copies_on(tables: &[u8]) -> [usize; 256] {
     on
 }
 
-/// Whether a frame has the mark of a retired one.
+/// Whether a frame is retired.
 pub(crate) fn is_marked(tables: &[u8], frame: usize) -> bool {
-    tables[RETIRED + frame] != 0
+    holder(tables, frame as u8) == RETIRED
 }
 
 /// A number above `limit` up to `most`, often the next one.
@@ -272,7 +271,7 @@ const FREE: [u8; 2] = [12, 13];
 const WORN: u8 = 14;
 
 /// Every table rule broken in turn, and no other: where frames or n change, the register follows.
-pub const DAMAGES: [Damage; 59] = [
+pub const DAMAGES: [Damage; 56] = [
     ("P above 127", |rng, lent| {
         lent.tables[0] = above(rng, MOST_FRAMES, 255);
         lent.fast = rng.bytes(FRAME * usize::from(lent.tables[0]));
@@ -403,7 +402,7 @@ pub const DAMAGES: [Damage; 59] = [
         set_holder(&mut lent.tables, rng.pick(&FREE), 8);
     }),
     ("a held frame's entry cleared", |rng, lent| {
-        set_holder(&mut lent.tables, rng.pick(&HELD), NO_HOLDER);
+        set_holder(&mut lent.tables, rng.pick(&HELD), FREE_ENTRY);
     }),
     ("an entry moved to a free frame", |rng, lent| {
         exchange_holders(&mut lent.tables, rng.pick(&HELD), rng.pick(&FREE));
@@ -429,8 +428,9 @@ pub const DAMAGES: [Damage; 59] = [
         set_holder(&mut lent.tables, frame, high + held);
     }),
     ("a free frame's entry 512 or more", |rng, lent| {
-        let high = 512 + rng.below(usize::from(NO_HOLDER) - 512) as u16;
-        set_holder(&mut lent.tables, rng.pick(&FREE), high);
+        let high = 512 + rng.below(usize::from(FREE_ENTRY) - 513) as u16;
+        let neither = high + u16::from(high >= RETIRED);
+        set_holder(&mut lent.tables, rng.pick(&FREE), neither);
     }),
     ("an entry with its low byte first", |rng, lent| {
         let frame = rng.pick(&EIGHT);
@@ -438,14 +438,14 @@ pub const DAMAGES: [Damage; 59] = [
         set_holder(&mut lent.tables, frame, turned);
     }),
     ("a bit of the register flipped", |rng, lent| {
-        let at = REGISTER + rng.below(RETIRED - REGISTER);
+        let at = REGISTER + rng.below(2 * REGISTERED);
         lent.tables[at] ^= 1 << rng.below(8);
     }),
     ("a register of zeros", |_, lent| {
-        lent.tables[REGISTER..RETIRED].fill(0);
+        lent.tables[REGISTER..].fill(0);
     }),
     ("a fresh register", |_, lent| {
-        lent.tables[REGISTER..RETIRED].fill(255);
+        lent.tables[REGISTER..].fill(255);
     }),
     ("a retired frame's entry set", |rng, lent| {
         set_holder(&mut lent.tables, WORN, any_holder(rng));
@@ -456,27 +456,21 @@ pub const DAMAGES: [Damage; 59] = [
     ("a copy on a retired frame", |_, lent| {
         lent.tables[entry(5, 0)] = WORN;
         register_anew(&mut lent.tables);
+        set_holder(&mut lent.tables, WORN, RETIRED);
     }),
-    ("a held frame marked as retired", |rng, lent| {
-        lent.tables[retired(rng.pick(&HELD))] = 1;
+    ("a held frame retired", |rng, lent| {
+        set_holder(&mut lent.tables, rng.pick(&HELD), RETIRED);
     }),
-    ("a mark past the last frame", |rng, lent| {
-        lent.tables[retired(above(rng, 15, 253))] = 1;
+    ("a frame past the last one retired", |rng, lent| {
+        set_holder(&mut lent.tables, above(rng, 15, 253), RETIRED);
     }),
-    ("the last mark set", |_, lent| {
-        lent.tables[retired(253)] = 1;
+    ("the last number retired", |_, lent| {
+        set_holder(&mut lent.tables, 253, RETIRED);
     }),
-    ("a retired frame's mark neither 0 nor 1", |rng, lent| {
-        lent.tables[retired(WORN)] = above(rng, 1, 255);
-    }),
-    ("a free frame's mark neither 0 nor 1", |rng, lent| {
-        lent.tables[retired(rng.pick(&FREE))] = above(rng, 1, 255);
-    }),
-    ("a held frame's mark neither 0 nor 1", |rng, lent| {
-        lent.tables[retired(rng.pick(&HELD))] = above(rng, 1, 255);
-    }),
-    ("every frame marked", |_, lent| {
-        lent.tables[RETIRED..].fill(1);
+    ("every frame retired", |_, lent| {
+        for frame in 0..REGISTERED as u8 {
+            set_holder(&mut lent.tables, frame, RETIRED);
+        }
     }),
 ];
 
@@ -524,17 +518,16 @@ pub fn damage_register(rng: &mut Rng, lent: &mut Lent) {
     let [one, other] = [rng.below(frames), rng.below(frames)].map(|frame| frame as u8);
     match rng.below(4) {
         0 => set_holder(&mut lent.tables, one, any_holder(rng)),
-        1 => set_holder(&mut lent.tables, one, NO_HOLDER),
-        2 => set_holder(&mut lent.tables, one, NO_HOLDER - 1 - any_holder(rng)),
+        1 => set_holder(&mut lent.tables, one, FREE_ENTRY),
+        2 => set_holder(&mut lent.tables, one, FREE_ENTRY - 1 - any_holder(rng)),
         _ => exchange_holders(&mut lent.tables, one, other),
     }
 }
 
-/// Where the marks of every entry stand, and those of retired frames.
+/// Where the marks of every entry stand.
 fn marks() -> impl Iterator<Item = usize> {
     let entries = (0..PAGES).flat_map(|page| (0..ENTRIES).map(move |copy| entry(page, copy)));
-    let of_copies = entries.flat_map(|entry| [entry + 1, entry + 2]);
-    of_copies.chain(RETIRED..RAW)
+    entries.flat_map(|entry| [entry + 1, entry + 2])
 }
 
 /// Lent tables with each bit of each mark flipped, one at a time.
@@ -556,7 +549,7 @@ pub fn odd_marks(rng: &mut Rng, lent: &mut Lent) {
     }
 }
 
-/// A frame's mark set, of the frames of the tables or past the last one; rather to 1.
+/// A frame retired, of those of the tables or past the last one, or its entry one that names nothing.
 pub fn damage_retired(rng: &mut Rng, lent: &mut Lent) {
     let frames = usize::from(lent.tables[0]) + usize::from(lent.tables[1]);
     let frame = match rng.below(3) {
@@ -564,10 +557,11 @@ pub fn damage_retired(rng: &mut Rng, lent: &mut Lent) {
         1 => frames.min(REGISTERED - 1),
         _ => rng.below(frames.clamp(1, REGISTERED)),
     };
-    lent.tables[RETIRED + frame] = match rng.below(4) {
-        0 => above(rng, 1, 255),
-        _ => 1,
+    let entry = match rng.below(4) {
+        0 => RETIRED ^ (1 << rng.below(16)),
+        _ => RETIRED,
     };
+    set_holder(&mut lent.tables, frame as u8, entry);
 }
 
 /// A store of a wrong length, or the two stores exchanged.
@@ -595,7 +589,7 @@ pub fn misfit_tables(rng: &mut Rng, lent: &mut Lent) {
         1,
         2,
         REGISTER,
-        RETIRED,
+        REGISTER + REGISTERED,
         RAW - RECORD,
         RAW - 1,
         RAW + 1,
@@ -613,7 +607,7 @@ pub fn hinder(rng: &mut Rng, lent: &mut Lent) {
     }
     match rng.below(12) {
         0 | 1 => {
-            let slip = rng.pick(&SHORT_SLIPS);
+            let slip = rng.pick(&SHORT_BUFFERS);
             lent.out = rng.bytes(slip);
         }
         2..=4 => damage_byte(rng, lent),
@@ -1032,6 +1026,145 @@ pub fn nonsense(rng: &mut Rng) -> Vec<u8> {
     let length = rng.pick(&[0, 1, 2, 3, 30, 300, 1000]);
     let most = rng.pick(&[1, 6, 13, 70, 255]);
     (0..length).map(|_| rng.within(0, most)).collect()
+}
+
+/// Fresh tables of five to eight fast frames and as many slow ones.
+pub fn roomy(rng: &mut Rng) -> Lent {
+    let tables = Tables::fresh(rng.within(5, 8), rng.within(5, 8));
+    lend(rng, &tables)
+}
+
+/// A file for `roomy` tables that comes to every state and event that the comparison counts, and to
+/// every number that a message gets on sound tables with a reply buffer that serves; pages, stations,
+/// frames and bytes are drawn.
+pub fn deep_file(rng: &mut Rng, fast: u8, slow: u8) -> Vec<u8> {
+    let mut pages: Vec<u8> = (0..PAGES as u8).collect();
+    let mut stations: Vec<u8> = (0..STATIONS as u8).collect();
+    let mut frames: Vec<u8> = (0..fast + slow).collect();
+    rng.shuffle(&mut pages);
+    rng.shuffle(&mut stations);
+    rng.shuffle(&mut frames);
+    // A fast frame comes first and a slow one second.
+    frames.sort_by_key(|&frame| frame >= fast);
+    frames.swap(1, usize::from(fast));
+    let (page, other) = (pages[0], pages[1]);
+    let (station, guest) = (stations[0], stations[1]);
+    let (eight, rest) = frames.split_at(ENTRIES);
+
+    let copy_to = |page, frame| Call::MakeCopy {
+        page,
+        copy: 0,
+        frame,
+    };
+    let read = |page| Call::Read {
+        station,
+        page,
+        offset: 0,
+        count: 1,
+    };
+    let mut write = |count| Call::Write {
+        station,
+        page,
+        offset: 0,
+        bytes: rng.bytes(count),
+    };
+    let last = ENTRIES as u8 - 1;
+    let (whole, one) = (write(FRAME), write(1));
+
+    // Eight CURRENT copies; then one that is not, and is stale after the next write.
+    let mut calls = vec![Call::Create { station, page }];
+    calls.extend(eight.iter().map(|&frame| copy_to(page, frame)));
+    calls.extend((0..=last).map(|copy| Call::SetCurrent { page, copy }));
+    calls.extend([
+        whole,
+        copy_to(page, rest[0]),
+        copy_to(page, eight[0]),
+        Call::RemoveCurrent { page, copy: last },
+        one.clone(),
+        Call::SetCurrent { page, copy: last },
+        Call::SetCurrent {
+            page,
+            copy: last + 1,
+        },
+    ]);
+    // A page with a null copy, which then takes every frame that is left.
+    calls.extend([
+        Call::Create {
+            station,
+            page: other,
+        },
+        read(other),
+        Call::SetCurrent {
+            page: other,
+            copy: 0,
+        },
+        Call::DeleteCopy {
+            page: other,
+            copy: 0,
+        },
+        Call::DeletePage {
+            station,
+            page: other,
+        },
+        read(other),
+        Call::Create {
+            station,
+            page: other,
+        },
+        Call::Create {
+            station,
+            page: other,
+        },
+    ]);
+    calls.extend(rest.iter().map(|&frame| copy_to(other, frame)));
+    // Both pages deleted: of the first one a fast and a slow frame by themselves, and used anew.
+    calls.extend([
+        Call::LookPage { page },
+        Call::Grant {
+            station,
+            page,
+            other: station,
+            right: 1,
+        },
+        one,
+        Call::DeletePage {
+            station: guest,
+            page,
+        },
+        Call::Retire { frame: eight[0] },
+        Call::DeleteCopy { page, copy: 0 },
+        Call::DeleteCopy { page, copy: 0 },
+        copy_to(page, eight[0]),
+        copy_to(page, eight[1]),
+        Call::DeletePage { station, page },
+        Call::DeletePage {
+            station,
+            page: other,
+        },
+        Call::LookPage { page: PAGES as u8 },
+    ]);
+    // The two frames retired, and copies on all others.
+    calls.extend([
+        Call::Create {
+            station,
+            page: other,
+        },
+        Call::Retire { frame: eight[0] },
+        Call::Retire { frame: eight[1] },
+        Call::Retire { frame: eight[0] },
+        Call::LookFrame { frame: eight[0] },
+        copy_to(other, eight[0]),
+        Call::Create { station, page },
+    ]);
+    let (eight_more, left) = frames[2..].split_at(ENTRIES);
+    calls.extend(eight_more.iter().map(|&frame| copy_to(page, frame)));
+    calls.push(copy_to(page, eight[0]));
+    calls.extend(left.iter().map(|&frame| copy_to(other, frame)));
+    calls.extend([Call::LookPage { page }, Call::DeletePage { station, page }]);
+    // Broken messages, and one cut short at the end.
+    let broken = [&[0, 2, 2, 1][..], &[0, 2, 1, 13], &[0, 3, 1, 1, 0], &[0]];
+    let calls: Vec<Vec<u8>> = calls.iter().map(Call::encode).collect();
+    [calls.concat(), broken.concat()].concat()
 }
 
 /// One accepted call of each kind for `shaped` tables.

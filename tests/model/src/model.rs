@@ -41,16 +41,16 @@ pub struct PageCopy {
     pub recent: bool,
 }
 
-/// The length of raw tables: P, S, 64 page records, the register and the marks of retired frames.
-pub const RAW: usize = RETIRED + REGISTERED;
-/// Where in raw tables the marks of retired frames begin.
-pub const RETIRED: usize = REGISTER + 2 * REGISTERED;
+/// The length of raw tables: P, S, 64 page records and the register.
+pub const RAW: usize = REGISTER + 2 * REGISTERED;
 /// Where in raw tables the register begins.
 pub const REGISTER: usize = 2 + PAGES * RECORD;
-/// So many frames have an entry in the register and a mark, whatever P and S are.
+/// So many frames have an entry in the register, whatever P and S are.
 pub const REGISTERED: usize = 2 * MOST_FRAMES as usize;
 /// The entry of a frame that no copy is on; of others it is 8 * page + copy.
-pub const NO_HOLDER: u16 = 65535;
+pub const FREE_ENTRY: u16 = 65535;
+/// The entry of a retired frame: eight bits from that one, and four or more from any copy's.
+pub const RETIRED: u16 = 0xF0F0;
 /// A raw page record: 16 rights, 8 entries (frame, CURRENT, MOST RECENT), owner, n.
 pub const RECORD: usize = STATIONS + 3 * ENTRIES + 2;
 /// The raw frame of a null copy.
@@ -126,16 +126,21 @@ impl Tables {
     }
 
     /// The raw register. The model keeps none: it is what the search gives of each frame, for all
-    /// of them in one pass.
+    /// of them in one pass, and of the others which are retired.
     fn register(&self) -> Vec<u8> {
-        let mut register = [NO_HOLDER; REGISTERED];
+        let mut register = [FREE_ENTRY; REGISTERED];
         for (page, number, copy) in self.copies() {
             let entry = copy.frame.and_then(|f| register.get_mut(usize::from(f)));
-            if let Some(free @ &mut NO_HOLDER) = entry {
+            if let Some(free @ &mut FREE_ENTRY) = entry {
                 *free = (ENTRIES * page + number) as u16;
             }
         }
-        register.into_iter().flat_map(u16::to_be_bytes).collect()
+        for (entry, retired) in register.iter_mut().zip(self.retired) {
+            if retired && *entry == FREE_ENTRY {
+                *entry = RETIRED;
+            }
+        }
+        register.into_iter().flat_map(u16::to_le_bytes).collect()
     }
 
     /// The tables that raw bytes stand for; None if a table rule fails.
@@ -147,10 +152,10 @@ impl Tables {
         for (page, record) in raw[2..REGISTER].chunks(RECORD).enumerate() {
             tables.pages[page] = Page::from_raw(record)?;
         }
-        for (retired, &byte) in tables.retired.iter_mut().zip(&raw[RETIRED..]) {
-            *retired = mark(byte)?;
+        for (retired, entry) in tables.retired.iter_mut().zip(raw[REGISTER..].chunks(2)) {
+            *retired = entry == RETIRED.to_le_bytes();
         }
-        let is_sound = tables.keep_the_rules() && tables.register() == raw[REGISTER..RETIRED];
+        let is_sound = tables.keep_the_rules() && tables.register() == raw[REGISTER..];
         is_sound.then_some(tables)
     }
 
@@ -190,7 +195,6 @@ impl Tables {
             raw.extend_from_slice(&record);
         }
         raw.extend(self.register());
-        raw.extend(self.retired.map(u8::from));
         raw
     }
 

@@ -3,14 +3,14 @@
 //! act of request [3], the deletes of request [2] and the retired frames of request [5].
 
 use ::model::cases::{
-    bytes, example, in_parts, one_by_one, unit, Case, Served, StoreCase, CALLS, DELETES, EXPOSING,
-    PAIRS, REPLIES, RETIRES, RETIRES_ON_SHAPED, STARRED,
+    bytes, example, in_parts, one_by_one, unit, Case, Served, StoreCase, BORDERS, CALLS, DELETES,
+    EXPOSING, PAIRS, REPLIES, RETIRES, RETIRES_ON_SHAPED, STARRED, WIDEST,
 };
 use ::model::gen::{self, Rng, DAMAGES};
 use ::model::kernel::{Embedded, Kernel, Modelled};
 use ::model::model::{
-    self, frame_bytes, program, Lent, Reader, Tables, FRAME, KINDS, MOST_FRAMES, NO_HOLDER,
-    PROGRAM_INPUT, RAW, SLIP,
+    self, frame_bytes, program, Lent, Reader, Tables, FRAME, KINDS, MOST_FRAMES, FREE_ENTRY,
+    PROGRAM_INPUT, RAW, RETIRED, SLIP,
 };
 use reel::words::hex;
 
@@ -146,6 +146,14 @@ fn traps_and_impostors() {
 }
 
 #[test]
+fn borders() {
+    for kernel in BOTH {
+        BORDERS.iter().for_each(|case| check(kernel, case));
+        check_all(kernel, &[WIDEST]);
+    }
+}
+
+#[test]
 fn pairs_of_right_and_act() {
     for kernel in BOTH {
         PAIRS.iter().for_each(|case| check(kernel, case));
@@ -179,7 +187,7 @@ fn retires_and_what_they_leave() {
 }
 
 /// The same on tables with every shape of page, each call from the same state. An accepted one changes
-/// at most the mark of its frame.
+/// at most the entry of its frame.
 #[test]
 fn retires_on_shaped_tables() {
     let lent = gen::shaped(&mut Rng::new(1));
@@ -191,7 +199,7 @@ fn retires_on_shaped_tables() {
             let mut due = lent.clone();
             due.out = left.out.clone();
             if line == "retire 12" {
-                due.tables[3198 + 12] = 1;
+                due.tables[2690 + 2 * 12..][..2].fill(0xF0);
             }
             assert_eq!(left, due, "{line}");
         }
@@ -204,7 +212,7 @@ fn retires_at_the_borders_of_units() {
     for kernel in BOTH {
         let mut desk = Desk::of(kernel, MOST_FRAMES);
         let mut due = desk.lent.clone();
-        assert_eq!(desk.lent.tables.len(), 3452);
+        assert_eq!(desk.lent.tables.len(), 3198);
         for frame in [0, 126, 127, 253] {
             assert_eq!(
                 desk.give(&bytes(&format!("retire {frame}"))),
@@ -212,7 +220,7 @@ fn retires_at_the_borders_of_units() {
             );
             let told = desk.accept(&format!("look-frame {frame}"));
             assert_eq!(told, [2, 255, 255]);
-            due.tables[3198 + frame] = 1;
+            due.tables[2690 + 2 * frame..][..2].fill(0xF0);
         }
         for frame in [254, 255] {
             assert_eq!(desk.refuse(&format!("retire {frame}")), 7);
@@ -241,7 +249,7 @@ fn every_frame_retired() {
             for frame in 0..254 {
                 desk.accept(&format!("retire {frame}"));
             }
-            due.tables[3198..].fill(1);
+            due.tables[2690..].fill(0xF0);
             due.out = desk.lent.out.clone();
             assert_eq!(desk.lent, due);
         }
@@ -471,19 +479,22 @@ fn every_damage_breaks_the_tables() {
     }
 }
 
-/// The register in bytes: the frames that are held after each call, with their entries.
+/// The register in bytes: the frames that are held or retired after each call, with their entries.
 #[test]
 fn the_register_follows_every_step() {
-    let steps: [(&str, &[(usize, u8)]); 9] = [
+    let steps: [(&str, &[(usize, u16)]); 9] = [
         ("create 3 5", &[]),
         ("copy 5 0 0", &[(0, 40)]),
         ("copy 5 0 6", &[(0, 40), (6, 41)]),
         ("copy 5 0 2", &[(0, 40), (6, 41), (2, 42)]),
         ("create 3 1", &[(0, 40), (6, 41), (2, 42)]),
         ("copy 1 0 7", &[(0, 40), (6, 41), (2, 42), (7, 8)]),
-        ("retire 3", &[(0, 40), (6, 41), (2, 42), (7, 8)]),
-        ("delete-copy 5 0", &[(6, 40), (2, 41), (7, 8)]),
-        ("delete-page 3 5", &[(7, 8)]),
+        (
+            "retire 3",
+            &[(0, 40), (6, 41), (2, 42), (7, 8), (3, 0xF0F0)],
+        ),
+        ("delete-copy 5 0", &[(6, 40), (2, 41), (7, 8), (3, 0xF0F0)]),
+        ("delete-page 3 5", &[(7, 8), (3, 0xF0F0)]),
     ];
     for kernel in BOTH {
         let mut desk = Desk::fresh(kernel);
@@ -491,16 +502,16 @@ fn the_register_follows_every_step() {
             desk.accept(line);
             let mut due = vec![255; 2 * 254];
             for &(frame, entry) in held {
-                due[2 * frame..][..2].copy_from_slice(&[0, entry]);
+                due[2 * frame..][..2].copy_from_slice(&entry.to_le_bytes());
             }
-            assert_eq!(desk.lent.tables[2690..3198], due, "{line}");
+            assert_eq!(desk.lent.tables[2690..], due, "{line}");
         }
     }
 }
 
-/// The marks in bytes: the frames that are retired after each call.
+/// The frames that are retired after each call.
 #[test]
-fn the_marks_follow_every_step() {
+fn the_retired_follow_every_step() {
     let steps: [(&str, &[usize]); 9] = [
         ("create 3 5", &[]),
         ("retire 7", &[7]),
@@ -516,25 +527,23 @@ fn the_marks_follow_every_step() {
         let mut desk = Desk::fresh(kernel);
         for (line, retired) in steps {
             desk.accept(line);
-            let mut due = vec![0; 254];
-            for &frame in retired {
-                due[frame] = 1;
-            }
-            assert_eq!(desk.lent.tables[3198..], due, "{line}");
+            let out = |&frame: &usize| gen::holder(&desk.lent.tables, frame as u8) == RETIRED;
+            let left: Vec<usize> = (0..254).filter(out).collect();
+            assert_eq!(left, retired, "{line}");
         }
     }
 }
 
 #[test]
-fn the_register_and_the_marks_have_what_looks_tell() {
+fn the_register_has_what_looks_tell() {
     let mut rng = Rng::new(1);
     for _ in 0..100 {
         let lent = gen::lawful(&mut rng);
         let tables = Tables::from_raw(&lent.tables).expect("lawful tables");
         for frame in 0..tables.frames() as u8 {
             let due = match gen::holder(&lent.tables, frame) {
-                NO_HOLDER if lent.tables[3198 + usize::from(frame)] == 1 => [2, 255, 255],
-                NO_HOLDER => [0, 255, 255],
+                RETIRED => [2, 255, 255],
+                FREE_ENTRY => [0, 255, 255],
                 entry => [1, (entry / 8) as u8, (entry % 8) as u8],
             };
             for kernel in BOTH {
@@ -542,6 +551,29 @@ fn the_register_and_the_marks_have_what_looks_tell() {
                 let told = Desk { kernel, lent }.accept(&format!("look-frame {frame}"));
                 assert_eq!(told, due, "frame {frame}");
             }
+        }
+    }
+}
+
+/// Of a held, a free and a retired frame, every change of the entry: the rules let pass but that between
+/// free and retired, of eight bits.
+#[test]
+fn no_flip_of_a_few_bits_passes_for_another_state() {
+    let lines = ["create 3 5", "copy 5 0 0", "retire 2"];
+    for kernel in BOTH {
+        let mut desk = Desk::fresh(kernel);
+        for line in lines {
+            desk.accept(line);
+        }
+        for (frame, entry) in [(0, 40), (1, 0xFFFF), (2, 0xF0F0)] {
+            assert_eq!(gen::holder(&desk.lent.tables, frame), entry);
+            for flips in 1..=u16::MAX {
+                gen::set_holder(&mut desk.lent.tables, frame, entry ^ flips);
+                let passes = entry != 40 && flips == 0x0F0F;
+                let due = if passes { 0 } else { 5 };
+                assert_eq!(kernel.rules(&desk.lent), due, "{entry:04X} {flips:04X}");
+            }
+            gen::set_holder(&mut desk.lent.tables, frame, entry);
         }
     }
 }

@@ -1,99 +1,288 @@
-//! The history of a page, as the tool prints it, held against the independent model on random
-//! files.
+//! The histories of pages and frames, as the tool prints them, held against the independent model on
+//! random files, from fresh tables and from such as were kept.
 
-use reel::looks::Mark;
+use model::gen::{lawful, Rng};
+use model::model::Lent;
+use reel::looks::{Mark, OnFrame};
 use reel::words;
-use reel_tests::{modelled, printed, random_file, since, Scratch, Turn};
+use reel_tests::{
+    frame_since, fresh, kept, modelled_from, printed, random_file, random_file_from, Scratch,
+    Stale, Turn,
+};
 
 const SIZES: [(u8, u8); 5] = [(4, 4), (3, 9), (20, 20), (127, 127), (9, 0)];
 
-/// The lines of `reel page FILE PAGE`, by the model.
-fn history(turns: &[Turn], page: usize, fast: u8) -> String {
-    let mut lines = String::new();
-    for (before, turn) in turns.iter().enumerate() {
-        if turn.page() != Some(page as u8) {
-            continue;
-        }
-        let at = before + 1;
-        let message = words::message(&turn.message);
-        let reply = words::reply(&turn.message, &turn.reply, fast);
-        let copies = turn.pages[page].iter().map(|copy| match copy.mark {
-            Mark::Stale => {
-                let since = since(turns, at, page, copy);
-                format!("{} since {since}", copy.in_words(fast))
-            }
-            _ => copy.in_words(fast),
-        });
-        let copies = match turn.pages[page].is_empty() {
-            true => "the page does not stand".to_string(),
-            false => words::listed(copies),
-        };
-        lines += &format!("{at:6}  {message}: {reply} | {copies}\n");
-    }
-    lines
+/// A shift by the model and by the tool: its file, and the words that say what it starts from.
+struct Both {
+    scratch: Scratch,
+    turns: Vec<Turn>,
+    fast: u8,
+    start: Vec<String>,
+    /// The unit as the model leaves it.
+    end: Lent,
 }
 
-/// The lines of `reel page FILE PAGE --at K` about copies, by the model.
-fn latest(turns: &[Turn], at: usize, page: usize, fast: u8) -> Vec<String> {
-    let copies = turns[at - 1].pages[page].iter().enumerate();
-    let (stale, recent): (Vec<_>, Vec<_>) = copies.partition(|(_, copy)| copy.mark == Mark::Stale);
-    let recent = recent.iter().map(|(number, copy)| {
-        let (place, mark) = (copy.place(fast), copy.mark.word());
-        format!("latest: copy {number}, {place}, {mark}")
-    });
-    let stale = stale.iter().map(|(number, copy)| {
-        let since = since(turns, at, page, copy);
-        let (place, message) = (copy.place(fast), words::message(&turns[since - 1].message));
-        format!("stale: copy {number}, {place}, since message {since}, {message}")
-    });
-    recent.chain(stale).collect()
+impl Both {
+    fn fresh(name: &str, seed: u64, (fast, slow): (u8, u8), messages: usize) -> Both {
+        let start = ["--fast", &fast.to_string(), "--slow", &slow.to_string()].map(String::from);
+        let file = random_file(seed, fast, slow, messages);
+        Both::of(Scratch::new(name), &file, fresh(fast, slow), start.to_vec())
+    }
+
+    /// From tables and stores that were kept.
+    fn kept(name: &str, seed: u64, messages: usize) -> Both {
+        let rng = &mut Rng::new(seed);
+        let lent = lawful(rng);
+        let file = random_file_from(rng, lent.clone(), messages);
+        let scratch = Scratch::new(name);
+        let start = kept(&scratch, &lent);
+        Both::of(scratch, &file, lent, start)
+    }
+
+    fn of(scratch: Scratch, file: &[u8], mut lent: Lent, start: Vec<String>) -> Both {
+        scratch.file("calls", file);
+        let fast = lent.tables[0];
+        let turns = modelled_from(&mut lent, file);
+        Both {
+            scratch,
+            turns,
+            fast,
+            start,
+            end: lent,
+        }
+    }
+
+    fn messages(&self) -> usize {
+        self.turns.len() - 1
+    }
+
+    fn printed(&self, command: &str, words: &[&str]) -> String {
+        let start = self.start.iter().map(String::as_str);
+        let words: Vec<&str> = words.iter().copied().chain(start).collect();
+        printed(command, &self.scratch.path("calls"), &words)
+    }
+
+    /// The message of this number in words.
+    fn words(&self, number: usize) -> String {
+        words::message(&self.turns[number].message)
+    }
+
+    /// The lines of `reel page FILE PAGE`.
+    fn history(&self, page: usize) -> String {
+        let mut lines = String::new();
+        for (at, turn) in self.turns.iter().enumerate().skip(1) {
+            if turn.page() != Some(page as u8) {
+                continue;
+            }
+            let copies = turn.pages[page].iter().map(|copy| {
+                let words = copy.in_words(self.fast);
+                match copy.mark {
+                    Mark::Stale => {
+                        let stale = Stale::of(&self.turns, at, page, copy);
+                        let made = stale
+                            .making()
+                            .map_or(String::new(), |made| format!(" ({made})"));
+                        format!("{words} {}{made}", from_start_or(stale.since, "since ", ""))
+                    }
+                    _ => words,
+                }
+            });
+            let copies = match turn.pages[page].is_empty() {
+                true => "the page does not stand".to_string(),
+                false => words::listed(copies),
+            };
+            lines += &format!("{} | {copies}\n", turn.line(at, self.fast));
+        }
+        lines
+    }
+
+    /// The lines of `reel page FILE PAGE --at K` about copies.
+    fn latest(&self, at: usize, page: usize) -> Vec<String> {
+        let copies = self.turns[at].pages[page].iter().enumerate();
+        let (stale, recent): (Vec<_>, Vec<_>) =
+            copies.partition(|(_, copy)| copy.mark == Mark::Stale);
+        let recent = recent.iter().map(|(number, copy)| {
+            let (place, mark) = (copy.place(self.fast), copy.mark.word());
+            format!("latest: copy {number}, {place}, {mark}")
+        });
+        let stale = stale.iter().map(|(number, copy)| {
+            let stale = Stale::of(&self.turns, at, page, copy);
+            let made = stale
+                .making()
+                .map_or(String::new(), |made| format!("{made}, stale "));
+            let (place, since) = (copy.place(self.fast), self.since(stale.since));
+            format!("stale: copy {number}, {place}, {made}{since}")
+        });
+        recent.chain(stale).collect()
+    }
+
+    fn since(&self, number: usize) -> String {
+        let words = format!(", {}", self.words(number));
+        from_start_or(number, "since message ", &words)
+    }
+
+    fn on_frame(&self, at: usize, frame: u8) -> String {
+        match self.turns[at].frames[usize::from(frame)] {
+            OnFrame::Nothing => "free".into(),
+            OnFrame::Retired => "retired".into(),
+            OnFrame::Copy { page, number, mark } => {
+                format!("page {page} copy {number} {}", mark.word())
+            }
+        }
+    }
+
+    /// The lines of `reel frame FILE FRAME`.
+    fn frame_history(&self, frame: u8) -> String {
+        let mut lines = String::new();
+        for (at, pair) in (1..).zip(self.turns.windows(2)) {
+            if pair[1].touches(&pair[0], frame) {
+                lines += &format!(
+                    "{} | {}\n",
+                    pair[1].line(at, self.fast),
+                    self.on_frame(at, frame)
+                );
+            }
+        }
+        lines
+    }
+
+    /// The line of `reel frame FILE FRAME --at K`.
+    fn frame_at(&self, at: usize, frame: u8) -> String {
+        let store = words::store(frame, self.fast);
+        let since = self.since(frame_since(&self.turns, at, frame));
+        format!(
+            "frame {frame} {store} after message {at}: {} {since}\n",
+            self.on_frame(at, frame)
+        )
+    }
+}
+
+/// A message's number between these words, or that it was so from the start.
+fn from_start_or(number: usize, before: &str, after: &str) -> String {
+    match number {
+        0 => "from the start".into(),
+        number => format!("{before}{number}{after}"),
+    }
+}
+
+/// Shifts from fresh tables of several sizes and from kept ones.
+fn shifts(name: &str, messages: usize) -> impl Iterator<Item = Both> + '_ {
+    let fresh = (1..)
+        .zip(SIZES)
+        .map(move |(seed, size)| Both::fresh(name, seed, size, messages));
+    fresh.chain((101..109).map(move |seed| Both::kept(name, seed, messages)))
 }
 
 #[test]
-fn every_line_is_what_the_model_says() {
-    let scratch = Scratch::new("history");
-    let mut lines = 0;
-    for (seed, (fast, slow)) in (1..).zip(SIZES.repeat(2)) {
-        let bytes = random_file(seed, fast, slow, 1_500);
-        let file = scratch.file("calls", &bytes);
-        let turns = modelled(&bytes, fast, slow);
-        let size = ["--fast", &fast.to_string(), "--slow", &slow.to_string()];
+fn every_line_of_a_page_is_what_the_model_says() {
+    let (mut lines, mut from_start) = (0, 0);
+    for both in shifts("history", 1_500) {
         for page in [63, 62, 60, 55, 0] {
-            let page_word = page.to_string();
-            let words = [&[&page_word[..]], &size[..]].concat();
-            let due = history(&turns, page, fast);
+            let due = both.history(page);
             assert_eq!(
-                printed("page", &file, &words),
+                both.printed("page", &[&page.to_string()]),
                 due,
-                "seed {seed}, page {page}"
+                "page {page}"
             );
             lines += due.lines().count();
+            from_start += due.matches("stale from the start").count();
         }
     }
     assert!(lines > 2_000, "only {lines} lines were compared");
+    assert!(
+        from_start > 10,
+        "only {from_start} copies were stale from the start"
+    );
 }
 
 #[test]
 fn the_latest_copies_are_those_of_the_model() {
-    let scratch = Scratch::new("latest");
-    let mut stale = 0;
-    for (seed, (fast, slow)) in (101..).zip(SIZES) {
-        let bytes = random_file(seed, fast, slow, 1_000);
-        let file = scratch.file("calls", &bytes);
-        let turns = modelled(&bytes, fast, slow);
-        let size = ["--fast", &fast.to_string(), "--slow", &slow.to_string()];
-        for at in (1..=turns.len()).step_by(turns.len() / 40 + 1) {
-            let at_word = at.to_string();
-            let words = [&["63", "--at", &at_word], &size[..]].concat();
-            let lines = printed("page", &file, &words);
-            let told = |line: &&str| line.starts_with("latest: ") || line.starts_with("stale: ");
-            let lines: Vec<&str> = lines.lines().filter(told).collect();
-            let due = latest(&turns, at, 63, fast);
-            assert_eq!(lines, due, "seed {seed}, message {at}");
-            stale += due.iter().filter(|line| line.starts_with("stale")).count();
+    let mut seen = [
+        ("stale: ", 0),
+        (" from copy ", 0),
+        ("from a copy that is gone", 0),
+        ("from the start", 0),
+    ];
+    for both in shifts("latest", 1_000) {
+        for at in (0..=both.messages()).step_by(both.messages() / 40 + 1) {
+            for page in [63, 62] {
+                let lines = both.printed("page", &[&page.to_string(), "--at", &at.to_string()]);
+                let told =
+                    |line: &&str| line.starts_with("latest: ") || line.starts_with("stale: ");
+                let lines: Vec<&str> = lines.lines().filter(told).collect();
+                let due = both.latest(at, page);
+                assert_eq!(lines, due, "message {at}");
+                for (words, count) in &mut seen {
+                    *count += due.iter().filter(|line| line.contains(*words)).count();
+                }
+            }
         }
     }
-    assert!(stale > 50, "only {stale} stale copies were compared");
+    assert!(seen.iter().all(|(_, count)| *count > 5), "{seen:?}");
+}
+
+#[test]
+fn every_line_of_a_frame_is_what_the_model_says() {
+    let (mut lines, mut seen) = (
+        0,
+        [
+            ("free", 0),
+            ("retired", 0),
+            ("CURRENT", 0),
+            ("stale", 0),
+            ("from the start", 0),
+        ],
+    );
+    for both in shifts("frames", 800) {
+        let frames = both.turns[0].frames.len();
+        for frame in (0..frames).step_by(frames / 8 + 1) {
+            let word = frame.to_string();
+            let due = both.frame_history(frame as u8);
+            assert_eq!(both.printed("frame", &[&word]), due, "frame {frame}");
+            lines += due.lines().count();
+            for at in [0, 1, both.messages() / 2, both.messages()] {
+                let due = both.frame_at(at, frame as u8);
+                assert_eq!(
+                    both.printed("frame", &[&word, "--at", &at.to_string()]),
+                    due
+                );
+                for (words, count) in &mut seen {
+                    *count += usize::from(due.contains(*words));
+                }
+            }
+        }
+    }
+    assert!(lines > 1_000, "only {lines} lines were compared");
+    assert!(seen.iter().all(|(_, count)| *count > 1), "{seen:?}");
+}
+
+#[test]
+fn what_is_kept_is_what_the_model_leaves() {
+    for both in shifts("kept", 400) {
+        let file = |name: &str| both.scratch.path(name).display().to_string();
+        let (tables, stores) = (file("tables-after"), file("stores-after"));
+        let keep = ["--keep-tables", &tables, "--keep-stores", &stores];
+        both.printed("show", &[&keep[..], &["--summary"]].concat());
+        let read = |path: &str| std::fs::read(path).expect("it was written");
+        assert_eq!(read(&tables), both.end.tables);
+        assert_eq!(read(&stores), [&both.end.fast[..], &both.end.slow].concat());
+        // Kept half way, over the files that it starts from, and then run to the end.
+        let half = both.messages() / 2;
+        let ends: usize = both.turns[..=half]
+            .iter()
+            .map(|turn| turn.message.len())
+            .sum();
+        let bytes = std::fs::read(both.scratch.path("calls")).expect("the file");
+        let rest = both.scratch.file("rest", &bytes[ends..]);
+        both.printed(
+            "page",
+            &[&["0", "--at", &half.to_string()], &keep[..]].concat(),
+        );
+        let start = ["--tables", &tables, "--stores", &stores];
+        printed("show", &rest, &[&start[..], &keep, &["--summary"]].concat());
+        assert_eq!(read(&tables), both.end.tables);
+        assert_eq!(read(&stores), [&both.end.fast[..], &both.end.slow].concat());
+    }
 }
 
 #[test]

@@ -17,8 +17,15 @@ fn no_file_breaks_the_tool() {
             }
         };
         let file = scratch.file("bytes", &bytes);
-        let commands: [(&str, &[&str], &[i32]); 5] = [
+        let other = file.display().to_string();
+        let kept = ["--tables", &other[..], "--stores", &other];
+        let commands: [(&str, &[&str], &[i32]); 10] = [
             ("show", &["--strict"], &[0, 1]),
+            ("show", &["--json", "--frame", "3"], &[0]),
+            ("show", &["--summary"], &[0]),
+            ("show", &kept, &[2]),
+            ("frame", &["7"], &[0]),
+            ("diff", &[&other], &[0]),
             ("page", &["0", "--at", "0"], &[0]),
             ("page", &["63"], &[0]),
             ("view", &["-o", &page], &[0]),

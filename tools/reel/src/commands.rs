@@ -1,39 +1,62 @@
 //! The subcommands.
 
 use crate::failure::Failure;
-use crate::history::History;
-use crate::lines;
-use crate::looks::{Reply, Watched};
-use crate::options::{help, Command, Shift, STANDARD};
+use crate::filter::{Filter, Span};
+use crate::history::{FrameHistory, History};
+use crate::looks::Watched;
+use crate::options::{help, Command, Form, Shift};
+use crate::output::{create, put, to_standard, Out};
 use crate::record::Record;
-use crate::run::{each_message, each_turn, name_of, no_tables, open, tell, Outcome};
-use crate::{view, words};
-use kernel::Unit;
+use crate::run::{each_message, name_of, open, tell, Answered, Outcome, Pass, Run};
+use crate::summary::Summary;
+use crate::{diff, json, lines, view, words};
 use std::ffi::OsStr;
 use std::fs;
-use std::io::{self, BufRead, BufReader, BufWriter, Write};
+use std::io::{BufRead, BufReader};
 
 /// How a command ended that was carried out.
 pub enum Status {
     Done,
-    /// A message was refused, and the caller asked to fail on that.
-    Refused,
+    /// A message was refused, and the caller asked to fail on that; or two runs part.
+    Otherwise,
 }
 
 pub fn run(command: Command) -> Result<Status, Failure> {
     match command {
-        Command::Help => to_standard(|out| Ok(out.write_all(help().as_bytes())?)).map(done),
+        Command::Help => to_standard(|out| out.line(help().trim_end())).map(done),
+        Command::Version => to_standard(|out| out.line(version())).map(done),
         Command::Write { lines, out } => write(&lines, &out).map(done),
         Command::Words { file } => {
             words_of(&file)?.tell_notes(&file);
             Ok(Status::Done)
         }
-        Command::Show { shift } => end(&shift, show(&shift)),
-        Command::Page { shift, page, at } => match at {
-            None => end(&shift, history(&shift, page)),
-            Some(turn) => end(&shift, latest(&shift, page, turn)),
-        },
-        Command::View { shift, out } => end(&shift, picture(&shift, &out)),
+        Command::Show {
+            shift,
+            filter,
+            form,
+        } => show(&shift, &filter, form),
+        Command::Page {
+            shift,
+            page,
+            at: None,
+        } => history(&shift, page),
+        Command::Page {
+            shift,
+            page,
+            at: Some(at),
+        } => latest(&shift, page, at),
+        Command::Frame {
+            shift,
+            frame,
+            at: None,
+        } => frame_history(&shift, frame),
+        Command::Frame {
+            shift,
+            frame,
+            at: Some(at),
+        } => frame_at(&shift, frame, at),
+        Command::View { shift, span, out } => picture(&shift, span, &out),
+        Command::Diff { shift, other } => differ(&shift, &other),
     }
 }
 
@@ -41,43 +64,18 @@ fn done((): ()) -> Status {
     Status::Done
 }
 
-/// Tells what is left to say after a shift.
-fn end(shift: &Shift, outcome: Result<Outcome, Failure>) -> Result<Status, Failure> {
-    let outcome = outcome?;
-    outcome.tell_notes(&shift.file);
-    if shift.strict && outcome.refused > 0 {
-        return Ok(Status::Refused);
-    }
-    Ok(Status::Done)
+/// The end of a shift.
+fn end(run: &Run) -> Result<Status, Failure> {
+    Ok(match run.end()? {
+        true => Status::Done,
+        false => Status::Otherwise,
+    })
 }
 
-/// Carries out `action` over buffered standard output.
-fn to_standard<T>(action: impl FnOnce(&mut dyn Write) -> Result<T, Failure>) -> Result<T, Failure> {
-    let mut out = BufWriter::new(io::stdout().lock());
-    let result = action(&mut out)?;
-    out.flush()?;
-    Ok(result)
-}
-
-/// Writes what was made of `source` to a file, or to standard output.
-fn put(path: &OsStr, source: &OsStr, bytes: &[u8]) -> Result<(), Failure> {
-    if path == STANDARD {
-        return to_standard(|out| Ok(out.write_all(bytes)?));
-    }
-    if is_same_file(path, source) {
-        let name = path.display();
-        return Err(Failure::line(format!(
-            "-o {name} would overwrite what it is made of"
-        )));
-    }
-    fs::write(path, bytes).map_err(|error| Failure::at(path.display(), error))
-}
-
-fn is_same_file(one: &OsStr, other: &OsStr) -> bool {
-    match (fs::canonicalize(one), fs::canonicalize(other)) {
-        (Ok(one), Ok(other)) => one == other,
-        _ => false,
-    }
+fn version() -> String {
+    let [patch, minor, major, _] = kernel::version().to_le_bytes();
+    let reel = env!("CARGO_PKG_VERSION");
+    format!("reel {reel}, kernel {major}.{minor}.{patch}")
 }
 
 fn write(path: &OsStr, out: &OsStr) -> Result<(), Failure> {
@@ -104,6 +102,11 @@ fn call_file(path: &OsStr) -> Result<(Vec<u8>, Vec<String>), Failure> {
         number += 1;
         let wrong = |error| Failure::line(format!("{name}: line {number}: {error}"));
         let text = std::str::from_utf8(&line).map_err(|_| wrong("not a line of text".into()))?;
+        // Some editors begin a file of text with a byte order mark.
+        let text = text
+            .strip_prefix('\u{FEFF}')
+            .filter(|_| number == 1)
+            .unwrap_or(text);
         let written = lines::written(text).map_err(wrong)?;
         if let Some(refused) = written.refused {
             let word = words::word(refused);
@@ -117,84 +120,182 @@ fn call_file(path: &OsStr) -> Result<(Vec<u8>, Vec<String>), Failure> {
 
 fn words_of(file: &OsStr) -> Result<Outcome, Failure> {
     to_standard(|out| {
-        each_message(file, true, |_, message| {
-            Ok(writeln!(out, "{}", lines::line(message))?)
+        each_message(file, Pass::whole().printing(out), |_, message| {
+            out.line(lines::line(message))
         })
     })
 }
 
-fn show(shift: &Shift) -> Result<Outcome, Failure> {
-    let unit = Unit::fresh(shift.fast, shift.slow);
-    let mut unit = unit.map_err(|number| no_tables(shift, number))?;
+fn show(shift: &Shift, filter: &Filter, form: Form) -> Result<Status, Failure> {
+    let run = Run::start(shift)?;
+    let mut run = match filter.frame {
+        Some(frame) => run.has_frame(frame).map(|()| run)?,
+        None => run.unwatched(),
+    };
+    let mut summary = Summary::default();
     to_standard(|out| {
-        each_turn(shift, true, |turn, message| {
-            let reply = Reply::to(message, unit.answer(message));
-            writeln!(out, "{}", numbered(turn, message, &reply, shift.fast))?;
-            Ok(reply.number)
-        })
-    })
-}
-
-/// A line for a message and its reply.
-fn numbered(turn: u64, message: &[u8], reply: &Reply, fast: u8) -> String {
-    let (message, reply) = (words::message(message), words::reply(message, reply, fast));
-    format!("{turn:6}  {message}: {reply}")
-}
-
-fn watched(shift: &Shift) -> Result<Watched, Failure> {
-    let watched = Watched::fresh(shift.fast, shift.slow);
-    watched.map_err(|number| no_tables(shift, number))
-}
-
-fn history(shift: &Shift, page: u8) -> Result<Outcome, Failure> {
-    let mut watched = watched(shift)?;
-    let mut history = History::default();
-    to_standard(|out| {
-        each_turn(shift, true, |turn, message| {
-            let reply = watched.feed(message);
-            history.follow(turn, message, page, &watched);
-            if watched.is_touched(page, message) {
-                let line = numbered(turn, message, &reply, shift.fast);
-                writeln!(out, "{line} | {}", history.line(shift.fast))?;
+        run.each(Pass::up_to(filter.span.to).printing(out), |answered| {
+            if !filter.admits(&answered) {
+                return Ok(());
             }
-            Ok(reply.number)
+            match form {
+                Form { summary: true, .. } => summary.count(&answered),
+                Form { json: true, .. } => out.line(json::line(&answered))?,
+                _ => out.line(answered.line())?,
+            }
+            Ok(())
+        })?;
+        if filter.span.from > 1 {
+            run.has_message("--from", filter.span.from)?;
+        }
+        run.watched.look_around();
+        match form.summary {
+            true => summarize(out, &summary, form, &run.watched),
+            false => Ok(()),
+        }
+    })?;
+    end(&run)
+}
+
+fn summarize(out: &Out, summary: &Summary, form: Form, watched: &Watched) -> Result<(), Failure> {
+    match form.json {
+        true => out.line(summary.json(watched)),
+        false => summary
+            .lines(watched)
+            .into_iter()
+            .try_for_each(|line| out.line(line)),
+    }
+}
+
+fn history(shift: &Shift, page: u8) -> Result<Status, Failure> {
+    let mut run = Run::start(shift)?;
+    let mut history = History::start(page, &run.watched);
+    let (fast, _) = run.watched.frames();
+    each_printed(&mut run, |answered| {
+        history.follow(answered, page);
+        answered.is_about(page).then(|| history.line(fast))
+    })?;
+    end(&run)
+}
+
+fn frame_history(shift: &Shift, frame: u8) -> Result<Status, Failure> {
+    let mut run = Run::start(shift)?;
+    run.has_frame(frame)?;
+    let mut history = FrameHistory::start(frame, &run.watched);
+    each_printed(&mut run, |answered| {
+        history.follow(answered);
+        answered.touches(frame).then(|| history.line())
+    })?;
+    end(&run)
+}
+
+/// Prints each message for which there is something to say, with what that is.
+fn each_printed(
+    run: &mut Run,
+    mut say: impl FnMut(&Answered) -> Option<String>,
+) -> Result<(), Failure> {
+    to_standard(|out| {
+        run.each(Pass::whole().printing(out), |answered| {
+            match say(&answered) {
+                Some(words) => out.line(format_args!("{} | {words}", answered.line())),
+                None => Ok(()),
+            }
         })
     })
 }
 
-fn latest(shift: &Shift, page: u8, at: u64) -> Result<Outcome, Failure> {
-    let mut watched = watched(shift)?;
-    let mut history = History::default();
-    let outcome = each_turn(shift, false, |turn, message| {
-        let reply = watched.feed(message);
-        if turn <= at {
-            history.follow(turn, message, page, &watched);
-        }
-        Ok(reply.number)
-    })?;
-    if at > outcome.messages {
-        let messages = words::counted(outcome.messages, "message", "messages");
-        let name = name_of(&shift.file);
-        return Err(Failure::line(format!("--at {at}: {name} has {messages}")));
-    }
-    to_standard(|out| {
-        for line in history.latest(page, at, shift.fast) {
-            writeln!(out, "{line}")?;
-        }
+fn latest(shift: &Shift, page: u8, at: u64) -> Result<Status, Failure> {
+    let mut run = Run::start(shift)?;
+    let mut history = History::start(page, &run.watched);
+    run.each(Pass::up_to(at), |answered| {
+        history.follow(&answered, page);
         Ok(())
     })?;
-    Ok(outcome)
+    run.has_message("--at", at)?;
+    let (fast, _) = run.watched.frames();
+    to_standard(|out| {
+        let mut lines = history.latest(page, at, fast).into_iter();
+        lines.try_for_each(|line| out.line(line))
+    })?;
+    end(&run)
 }
 
-fn picture(shift: &Shift, path: &OsStr) -> Result<Outcome, Failure> {
-    let mut watched = watched(shift)?;
-    let mut record = Record::default();
-    let outcome = each_turn(shift, false, |_, message| {
-        let reply = watched.feed(message);
-        record.turn(message, &reply, &watched);
-        Ok(reply.number)
+fn frame_at(shift: &Shift, frame: u8, at: u64) -> Result<Status, Failure> {
+    let mut run = Run::start(shift)?;
+    run.has_frame(frame)?;
+    let mut history = FrameHistory::start(frame, &run.watched);
+    run.each(Pass::up_to(at), |answered| {
+        history.follow(&answered);
+        Ok(())
     })?;
-    let page = view::page(&name_of(&shift.file), shift.fast, shift.slow, &record);
-    put(path, &shift.file, page.as_bytes())?;
-    Ok(outcome)
+    run.has_message("--at", at)?;
+    let (fast, _) = run.watched.frames();
+    to_standard(|out| out.line(history.at(at, fast)))?;
+    end(&run)
+}
+
+fn picture(shift: &Shift, span: Span, path: &OsStr) -> Result<Status, Failure> {
+    count_ahead(shift, span)?;
+    let mut run = Run::start(shift)?;
+    let mut record = Record::default();
+    let before = span.from - 1;
+    if before == 0 {
+        record.start(0, &run.watched);
+    }
+    run.each(Pass::up_to(span.to), |answered| {
+        if answered.number == before {
+            record.start(before, answered.watched);
+        }
+        if answered.number > before {
+            record.turn(&answered);
+        }
+        has_room(record.messages)
+    })?;
+    if before > 0 {
+        run.has_message("--from", span.from)?;
+    }
+    let mut out = create(path, &shift.file)?;
+    let written = view::write(
+        &mut out,
+        &name_of(&shift.file),
+        run.watched.frames(),
+        &record,
+    );
+    written.map_err(|error| Failure::at(path.display(), error))?;
+    end(&run)
+}
+
+/// An error at once where a plain file, which can be read twice, has more messages than a page.
+fn count_ahead(shift: &Shift, span: Span) -> Result<(), Failure> {
+    if !fs::metadata(&shift.file).is_ok_and(|data| data.is_file()) {
+        return Ok(());
+    }
+    let last = span.from.saturating_add(view::MOST_MESSAGES).min(span.to);
+    let outcome = each_message(&shift.file, Pass::up_to(last), |_, _| Ok(()))?;
+    has_room(outcome.messages.saturating_sub(span.from - 1))
+}
+
+/// An error if a page has no room for so many messages.
+fn has_room(messages: u64) -> Result<(), Failure> {
+    let most = view::MOST_MESSAGES;
+    match messages > most {
+        true => Err(Failure::line(format!(
+            "a page has room for {most} messages, and there are more; --from and --to choose a part"
+        ))),
+        false => Ok(()),
+    }
+}
+
+fn differ(shift: &Shift, other: &OsStr) -> Result<Status, Failure> {
+    let lines = diff::parting(shift, other)?;
+    to_standard(|out| {
+        if lines.is_empty() {
+            return out.line(diff::same(shift, other));
+        }
+        lines.iter().try_for_each(|line| out.line(line))
+    })?;
+    Ok(match lines.is_empty() {
+        true => Status::Done,
+        false => Status::Otherwise,
+    })
 }

@@ -1,52 +1,109 @@
-//! The copies of one page, with the message that made each stale one stale.
+//! The copies of one page, each stale one with the message that made it stale; and what is on one
+//! frame, with the message that brought it about.
 
-use crate::looks::{Mark, PageCopy, Watched};
+use crate::kinds::{Argument, Call};
+use crate::looks::{Mark, OnFrame, PageCopy, Watched};
+use crate::run::Answered;
 use crate::words;
 
-/// A message of the file: its number and its words.
+/// A message of the file: its number and its words. Number 0 is the start.
 #[derive(Clone, Debug, PartialEq, Eq)]
 pub struct Turn {
     pub number: u64,
     pub words: String,
 }
 
-/// A copy, and since when it is stale.
+impl Turn {
+    fn start() -> Turn {
+        let words = String::new();
+        Turn { number: 0, words }
+    }
+
+    fn of(answered: &Answered) -> Turn {
+        Turn {
+            number: answered.number,
+            words: words::message(answered.message),
+        }
+    }
+
+    /// As `since message 7, create station 3 page 5`.
+    fn since(&self) -> String {
+        match self.number {
+            0 => "from the start".into(),
+            number => format!("since message {number}, {}", self.words),
+        }
+    }
+}
+
+/// Why a copy is stale.
+#[derive(Clone, Debug, PartialEq, Eq)]
+pub struct Stale {
+    /// The message since which its bytes are not the latest.
+    pub since: Turn,
+    pub made: Option<Made>,
+}
+
+/// A copy that was made of one that was stale already.
+#[derive(Clone, Debug, PartialEq, Eq)]
+pub struct Made {
+    pub by: u64,
+    /// Which copy it was made of: its `Held::name`.
+    source: u64,
+}
+
+/// A copy as it is now.
 #[derive(Clone, Debug, PartialEq, Eq)]
 pub struct Held {
     pub copy: PageCopy,
-    pub stale_since: Option<Turn>,
+    pub stale: Option<Stale>,
+    /// Which copy of the page it is, among all that there ever were; its number may change.
+    name: u64,
 }
 
-/// A page from fresh tables on.
+/// A page from the start on.
 #[derive(Default)]
 pub struct History {
     copies: Vec<Held>,
     last_change: Option<Turn>,
+    /// How many copies there were.
+    named: u64,
 }
 
 impl History {
-    /// Follows a page: `message`, with this number, was the last one fed.
-    pub fn follow(&mut self, number: u64, message: &[u8], page: u8, watched: &Watched) {
-        if watched.changed().contains(&page) {
-            let words = words::message(message);
-            self.change(Turn { number, words }, watched.copies(page));
+    /// A page as it is at the start.
+    pub fn start(page: u8, watched: &Watched) -> History {
+        let mut history = History::default();
+        if !watched.copies(page).is_empty() {
+            history.change(Turn::start(), None, watched.copies(page));
+        }
+        history
+    }
+
+    /// Follows a page over one message more.
+    pub fn follow(&mut self, answered: &Answered, page: u8) {
+        if answered.watched.changed().contains(&page) {
+            let call = Call::parse(answered.message);
+            let source = call.and_then(|call| call.argument(Argument::Copy));
+            self.change(Turn::of(answered), source, answered.watched.copies(page));
         }
     }
 
-    /// Another look than before: a copy that is not MOST RECENT now was made stale, or made of a
-    /// stale one, by this message, unless it was stale already.
-    fn change(&mut self, turn: Turn, copies: &[PageCopy]) {
+    /// Another look than before. `source` is the copy that the message names.
+    fn change(&mut self, turn: Turn, source: Option<u8>, copies: &[PageCopy]) {
         let before = std::mem::take(&mut self.copies);
+        let source = source.and_then(|number| before.get(usize::from(number)));
         // Within a page the frame tells which copy it is, as the numbers close up after a delete.
         let earlier = |copy: &PageCopy| before.iter().find(|held| held.copy.frame == copy.frame);
-        let held = copies.iter().map(|&copy| Held {
-            copy,
-            stale_since: (copy.mark == Mark::Stale).then(|| {
-                let since = earlier(&copy).and_then(|held| held.stale_since.clone());
-                since.unwrap_or_else(|| turn.clone())
-            }),
-        });
-        self.copies = held.collect();
+        for &copy in copies {
+            let held = earlier(&copy);
+            let name = held.map_or(self.named, |held| held.name);
+            self.named = self.named.max(name + 1);
+            let stale = (copy.mark == Mark::Stale).then(|| match held {
+                Some(held) => held.stale.clone().unwrap_or(Stale::by(&turn)),
+                None => source.map_or(Stale::by(&turn), |source| Stale::made(&turn, source)),
+            });
+            self.copies.push(Held { copy, stale, name });
+        }
         self.last_change = Some(turn);
     }
 
@@ -61,9 +118,18 @@ impl History {
         }
         words::listed(self.copies.iter().map(|held| {
             let copy = held.copy.in_words(fast);
-            match &held.stale_since {
+            match &held.stale {
                 None => copy,
-                Some(turn) => format!("{copy} since {}", turn.number),
+                Some(Stale { since, made }) => {
+                    let made = made
+                        .as_ref()
+                        .map(|made| format!(" ({})", self.making(made)));
+                    let since = match since.number {
+                        0 => "from the start".into(),
+                        number => format!("since {number}"),
+                    };
+                    format!("{copy} {since}{}", made.unwrap_or_default())
+                }
             }
         }))
     }
@@ -80,31 +146,118 @@ impl History {
             )];
         }
         let mut lines = vec![format!("page {page} after message {at}")];
-        for (number, Held { copy, .. }) in self.numbered(|held| held.stale_since.is_none()) {
+        for (number, Held { copy, .. }) in self.numbered(|held| held.stale.is_none()) {
             let (place, mark) = (copy.place(fast), copy.mark.word());
             lines.push(format!("latest: copy {number}, {place}, {mark}"));
         }
-        if self
-            .numbered(|held| held.copy.mark == Mark::Current)
-            .next()
-            .is_none()
-        {
+        let mut current = self.numbered(|held| held.copy.mark == Mark::Current);
+        if current.next().is_none() {
             lines.push("no copy is CURRENT".into());
         }
-        for (number, Held { copy, stale_since }) in self.numbered(|_| true) {
-            if let Some(turn) = stale_since {
-                let (place, since, words) = (copy.place(fast), turn.number, &turn.words);
-                lines.push(format!(
-                    "stale: copy {number}, {place}, since message {since}, {words}"
-                ));
+        for (number, Held { copy, stale, .. }) in self.numbered(|_| true) {
+            if let Some(stale) = stale {
+                let (place, why) = (copy.place(fast), self.why(stale));
+                lines.push(format!("stale: copy {number}, {place}, {why}"));
             }
         }
         lines
+    }
+
+    /// Since when a copy is stale, and how it was made if it was stale from then on.
+    fn why(&self, Stale { since, made }: &Stale) -> String {
+        let since = since.since();
+        match made {
+            None => since,
+            Some(made) => format!("{}, stale {since}", self.making(made)),
+        }
+    }
+
+    /// By which message a copy was made of a stale one, and which number that one has now.
+    fn making(&self, Made { by, source }: &Made) -> String {
+        match self.copies.iter().position(|held| held.name == *source) {
+            Some(number) => format!("made by message {by} from copy {number}"),
+            None => format!("made by message {by} from a copy that is gone"),
+        }
     }
 
     /// The copies that pass a test, with their numbers.
     fn numbered(&self, test: fn(&Held) -> bool) -> impl Iterator<Item = (usize, &Held)> {
         let numbered = self.copies.iter().enumerate();
         numbered.filter(move |(_, held)| test(held))
+    }
+}
+
+impl Stale {
+    /// Made stale by this message.
+    fn by(turn: &Turn) -> Stale {
+        let since = turn.clone();
+        Stale { since, made: None }
+    }
+
+    /// Made by this message of a copy that was stale already.
+    fn made(turn: &Turn, source: &Held) -> Stale {
+        let Some(Stale { since, .. }) = source.stale.clone() else {
+            return Stale::by(turn);
+        };
+        let (by, source) = (turn.number, source.name);
+        let made = Some(Made { by, source });
+        Stale { since, made }
+    }
+}
+
+/// What is on one frame, and since which message.
+pub struct FrameHistory {
+    frame: u8,
+    now: OnFrame,
+    since: Turn,
+}
+
+impl FrameHistory {
+    /// A frame as it is at the start.
+    pub fn start(frame: u8, watched: &Watched) -> FrameHistory {
+        FrameHistory {
+            frame,
+            now: watched.on_frame(frame),
+            since: Turn::start(),
+        }
+    }
+
+    /// Follows the frame over one message more.
+    pub fn follow(&mut self, answered: &Answered) {
+        let now = answered.watched.on_frame(self.frame);
+        if !is_same(self.now, now) {
+            self.since = Turn::of(answered);
+        }
+        self.now = now;
+    }
+
+    /// What is on the frame, in words.
+    pub fn line(&self) -> String {
+        match self.now {
+            OnFrame::Nothing => "free".into(),
+            OnFrame::Retired => "retired".into(),
+            OnFrame::Copy { page, number, mark } => {
+                format!("page {page} copy {number} {}", mark.word())
+            }
+        }
+    }
+
+    /// What is on the frame after message `at`, and since when.
+    pub fn at(&self, at: u64, fast: u8) -> String {
+        let (frame, store) = (self.frame, words::store(self.frame, fast));
+        let (now, since) = (self.line(), self.since.since());
+        format!("frame {frame} {store} after message {at}: {now} {since}")
+    }
+}
+
+/// Whether the same copy is there with the same mark; its number may have closed up.
+fn is_same(one: OnFrame, other: OnFrame) -> bool {
+    let what = |on| match on {
+        OnFrame::Copy { page, mark, .. } => Some((page, mark)),
+        _ => None,
+    };
+    match (what(one), what(other)) {
+        (None, None) => one == other,
+        (one, other) => one == other,
     }
 }

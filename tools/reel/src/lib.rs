@@ -1,16 +1,24 @@
 //! Call files of the reel page kernel in words and pictures. Every state that is shown comes from
-//! the kernel's own look replies; nothing here knows the layout of its tables.
+//! the kernel's own look replies; only `rules`, which says what is wrong with broken tables, looks into
+//! the tables' bytes.
 
 pub mod commands;
+mod diff;
 pub mod failure;
+pub mod filter;
 pub mod history;
+pub mod json;
 pub mod kinds;
 pub mod lines;
 pub mod looks;
 pub mod options;
+pub mod output;
 mod progress;
 pub mod reader;
 pub mod record;
+pub mod rules;
 pub mod run;
+mod start;
+mod summary;
 pub mod view;
 pub mod words;

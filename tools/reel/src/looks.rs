@@ -1,9 +1,12 @@
 //! The kernel fed message by message, and pages and frames as its own looks show them in between.
 
 use crate::kinds::{kind_byte, Argument, Call};
-use kernel::{Answer, Unit, MESSAGE};
+use kernel::{Answer, Unit, MESSAGE, MOST_FRAMES};
 
 pub const PAGES: usize = 64;
+pub const STATIONS: u8 = 16;
+/// So many frames a unit has at the most, fast and slow ones.
+pub const MOST_FRAMES_OF_BOTH: u8 = 2 * MOST_FRAMES;
 
 /// The reader's refusal of a kind that it does not know.
 const UNKNOWN_KIND: u8 = 3;
@@ -61,6 +64,7 @@ fn copy_of(frame: u8, current: bool, recent: bool) -> PageCopy {
 }
 
 /// The reply to a message.
+#[derive(Clone, Debug, PartialEq, Eq)]
 pub struct Reply {
     /// 0 accepted, else the number of the refusal.
     pub number: u8,
@@ -90,26 +94,77 @@ impl Reply {
     }
 }
 
+/// What is on a frame.
+#[derive(Clone, Copy, Debug, PartialEq, Eq)]
+pub enum OnFrame {
+    Nothing,
+    Retired,
+    Copy { page: u8, number: u8, mark: Mark },
+}
+
 /// A unit that is fed a call file and looked at in between.
 pub struct Watched {
     unit: Unit,
     pages: Vec<Vec<PageCopy>>,
+    frames: Vec<OnFrame>,
     changed: Vec<u8>,
-    /// For each frame number whether it was seen retired.
-    retired: Vec<bool>,
+    touched: Vec<u8>,
     newly_retired: Option<u8>,
+    is_watching: bool,
 }
 
 impl Watched {
+    /// A unit as it is before the first message.
+    pub fn start(unit: Unit) -> Watched {
+        let (fast, slow) = unit.frames();
+        let mut watched = Watched {
+            unit,
+            pages: vec![Vec::new(); PAGES],
+            frames: vec![OnFrame::Nothing; usize::from(fast) + usize::from(slow)],
+            changed: Vec::new(),
+            touched: Vec::new(),
+            newly_retired: None,
+            is_watching: true,
+        };
+        watched.look_around();
+        watched
+    }
+
     /// Fresh tables, or the number of the refusal.
     pub fn fresh(fast: u8, slow: u8) -> Result<Watched, u8> {
-        Ok(Watched {
-            unit: Unit::fresh(fast, slow)?,
-            pages: vec![Vec::new(); PAGES],
-            changed: Vec::new(),
-            retired: vec![false; 256],
-            newly_retired: None,
-        })
+        Unit::fresh(fast, slow).map(Watched::start)
+    }
+
+    /// From now on nothing is looked at after a message.
+    pub fn close_eyes(&mut self) {
+        self.is_watching = false;
+    }
+
+    /// Looks at every page and frame.
+    pub fn look_around(&mut self) {
+        for page in 0..PAGES as u8 {
+            self.look_at_page(page);
+        }
+        for frame in 0..self.frames.len() as u8 {
+            self.look_at_frame(frame);
+        }
+        self.forget();
+    }
+
+    /// What the last message did is told no more.
+    fn forget(&mut self) {
+        self.changed.clear();
+        self.touched.clear();
+        self.newly_retired = None;
+    }
+
+    pub fn unit(&self) -> &Unit {
+        &self.unit
+    }
+
+    /// How many fast and slow frames there are.
+    pub fn frames(&self) -> (u8, u8) {
+        self.unit.frames()
     }
 
     /// The copies of a page; none if it does not stand.
@@ -117,9 +172,23 @@ impl Watched {
         self.pages.get(usize::from(page)).map_or(&[], Vec::as_slice)
     }
 
+    pub fn on_frame(&self, frame: u8) -> OnFrame {
+        self.frames[usize::from(frame)]
+    }
+
+    /// What is on each frame.
+    pub fn on_frames(&self) -> &[OnFrame] {
+        &self.frames
+    }
+
     /// The pages whose copies or marks the last message changed.
     pub fn changed(&self) -> &[u8] {
         &self.changed
+    }
+
+    /// The frames on which the last message changed something, and those that it laid bytes into.
+    pub fn touched(&self) -> &[u8] {
+        &self.touched
     }
 
     /// The frame that the last message retired.
@@ -127,19 +196,11 @@ impl Watched {
         self.newly_retired
     }
 
-    /// Whether the last message, which is `message`, names the page or changed it.
-    pub fn is_touched(&self, page: u8, message: &[u8]) -> bool {
-        let call = Call::parse(message);
-        let named = call.and_then(|call| call.argument(Argument::Page));
-        named == Some(page) || self.changed.contains(&page)
-    }
-
     /// Answers the next message of the file, then looks at what it may have changed.
     pub fn feed(&mut self, message: &[u8]) -> Reply {
         let reply = self.answer(message);
-        self.changed.clear();
-        self.newly_retired = None;
-        if reply.number == 0 {
+        self.forget();
+        if self.is_watching && reply.number == 0 {
             self.look_after(message);
         }
         reply
@@ -164,14 +225,28 @@ impl Watched {
             (None, None) => 0..=PAGES as u8 - 1,
         };
         self.changed = pages.filter(|&page| self.look_at_page(page)).collect();
+        if let Some(page) =
+            named(Argument::Page).filter(|_| call.is_some_and(|call| call.kind.has_bytes()))
+        {
+            self.touch_current(page);
+        }
+    }
+
+    /// A write has laid its bytes into the CURRENT copies.
+    fn touch_current(&mut self, page: u8) {
+        let copies = self.pages.get(usize::from(page)).into_iter().flatten();
+        let current = copies.filter(|copy| copy.mark == Mark::Current);
+        self.touched.extend(current.filter_map(|copy| copy.frame));
     }
 
     /// Looks at a frame; notes it where it is retired and was not before.
     fn look_at_frame(&mut self, frame: u8) {
         let is_retired = self.shown(LOOK_AT_FRAME, frame).first() == Some(&RETIRED);
-        let seen = &mut self.retired[usize::from(frame)];
-        self.newly_retired = (is_retired && !*seen).then_some(frame);
-        *seen = is_retired;
+        let seen = self.on_frame(frame) == OnFrame::Retired;
+        self.newly_retired = (is_retired && !seen).then_some(frame);
+        if self.newly_retired.is_some() {
+            self.put(frame, OnFrame::Retired);
+        }
     }
 
     /// Looks at a page; whether it shows other copies or marks than before.
@@ -180,9 +255,32 @@ impl Watched {
         let Some(seen) = self.pages.get_mut(usize::from(page)) else {
             return false;
         };
-        let is_changed = *seen != copies;
-        *seen = copies;
-        is_changed
+        if *seen == copies {
+            return false;
+        }
+        let before = std::mem::replace(seen, copies.clone());
+        for frame in before.iter().filter_map(|copy| copy.frame) {
+            if copies.iter().all(|copy| copy.frame != Some(frame)) {
+                self.put(frame, OnFrame::Nothing);
+            }
+        }
+        for (number, copy) in (0..).zip(copies) {
+            if let PageCopy {
+                frame: Some(frame),
+                mark,
+            } = copy
+            {
+                self.put(frame, OnFrame::Copy { page, number, mark });
+            }
+        }
+        true
+    }
+
+    fn put(&mut self, frame: u8, now: OnFrame) {
+        let before = std::mem::replace(&mut self.frames[usize::from(frame)], now);
+        if before != now {
+            self.touched.push(frame);
+        }
     }
 
     /// The data of a look of this kind at a page or frame; none where it is refused.

@@ -8,7 +8,7 @@ use std::process::ExitCode;
 
 fn main() -> ExitCode {
     match parse(std::env::args_os().skip(1)).and_then(run) {
-        Ok(Status::Refused) => ExitCode::from(1),
+        Ok(Status::Otherwise) => ExitCode::from(1),
         Ok(Status::Done) | Err(Failure::ClosedPipe) => ExitCode::SUCCESS,
         Err(Failure::Line(line)) => {
             // With standard error closed there is nobody to tell.

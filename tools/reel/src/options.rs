@@ -1,11 +1,14 @@
 //! The command line.
 
 use crate::failure::Failure;
+use crate::filter::{Filter, Span};
 use crate::kinds::KINDS;
-use crate::looks::PAGES;
+use crate::looks::{MOST_FRAMES_OF_BOTH, PAGES, STATIONS};
+use crate::view::MOST_MESSAGES;
 use kernel::MOST_FRAMES;
 use std::ffi::{OsStr, OsString};
 use std::fmt::Display;
+use std::str::FromStr;
 
 const COMMANDS: &str = "\
 reel: call files of the reel page kernel, seen through the kernel's own replies
@@ -17,16 +20,38 @@ reel: call files of the reel page kernel, seen through the kernel's own replies
                                  page's copies after it
   reel page FILE PAGE --at K     which copies are the latest after message K, and which message
                                  made each of the others stale
+  reel frame FILE FRAME          the history of a frame: each message that names it, changes what
+                                 is on it or lays bytes there, with what is on it after it
+  reel frame FILE FRAME --at K   what is on it after message K, and since when
   reel view FILE -o OUT.html     the whole file as a picture for a browser, with no network
+  reel diff FILE OTHER           where the runs of two files part
+  reel --version                 the versions of reel and of its kernel
 
-show, page and view start from fresh tables and take
-  --fast P, --slow S             the frames, 0 to 127 each; 4 each if not given
+show, page, frame, view and diff take
+  --fast P, --slow S             fresh tables of so many frames, 0 to 127 each; 4 each if not given
+  --tables FILE --stores FILE    tables and stores that were kept, as the kernel has their bytes: the
+                                 tables, and the fast store with the slow one behind it
+and show, page, frame and view also
+  --keep-tables FILE --keep-stores FILE
+                                 write both as they are after the last message read, for the next
+                                 shift to start from; may be the files that this one started from
   --strict                       exit status 1 if a message was refused
 
+show takes only messages that pass each of
+  --page P, --station S          that name the page, that come from the station
+  --frame F                      that name the frame, change what is on it or lay bytes there
+  --refused                      that were refused
+  --from K, --to L               from message K on, up to message L; nothing is read after it
+and prints, in the place of sentences, with
+  --json                         a line of JSON for each message
+  --summary                      how many there are of each kind and number, and what they leave
+";
+
+const REST: &str = "
 Messages are numbered from 1. `-` stands for standard input or output.
 
-Exit status: 0 done; 1 with --strict, the file was read and a message was refused; 2 bad usage, or
-a file that cannot be read or written.
+Exit status: 0 done; 1 with --strict, the file was read and a message was refused, or for diff the
+runs part; 2 bad usage, or a file that cannot be read or written.
 
 A line of words is one of these, with decimal numbers 0 to 255; BYTES are hexadecimal, two digits
 each. What follows a `#` is a comment. A call that the kernel's writer refuses, as one with a number
@@ -35,7 +60,9 @@ out of range, is written all the same, with a warning on standard error.
 
 /// All that `reel --help` says.
 pub fn help() -> String {
-    let mut text = COMMANDS.to_string();
+    let view =
+        format!("view takes --from K and --to L too, and has room for {MOST_MESSAGES} messages.\n");
+    let mut text = [COMMANDS, &view, REST].concat();
     for kind in &KINDS {
         text += &format!("  {}", kind.word);
         for argument in kind.arguments {
@@ -49,20 +76,45 @@ pub fn help() -> String {
     text + "  raw BYTES (laid as they are)\n"
 }
 
-/// A call file and the fresh tables that it starts from.
+/// Where tables and stores are kept.
+#[derive(Debug, PartialEq, Eq)]
+pub struct Files {
+    pub tables: OsString,
+    pub stores: OsString,
+}
+
+/// What a shift starts from.
+#[derive(Debug, PartialEq, Eq)]
+pub enum Start {
+    Fresh {
+        fast: u8,
+        slow: u8,
+        /// Whether a size was given.
+        is_sized: bool,
+    },
+    Kept(Files),
+}
+
+/// A call file, what it starts from, and what is kept at its end.
 #[derive(Debug, PartialEq, Eq)]
 pub struct Shift {
     pub file: OsString,
-    pub fast: u8,
-    pub slow: u8,
-    /// Whether a size was given.
-    pub is_sized: bool,
+    pub start: Start,
+    pub keep: Option<Files>,
     pub strict: bool,
+}
+
+/// How `reel show` tells what it shows.
+#[derive(Clone, Copy, Debug, PartialEq, Eq)]
+pub struct Form {
+    pub json: bool,
+    pub summary: bool,
 }
 
 #[derive(Debug, PartialEq, Eq)]
 pub enum Command {
     Help,
+    Version,
     Write {
         lines: OsString,
         out: OsString,
@@ -72,15 +124,27 @@ pub enum Command {
     },
     Show {
         shift: Shift,
+        filter: Filter,
+        form: Form,
     },
     Page {
         shift: Shift,
         page: u8,
         at: Option<u64>,
     },
+    Frame {
+        shift: Shift,
+        frame: u8,
+        at: Option<u64>,
+    },
     View {
         shift: Shift,
+        span: Span,
         out: OsString,
+    },
+    Diff {
+        shift: Shift,
+        other: OsString,
     },
 }
 
@@ -89,16 +153,12 @@ pub const STANDARD: &str = "-";
 
 const DEFAULT_FRAMES: u8 = 4;
 
-/// The words after a command's name.
-#[derive(Default)]
-struct Given {
-    operands: Vec<OsString>,
-    fast: Option<u8>,
-    slow: Option<u8>,
-    at: Option<u64>,
-    out: Option<OsString>,
-    strict: bool,
-}
+/// Options that stand alone; a value follows each of the others.
+const FLAGS: [&str; 4] = ["--strict", "--refused", "--summary", "--json"];
+const START: &[&str] = &["--fast", "--slow", "--tables", "--stores"];
+const SHIFT: &[&str] = &["--strict", "--keep-tables", "--keep-stores"];
+const FILTER: &[&str] = &["--page", "--station", "--frame", "--refused"];
+const SPAN: &[&str] = &["--from", "--to"];
 
 pub fn parse(words: impl IntoIterator<Item = OsString>) -> Result<Command, Failure> {
     let words: Vec<OsString> = words.into_iter().collect();
@@ -109,13 +169,22 @@ pub fn parse(words: impl IntoIterator<Item = OsString>) -> Result<Command, Failu
     if name == "help" || words.iter().any(asks_help) {
         return Ok(Command::Help);
     }
-    const SHIFT: &[&str] = &["--fast", "--slow", "--strict"];
+    let given = |allowed: &[&[&str]]| Given::parse(rest, &allowed.concat());
     match name.to_str() {
-        Some("write") => write(Given::parse(rest, &["-o"])?),
-        Some("words") => words_of(Given::parse(rest, &[])?),
-        Some("show") => show(Given::parse(rest, SHIFT)?),
-        Some("page") => page(Given::parse(rest, &[SHIFT, &["--at"]].concat())?),
-        Some("view") => view(Given::parse(rest, &[SHIFT, &["-o"]].concat())?),
+        Some("--version" | "-V") => Ok(Command::Version),
+        Some("write") => write(given(&[&["-o"]])?),
+        Some("words") => words_of(given(&[])?),
+        Some("show") => show(given(&[
+            START,
+            SHIFT,
+            FILTER,
+            SPAN,
+            &["--json", "--summary"],
+        ])?),
+        Some("page") => page(given(&[START, SHIFT, &["--at"]])?),
+        Some("frame") => frame(given(&[START, SHIFT, &["--at"]])?),
+        Some("view") => view(given(&[START, SHIFT, SPAN, &["-o"]])?),
+        Some("diff") => diff(given(&[START])?),
         _ => Err(unknown("command", name)),
     }
 }
@@ -126,7 +195,7 @@ fn unknown(what: &str, word: &OsStr) -> Failure {
 }
 
 fn write(given: Given) -> Result<Command, Failure> {
-    let out = given.out.clone().unwrap_or_else(|| STANDARD.into());
+    let out = given.path("-o").unwrap_or_else(|| STANDARD.into());
     let lines = match &given.operands[..] {
         [] => STANDARD.into(),
         [lines] => lines.clone(),
@@ -142,25 +211,67 @@ fn words_of(given: Given) -> Result<Command, Failure> {
 
 fn show(given: Given) -> Result<Command, Failure> {
     let [file] = given.operands("show takes FILE")?;
-    let shift = given.shift(file);
-    Ok(Command::Show { shift })
+    let filter = Filter {
+        page: given.number("--page", PAGES as u8 - 1)?,
+        station: given.number("--station", STATIONS - 1)?,
+        frame: given.number("--frame", MOST_FRAMES_OF_BOTH - 1)?,
+        refused: given.has("--refused"),
+        span: given.span()?,
+    };
+    let form = Form {
+        json: given.has("--json"),
+        summary: given.has("--summary"),
+    };
+    let shift = given.shift(file)?;
+    Ok(Command::Show {
+        shift,
+        filter,
+        form,
+    })
 }
 
 fn page(given: Given) -> Result<Command, Failure> {
     let [file, page] = given.operands("page takes FILE and PAGE")?;
     let page = number("PAGE", &page, PAGES as u8 - 1)?;
-    let at = given.at;
-    let shift = given.shift(file);
+    let at = given.number("--at", u64::MAX)?;
+    let shift = given.shift(file)?;
     Ok(Command::Page { shift, page, at })
+}
+
+fn frame(given: Given) -> Result<Command, Failure> {
+    let [file, frame] = given.operands("frame takes FILE and FRAME")?;
+    let frame = number("FRAME", &frame, MOST_FRAMES_OF_BOTH - 1)?;
+    let at = given.number("--at", u64::MAX)?;
+    let shift = given.shift(file)?;
+    Ok(Command::Frame { shift, frame, at })
 }
 
 fn view(given: Given) -> Result<Command, Failure> {
     let [file] = given.operands("view takes FILE and -o OUT.html")?;
-    let Some(out) = given.out.clone() else {
+    let Some(out) = given.path("-o") else {
         return Err(Failure::line("view takes -o OUT.html, where the page goes"));
     };
-    let shift = given.shift(file);
-    Ok(Command::View { shift, out })
+    let (span, shift) = (given.span()?, given.shift(file)?);
+    Ok(Command::View { shift, span, out })
+}
+
+fn diff(given: Given) -> Result<Command, Failure> {
+    let [file, other] = given.operands("diff takes FILE and OTHER")?;
+    if file == STANDARD && other == STANDARD {
+        return Err(Failure::line(
+            "diff takes one file at the most from standard input",
+        ));
+    }
+    let shift = given.shift(file)?;
+    Ok(Command::Diff { shift, other })
+}
+
+/// The words after a command's name.
+#[derive(Default)]
+struct Given {
+    operands: Vec<OsString>,
+    /// Each option with its value; the last one counts.
+    options: Vec<(String, OsString)>,
 }
 
 impl Given {
@@ -176,17 +287,14 @@ impl Given {
             if !allowed.contains(&text) {
                 return Err(unknown("option", word));
             }
-            let mut value = || {
-                let missing = || Failure::line(format!("{text} needs a value"));
-                words.next().ok_or_else(missing)
+            let value = match FLAGS.contains(&text) {
+                true => OsString::new(),
+                false => {
+                    let missing = || Failure::line(format!("{text} needs a value"));
+                    words.next().ok_or_else(missing)?.clone()
+                }
             };
-            match text {
-                "--strict" => given.strict = true,
-                "--fast" => given.fast = Some(number(text, value()?, MOST_FRAMES)?),
-                "--slow" => given.slow = Some(number(text, value()?, MOST_FRAMES)?),
-                "--at" => given.at = Some(number(text, value()?, u64::MAX)?),
-                _ => given.out = Some(value()?.clone()),
-            }
+            given.options.push((text.into(), value));
         }
         Ok(given)
     }
@@ -197,37 +305,89 @@ impl Given {
         operands.try_into().map_err(|_| Failure::line(due))
     }
 
-    fn shift(self, file: OsString) -> Shift {
-        Shift {
-            file,
-            fast: self.fast.unwrap_or(DEFAULT_FRAMES),
-            slow: self.slow.unwrap_or(DEFAULT_FRAMES),
-            is_sized: self.fast.is_some() || self.slow.is_some(),
-            strict: self.strict,
+    fn path(&self, name: &str) -> Option<OsString> {
+        let mut options = self.options.iter().rev();
+        let option = options.find(|(option, _)| option == name);
+        option.map(|(_, value)| value.clone())
+    }
+
+    fn has(&self, name: &str) -> bool {
+        self.path(name).is_some()
+    }
+
+    fn number<T>(&self, name: &str, most: T) -> Result<Option<T>, Failure>
+    where
+        T: FromStr + PartialOrd + Display,
+    {
+        let value = self.path(name);
+        value.map(|value| number(name, &value, most)).transpose()
+    }
+
+    fn span(&self) -> Result<Span, Failure> {
+        let from = self.number("--from", u64::MAX)?.unwrap_or(1);
+        let to = self.number("--to", u64::MAX)?.unwrap_or(u64::MAX);
+        match from > to || from == 0 {
+            true => Err(Failure::line(format!(
+                "--from {from} --to {to}: no message"
+            ))),
+            false => Ok(Span { from, to }),
         }
+    }
+
+    /// Two files that are given together, or neither.
+    fn files(&self, tables: &str, stores: &str) -> Result<Option<Files>, Failure> {
+        match (self.path(tables), self.path(stores)) {
+            (Some(tables), Some(stores)) => Ok(Some(Files { tables, stores })),
+            (None, None) => Ok(None),
+            _ => Err(Failure::line(format!("{tables} and {stores} go together"))),
+        }
+    }
+
+    fn shift(self, file: OsString) -> Result<Shift, Failure> {
+        let (fast, slow) = (
+            self.number("--fast", MOST_FRAMES)?,
+            self.number("--slow", MOST_FRAMES)?,
+        );
+        let is_sized = fast.is_some() || slow.is_some();
+        let start = match self.files("--tables", "--stores")? {
+            Some(_) if is_sized => {
+                return Err(Failure::line(
+                    "--tables has the size: no --fast and no --slow beside it",
+                ));
+            }
+            Some(files) => Start::Kept(files),
+            None => Start::Fresh {
+                fast: fast.unwrap_or(DEFAULT_FRAMES),
+                slow: slow.unwrap_or(DEFAULT_FRAMES),
+                is_sized,
+            },
+        };
+        Ok(Shift {
+            file,
+            start,
+            keep: self.files("--keep-tables", "--keep-stores")?,
+            strict: self.has("--strict"),
+        })
     }
 }
 
+/// The number that a word stands for, 0 to `most`.
 fn number<T>(name: &str, word: &OsStr, most: T) -> Result<T, Failure>
 where
-    T: std::str::FromStr + PartialOrd + Display,
+    T: FromStr + PartialOrd + Display,
 {
     let value = word.to_str().and_then(|word| word.parse().ok());
-    match value {
-        Some(value) if value <= most => Ok(value),
-        _ => {
-            let word = word.display();
-            Err(Failure::line(format!(
-                "{name}: not a number 0 to {most}: {word}"
-            )))
-        }
-    }
+    value.filter(|value| *value <= most).ok_or_else(|| {
+        let word = word.display();
+        Failure::line(format!("{name}: not a number 0 to {most}: {word}"))
+    })
 }
 
 #[cfg(test)]
 mod tests {
-    use super::{parse, Command, Shift};
+    use super::{parse, Command, Files, Form, Shift, Start};
     use crate::failure::Failure;
+    use crate::filter::{Filter, Span};
 
     fn parsed(line: &str) -> Result<Command, Failure> {
         parse(line.split_whitespace().map(Into::into))
@@ -238,9 +398,12 @@ mod tests {
         let due = Command::Page {
             shift: Shift {
                 file: "calls".into(),
-                fast: 127,
-                slow: 4,
-                is_sized: true,
+                start: Start::Fresh {
+                    fast: 127,
+                    slow: 4,
+                    is_sized: true,
+                },
+                keep: None,
                 strict: true,
             },
             page: 63,
@@ -249,6 +412,40 @@ mod tests {
         let line = "page --fast 127 calls --strict 63 --at 7";
         assert_eq!(parsed(line).unwrap(), due);
         assert_eq!(parsed("view calls --help").unwrap(), Command::Help);
+        assert_eq!(parsed("--version").unwrap(), Command::Version);
+    }
+
+    #[test]
+    fn a_part_of_a_shift_that_goes_on() {
+        let files = |tables: &str, stores: &str| Files {
+            tables: tables.into(),
+            stores: stores.into(),
+        };
+        let due = Command::Show {
+            shift: Shift {
+                file: "-".into(),
+                start: Start::Kept(files("t", "s")),
+                keep: Some(files("t", "u")),
+                strict: false,
+            },
+            filter: Filter {
+                page: Some(5),
+                station: None,
+                frame: Some(253),
+                refused: true,
+                span: Span {
+                    from: 7,
+                    to: u64::MAX,
+                },
+            },
+            form: Form {
+                json: true,
+                summary: false,
+            },
+        };
+        let line = "show - --tables t --stores s --keep-tables t --keep-stores u \
+                    --page 6 --page 5 --frame 253 --refused --from 7 --json";
+        assert_eq!(parsed(line).unwrap(), due);
     }
 
     #[test]
@@ -262,10 +459,24 @@ mod tests {
             "show calls --fast",
             "show calls --fast 128",
             "show calls --slow x",
+            "show calls --station 16",
+            "show calls --frame 254",
+            "show calls --from 0",
+            "show calls --from 8 --to 7",
+            "show calls --tables t",
+            "show calls --keep-stores t",
+            "show calls --tables t --stores s --fast 4",
             "page calls",
             "page calls 64",
             "page calls 5 --at -1",
+            "page calls 5 --refused",
+            "frame calls",
+            "frame calls 254",
             "view calls",
+            "view calls -o x --page 5",
+            "diff calls",
+            "diff - -",
+            "diff a b --strict",
             "write a b",
             "words calls -o x",
         ] {

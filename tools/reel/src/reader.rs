@@ -1,6 +1,6 @@
 //! A call file, of any length, read message by message.
 
-use std::io::{self, Read};
+use std::io::{self, BufReader, Read};
 
 /// Yields the messages of a call file. One that is cut short is what is left of the file.
 pub struct Messages<R> {
@@ -34,6 +34,14 @@ impl<R: Read> Messages<R> {
     }
 }
 
+impl<R: Read> Messages<BufReader<R>> {
+    /// Whether the next message is in the buffer, so that to take it is not to wait for it.
+    pub fn is_at_hand(&self) -> bool {
+        let buffer = self.input.buffer();
+        buffer.len() >= 2 && missing(buffer).is_none()
+    }
+}
+
 /// How many bytes are missing at the end of a message that is cut short; None for a whole one.
 pub fn missing(message: &[u8]) -> Option<usize> {
     let whole = match *message {
@@ -46,6 +54,7 @@ pub fn missing(message: &[u8]) -> Option<usize> {
 #[cfg(test)]
 mod tests {
     use super::{missing, Messages};
+    use std::io::BufReader;
 
     fn messages(file: &[u8]) -> Vec<Vec<u8>> {
         let mut messages = Messages::new(file);
@@ -67,5 +76,17 @@ mod tests {
         assert_eq!(missing(&[0, 1, 7]), None);
         assert_eq!(missing(&[0, 9, 1]), Some(8));
         assert_eq!(missing(&[0]), Some(1));
+    }
+
+    #[test]
+    fn what_is_in_the_buffer_is_at_hand() {
+        let file: &[u8] = &[0, 1, 7, 0, 2, 1];
+        let mut messages = Messages::new(BufReader::new(file));
+        assert!(!messages.is_at_hand());
+        assert_eq!(messages.next_message().unwrap(), Some(&[0, 1, 7][..]));
+        assert!(!messages.is_at_hand());
+        let mut messages = Messages::new(BufReader::new(&[0, 0, 0, 1, 7][..]));
+        messages.next_message().unwrap();
+        assert!(messages.is_at_hand());
     }
 }

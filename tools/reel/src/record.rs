@@ -1,29 +1,51 @@
-//! What the page of `reel view` is made of: the file, the answers, the changes of pages and the
-//! retired frames, each packed into bytes that view.js reads.
+//! What the page of `reel view` is made of: the messages, the answers, the changes of pages and the
+//! retired frames, each packed into bytes that data.js reads.
 
-use crate::looks::{Mark, PageCopy, Reply, Watched, NO_FRAME};
+use crate::looks::{Mark, OnFrame, PageCopy, Watched, NO_FRAME, PAGES};
+use crate::run::Answered;
+use std::io::{self, Write};
 
 #[derive(Default)]
 pub struct Record {
-    /// The call file as it is.
+    /// The messages as they stand in the call file.
     pub file: Vec<u8>,
     /// For each message the number; if that is 0 also the bytes laid and the length of the data,
     /// as numbers of any size, and the data.
     pub answers: Vec<u8>,
     /// For each page that a message changed: how many messages later than the change before, as a
-    /// number of any size, the page, how many copies it has, and for each its frame and mark.
+    /// number of any size, the page, how many copies it has, and for each its frame and mark. Pages
+    /// that stand at the start come first, with message 0.
     pub changes: Vec<u8>,
-    /// For each frame that a message retired: the message, as a number of any size, and the frame.
+    /// For each frame that a message retired: the message, as a number of any size, and the frame;
+    /// first those that are retired at the start, with message 0.
     pub retired: Vec<u8>,
+    /// How many messages came before the first of these.
+    pub before: u64,
     pub messages: u64,
     last_change: u64,
 }
 
 impl Record {
-    /// One more message, its reply, and pages and frames as they are after it.
-    pub fn turn(&mut self, message: &[u8], reply: &Reply, watched: &Watched) {
+    /// Pages and frames as they are before the first message that is recorded.
+    pub fn start(&mut self, before: u64, watched: &Watched) {
+        self.before = before;
+        for page in 0..PAGES as u8 {
+            if !watched.copies(page).is_empty() {
+                self.change(page, watched.copies(page));
+            }
+        }
+        for (frame, on) in (0..).zip(watched.on_frames()) {
+            if *on == OnFrame::Retired {
+                self.retire(frame);
+            }
+        }
+    }
+
+    /// One more message.
+    pub fn turn(&mut self, answered: &Answered) {
+        let Answered { reply, watched, .. } = answered;
         self.messages += 1;
-        self.file.extend(message);
+        self.file.extend(answered.message);
         self.answers.push(reply.number);
         if reply.number == 0 {
             push_number(&mut self.answers, reply.laid.into());
@@ -34,9 +56,13 @@ impl Record {
             self.change(page, watched.copies(page));
         }
         if let Some(frame) = watched.newly_retired() {
-            push_number(&mut self.retired, self.messages);
-            self.retired.push(frame);
+            self.retire(frame);
         }
+    }
+
+    fn retire(&mut self, frame: u8) {
+        push_number(&mut self.retired, self.messages);
+        self.retired.push(frame);
     }
 
     fn change(&mut self, page: u8, copies: &[PageCopy]) {
@@ -63,8 +89,15 @@ fn push_number(bytes: &mut Vec<u8>, mut number: u64) {
     bytes.push(number as u8);
 }
 
+/// Writes the bytes in base64, a part at a time.
+pub fn write_base64(out: &mut dyn Write, bytes: &[u8]) -> io::Result<()> {
+    // A part of whole groups of three bytes has no padding.
+    let mut parts = bytes.chunks(3 << 12);
+    parts.try_for_each(|part| out.write_all(base64(part).as_bytes()))
+}
+
 /// The bytes in base64.
-pub fn base64(bytes: &[u8]) -> String {
+fn base64(bytes: &[u8]) -> String {
     const DIGITS: &[u8; 64] = b"ABCDEFGHIJKLMNOPQRSTUVWXYZabcdefghijklmnopqrstuvwxyz0123456789+/";
     let mut text = String::with_capacity(bytes.len().div_ceil(3) * 4);
     for part in bytes.chunks(3) {
@@ -85,7 +118,7 @@ pub fn base64(bytes: &[u8]) -> String {
 
 #[cfg(test)]
 mod tests {
-    use super::{base64, push_number};
+    use super::{base64, push_number, write_base64};
 
     #[test]
     fn bytes_in_base64() {
@@ -100,6 +133,10 @@ mod tests {
             assert_eq!(base64(bytes.as_bytes()), due);
         }
         assert_eq!(base64(&[0xFF, 0xEF, 0xBE]), "/+++");
+        let long: Vec<u8> = (0..30_001).map(|number| number as u8).collect();
+        let mut out = Vec::new();
+        write_base64(&mut out, &long).unwrap();
+        assert_eq!(out, base64(&long).into_bytes());
     }
 
     #[test]

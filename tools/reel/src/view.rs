@@ -1,43 +1,62 @@
 //! The page of `reel view`: one HTML file with its data, style and script inside.
 
+use crate::json::{list, string, Object};
 use crate::kinds::{Kind, Tells, KINDS};
-use crate::record::{base64, Record};
+use crate::record::{write_base64, Record};
 use crate::words::WORDS;
+use std::io::{self, Write};
 
 const TEMPLATE: &str = include_str!("view/view.html");
 const STYLE: &str = include_str!("view/view.css");
-const SCRIPTS: [&str; 6] = [
+const SCRIPTS: [&str; 9] = [
     include_str!("view/data.js"),
+    include_str!("view/choice.js"),
     include_str!("view/colours.js"),
     include_str!("view/picture.js"),
     include_str!("view/lanes.js"),
+    include_str!("view/list.js"),
+    include_str!("view/figures.js"),
     include_str!("view/panel.js"),
     include_str!("view/main.js"),
 ];
 
-/// The page for a file of this name, run from tables of so many frames.
-pub fn page(name: &str, fast: u8, slow: u8, record: &Record) -> String {
-    let facts = facts(name, fast, slow, record);
+/// A page has room for so many messages: more than any screen can show, and few enough for a browser.
+pub const MOST_MESSAGES: u64 = 1_000_000;
+
+/// Writes the page for a file of this name, run on so many fast and slow frames.
+pub fn write(out: &mut dyn Write, name: &str, frames: (u8, u8), record: &Record) -> io::Result<()> {
+    let (facts, scripts) = (facts(name, frames, record), SCRIPTS.concat());
+    let title = escaped(name);
     let parts = [
-        ("{{title}}", escaped(name)),
-        ("{{style}}", STYLE.into()),
-        ("{{facts}}", facts),
-        ("{{file}}", base64(&record.file)),
-        ("{{answers}}", base64(&record.answers)),
-        ("{{changes}}", base64(&record.changes)),
-        ("{{retired}}", base64(&record.retired)),
-        ("{{script}}", SCRIPTS.concat()),
+        ("{{title}}", Part::Text(&title)),
+        ("{{style}}", Part::Text(STYLE)),
+        ("{{facts}}", Part::Text(&facts)),
+        ("{{file}}", Part::Bytes(&record.file)),
+        ("{{answers}}", Part::Bytes(&record.answers)),
+        ("{{changes}}", Part::Bytes(&record.changes)),
+        ("{{retired}}", Part::Bytes(&record.retired)),
+        ("{{script}}", Part::Text(&scripts)),
     ];
     // In the template's order and each once, so that nothing put in is taken for a place.
-    let mut page = String::new();
     let mut rest = TEMPLATE;
-    for (place, text) in parts {
+    for (place, part) in parts {
         let (before, after) = rest.split_once(place).expect("a place of the template");
-        page += before;
-        page += &text;
+        out.write_all(before.as_bytes())?;
+        match part {
+            Part::Text(text) => out.write_all(text.as_bytes())?,
+            Part::Bytes(bytes) => write_base64(out, bytes)?,
+        }
         rest = after;
     }
-    page + rest
+    out.write_all(rest.as_bytes())?;
+    out.flush()
+}
+
+/// What is put into a place of the template.
+enum Part<'a> {
+    Text(&'a str),
+    /// Bytes for the script to unpack.
+    Bytes(&'a [u8]),
 }
 
 /// Text for a place between tags.
@@ -47,16 +66,16 @@ fn escaped(text: &str) -> String {
 }
 
 /// What the script has to know beside the packed bytes, as JSON.
-fn facts(name: &str, fast: u8, slow: u8, record: &Record) -> String {
-    let kinds: Vec<String> = KINDS.iter().map(kind).collect();
-    let words: Vec<String> = WORDS.iter().map(|word| string(word)).collect();
-    format!(
-        "{{\"name\":{},\"fast\":{fast},\"slow\":{slow},\"messages\":{},\"kinds\":[{}],\"words\":[{}]}}",
-        string(name),
-        record.messages,
-        kinds.join(","),
-        words.join(",")
-    )
+fn facts(name: &str, (fast, slow): (u8, u8), record: &Record) -> String {
+    let object = Object::default().with_text("name", name);
+    let object = object.with("fast", fast).with("slow", slow);
+    let object = object
+        .with("before", record.before)
+        .with("messages", record.messages);
+    let object = object.with("kinds", list(KINDS.iter().map(kind)));
+    object
+        .with("words", list(WORDS.iter().map(|word| string(word))))
+        .end()
 }
 
 fn kind(kind: &Kind) -> String {
@@ -71,40 +90,25 @@ fn kind(kind: &Kind) -> String {
         .arguments
         .iter()
         .map(|argument| string(argument.name()));
-    let names: Vec<String> = names.collect();
     let (least, most) = kind.bytes();
-    format!(
-        "{{\"word\":{},\"sentence\":{},\"arguments\":[{}],\"bytes\":[{least},{most}],\"tells\":{}}}",
-        string(kind.word),
-        string(kind.sentence),
-        names.join(","),
-        string(tells)
-    )
-}
-
-/// A JSON string that may stand within a script tag.
-fn string(text: &str) -> String {
-    let mut quoted = String::from('"');
-    for letter in text.chars() {
-        match letter {
-            '"' | '\\' | '<' | '\0'..='\x1F' | '\u{2028}' | '\u{2029}' => {
-                quoted += &format!("\\u{:04X}", u32::from(letter));
-            }
-            _ => quoted.push(letter),
-        }
-    }
-    quoted.push('"');
-    quoted
+    let object = Object::default().with_text("word", kind.word);
+    let object = object
+        .with_text("sentence", kind.sentence)
+        .with("arguments", list(names));
+    let object = object.with("bytes", format_args!("[{least},{most}]"));
+    object.with_text("tells", tells).end()
 }
 
 #[cfg(test)]
 mod tests {
-    use super::{page, Record};
+    use super::{write, Record};
 
     #[test]
     fn a_name_that_looks_like_markup() {
         let name = "</script><b>\"\\{{file}}";
-        let page = page(name, 4, 4, &Record::default());
+        let mut page = Vec::new();
+        write(&mut page, name, (4, 4), &Record::default()).unwrap();
+        let page = String::from_utf8(page).unwrap();
         assert!(!page.contains("</script><b>"));
         assert!(page.contains("\"name\":\"\\u003C/script>\\u003Cb>\\u0022\\u005C{{file}}\""));
         assert!(page.contains("&lt;/script&gt;&lt;b&gt;"));

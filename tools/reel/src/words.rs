@@ -122,6 +122,14 @@ pub fn listed(copies: impl Iterator<Item = String>) -> String {
     words.join(", ")
 }
 
+/// The store that a frame is in.
+pub fn store(frame: u8, fast: u8) -> &'static str {
+    match frame < fast {
+        true => "fast",
+        false => "slow",
+    }
+}
+
 impl PageCopy {
     /// As `frame 3 fast CURRENT`.
     pub fn in_words(&self, fast: u8) -> String {
@@ -132,8 +140,7 @@ impl PageCopy {
     pub fn place(&self, fast: u8) -> String {
         match self.frame {
             None => "no frame".into(),
-            Some(frame) if frame < fast => format!("frame {frame} fast"),
-            Some(frame) => format!("frame {frame} slow"),
+            Some(frame) => format!("frame {frame} {}", store(frame, fast)),
         }
     }
 }

@@ -10,15 +10,6 @@ returns c =
     let e = ne-eqb _ _ (c .if1 .taken) in
     (rw e, rw e)
 
-fresh-requires : tie.Need-fresh-requires
-fresh-requires c κs = search needs
-
-put-tables-requires : tie.Need-put-tables-requires
-put-tables-requires c κs = search needs
-
-same-length : tie.Need-same-length
-same-length c = search needs
-
 returns-2 : tie.Need-returns-2
 returns-2 c =
     let e = eq-eqb _ _ (c .before .before .before .before .before .if1 .left) in
@@ -27,4 +18,4 @@ returns-2 c =
 
 pub reel-fresh-spec : {M : Type 1} → statement M
 reel-fresh-spec =
-    tie.close (tie.spec returns fresh-requires put-tables-requires same-length returns-2)
+    tie.close (tie.spec returns (λ c κs. search needs) (λ c κs. search needs) (λ c. search needs) returns-2)

@@ -19,14 +19,11 @@ low kind l (Reply number laid start len) e =
     let w = read-within kind l number laid start len e in
     (omega (arith, w .0), omega (arith, w .1))
 
-read-reply-requires : tie.Need-read-reply-requires
-read-reply-requires c κs = search needs
-
 reading-number-requires : tie.Need-reading-number-requires
-reading-number-requires c κs = low _ _ (c .read-reply .result) (sym (c .read-reply .ensures))
+reading-number-requires c κs = low _ _ (c .read-reply .result) (sym (c .read-reply .ensures .told))
 
 returns : tie.Need-returns
-returns c = c .reading-number .ensures ∙ ap readingNumber (c .before .read-reply .ensures)
+returns c = c .reading-number .ensures ∙ ap readingNumber (c .before .read-reply .ensures .told)
 
 pub reel-read-reply-spec : {M : Type 1} → statement M
-reel-read-reply-spec = tie.close (tie.spec read-reply-requires reading-number-requires returns)
+reel-read-reply-spec = tie.close (tie.spec (λ c κs. search needs) reading-number-requires returns)

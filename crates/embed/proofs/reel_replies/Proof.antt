@@ -3,52 +3,25 @@ use mathlib.Core.Path.{sym, ap, _∙_}
 use borrow.Author.Needs.{needs}
 use Rattle.tables.proofs.ListLaws.{and-left}
 use Rattle.steps.specs.Effects.{State}
+use Rattle.messages.proofs.PartLaws.{unmoved-after}
 use Rattle.embed.specs.Exports.{withTables}
-use Rattle.embed.proofs.WayBack.{in-sized}
+use Rattle.embed.proofs.ImageLaws.{in-sized}
 use Rattle.embed.proofs.LentLaws.{put-moved}
 use Rattle.embed.proofs.reel_replies.Statement.{statement}
 use Rattle.embed.proofs.reel_replies.Tie as tie
-
-holds-tables-requires : tie.Need-holds-tables-requires
-holds-tables-requires c κs = search needs
-
-tables-held-requires : tie.Need-tables-held-requires
-tables-held-requires c κs = search needs
-
-tally-of-requires : tie.Need-tally-of-requires
-tally-of-requires c κs = search needs
-
-fill-requires : tie.Need-fill-requires
-fill-requires c κs = search needs
 
 put-where-requires : tie.Need-put-where-requires
 put-where-requires c κs =
     let d = c .before .before .before .before .before .before .before .before in
     let h = d .before .before .before .before .before .before .before .before in
     let a = h .before .before .before .before .before .before .before .before .args in
-    λ e. in-sized (a .tables .now) (sym (h .holds-tables .ensures) ∙ and-left (h .holds-tables .result) (d .fill .result .moved) e)
-
-put-tally-requires : tie.Need-put-tally-requires
-put-tally-requires c κs = search needs
-
-same-length : tie.Need-same-length
-same-length c = search needs
-
-same-length-2 : tie.Need-same-length-2
-same-length-2 c = search needs
-
-same-length-3 : tie.Need-same-length-3
-same-length-3 c = search needs
-
-same-length-4 : tie.Need-same-length-4
-same-length-4 c = search needs
-
-same-length-5 : tie.Need-same-length-5
-same-length-5 c = search needs
+    let held = h .holds-tables in
+    λ e. in-sized (a .tables .now) (sym (held .ensures) ∙ and-left (held .result) (d .fill .result .moved) e)
 
 returns : tie.Need-returns
 returns c =
-    let d = c .before .before .before .before .before .before .before .before .before .before .before .before .before .before .before in
+    let m = c .before .before .before .before .before .before .before in
+    let d = m .before .before .before .before .before .before .before .before in
     let n = d .before .before .before .before in
     let h = n .before .before .before .before in
     let k = h .before .before .before .before .before .before .before in
@@ -58,9 +31,10 @@ returns c =
       place-told = q .place-told;
       used-told = q .used-told;
       tables-out = c .before .before .before .before .before .before .put-where .ensures ∙ rw (h .holds-tables .ensures)
-          (put-moved b (d .fill .result .moved) (d .fill .result .tables) (λ i. k .slice-known .given i .fits) (q .kept)
+          (put-moved b (d .fill .result .moved) (d .fill .result .tables) (λ i. k .slice-known .given i .fits) (λ e. ap (λ (s : State). s .tables) (q .state-out) ∙ unmoved-after _ _ _ _ (sym (q .moved-told) ∙ e))
           ∙ ap (λ (s : State). withTables b (s .tables)) (q .state-out));
-      lent-out = rw (ap (λ (s : State). s .fast) (q .state-out), ap (λ (s : State). s .slow) (q .state-out), q .buffer-out);
+      lent-out =
+          rw (ap (λ (s : State). s .fast) (q .state-out), ap (λ (s : State). s .slow) (q .state-out), q .buffer-out);
       tally-out = c .before .before .put-tally .ensures ∙ rw (q .tally-out);
     }
 
@@ -68,15 +42,15 @@ pub reel-replies-spec : {M : Type 1} → statement M
 reel-replies-spec =
     tie.close
     (tie.spec
-    holds-tables-requires
-    tables-held-requires
-    tally-of-requires
-    fill-requires
+    (λ c κs. search needs)
+    (λ c κs. search needs)
+    (λ c κs. search needs)
+    (λ c κs. search needs)
     put-where-requires
-    put-tally-requires
-    same-length
-    same-length-2
-    same-length-3
-    same-length-4
-    same-length-5
+    (λ c κs. search needs)
+    (λ c. search needs)
+    (λ c. search needs)
+    (λ c. search needs)
+    (λ c. search needs)
+    (λ c. search needs)
     returns)

@@ -4,14 +4,8 @@ use borrow.Author.Needs.{needs}
 use Rattle.embed.proofs.reel_rules.Statement.{statement}
 use Rattle.embed.proofs.reel_rules.Tie as tie
 
-tables-of-requires : tie.Need-tables-of-requires
-tables-of-requires c κs = search needs
-
-rules-requires : tie.Need-rules-requires
-rules-requires c κs = search needs
-
 returns : tie.Need-returns
 returns c = c .rules .ensures ∙ rw (c .before .tables-of .ensures)
 
 pub reel-rules-spec : {M : Type 1} → statement M
-reel-rules-spec = tie.close (tie.spec tables-of-requires rules-requires returns)
+reel-rules-spec = tie.close (tie.spec (λ c κs. search needs) (λ c κs. search needs) returns)

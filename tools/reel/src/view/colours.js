@@ -11,8 +11,13 @@ class Palette {
     this.dim = value('dim');
     this.accent = value('accent');
     this.refused = value('refused');
-    const isDark = matchMedia('(prefers-color-scheme: dark)').matches;
+    // On paper it is always light.
+    const isPaper = document.documentElement.classList.contains('print');
+    const isDark = matchMedia('(prefers-color-scheme: dark)').matches && !isPaper;
     this.pages = Array.from({ length: PAGES }, (_, page) => pageColour(page, isDark));
+    this.marks = ['stale', 'recent', 'current'].map(value);
+    this.ages = Array.from({ length: AGES.length }, (_, age) => ageColour(age, isDark));
+    this.tones = [...this.pages, ...this.marks, ...this.ages, this.dim];
     this.hatches = new Map();
   }
 
@@ -24,6 +29,23 @@ class Palette {
     return this.hatches.get(colour);
   }
 }
+
+// How long a page is on its frame, in messages: each class begins with a power of ten.
+const AGES = ['below 10', '10 and more', '100', '1,000', '10,000', '100,000', '1,000,000 and more'];
+
+function ageClass(age) {
+  return Math.min(AGES.length - 1, Math.floor(Math.log10(Math.max(1, age))));
+}
+
+// From a light blue to a dark red, or to a light yellow on a dark ground.
+function ageColour(age, isDark) {
+  const share = age / (AGES.length - 1);
+  const hue = isDark ? 220 - 165 * share : 205 + 150 * share;
+  return hslColour(hue, 65, isDark ? 35 + 40 * share : 68 - 40 * share);
+}
+
+// Where in the list of tones the marks, the ages and the tone of what is not chosen stand; pages come first.
+const TONES = { marks: PAGES, ages: PAGES + MARKS.length, dim: PAGES + MARKS.length + AGES.length };
 
 // Neighbouring pages get hues far apart.
 function pageColour(page, isDark) {
@@ -63,6 +85,13 @@ function hatchTile(colour) {
 // The height of the line that stands for a stale copy in a bar of this height.
 function staleHeight(height) {
   return Math.max(1, Math.round(height / 5));
+}
+
+// A tick at a read, from the top of the bar, and at a write, from its foot.
+function drawTick(context, palette, isWrite, x, y, height) {
+  const length = Math.max(3, height * (isWrite ? 0.5 : 0.3));
+  context.fillStyle = palette.paper;
+  context.fillRect(x - 1, isWrite ? y + height - length : y, 2, length);
 }
 
 // The length of a dash, and of a gap.

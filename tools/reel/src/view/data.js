@@ -63,7 +63,8 @@ function lastUpTo(list, limit) {
   return low;
 }
 
-// Messages have the numbers 1 to `messages`; arrays by message have a place for 0, the start.
+// Messages have the numbers 1 to `messages` here; arrays by message have a place for 0, the start. In the file `before`
+// messages come first.
 class Shift {
   constructor() {
     Object.assign(this, JSON.parse(element('facts').textContent));
@@ -73,6 +74,19 @@ class Shift {
     this.readAnswers();
     this.readChanges();
     this.readRetired();
+    // The last row is that of the last frame, or of pages that have none.
+    this.rows = this.held.length;
+  }
+
+  // The number of a message in the file, in words.
+  named(turn) {
+    return grouped(turn + this.before);
+  }
+
+  // Since which message something is so, in words.
+  when(turn) {
+    if (turn > 0) return `since message ${this.named(turn)}`;
+    return this.before > 0 ? `since before message ${this.named(1)}` : 'from the start';
   }
 
   readMessages() {
@@ -80,10 +94,9 @@ class Shift {
     this.kindOf = new Uint8Array(this.messages + 1);
     this.pageOf = new Uint8Array(this.messages + 1).fill(NONE);
     this.stationOf = new Uint8Array(this.messages + 1).fill(NONE);
-    const places = this.kinds.map(kind => ({
-      page: kind.arguments.indexOf('page'),
-      station: kind.arguments.indexOf('station'),
-    }));
+    this.frameOf = new Uint8Array(this.messages + 1).fill(NONE);
+    const places = this.kinds.map(kind => ['page', 'station', 'frame'].map(name => kind.arguments.indexOf(name)));
+    const lists = [this.pageOf, this.stationOf, this.frameOf];
     let at = 0;
     for (let turn = 1; turn <= this.messages; turn++) {
       this.starts[turn] = at;
@@ -92,9 +105,9 @@ class Shift {
       const kind = this.knownKind(this.message(turn));
       this.kindOf[turn] = kind;
       if (kind === 0) continue;
-      const { page, station } = places[kind - 1];
-      if (page >= 0) this.pageOf[turn] = this.file[this.starts[turn] + 4 + page];
-      if (station >= 0) this.stationOf[turn] = this.file[this.starts[turn] + 4 + station];
+      places[kind - 1].forEach((place, i) => {
+        if (place >= 0) lists[i][turn] = this.file[this.starts[turn] + 4 + place];
+      });
     }
   }
 
@@ -133,12 +146,14 @@ class Shift {
     }
   }
 
-  // From each look that differed from the one before: what every page and every frame was, when.
+  // From each look that differed from the one before: what every page and every frame was, when. Behind the frames come
+  // rows for pages that stand without a frame; such a page takes the first row that is free.
   readChanges() {
     const reader = new Reader(unpacked('changes'));
     this.changes = reader.bytes;
     this.pages = Array.from({ length: PAGES }, () => ({ turns: [], at: [] }));
-    this.held = Array.from({ length: this.frames }, () => ({ turns: [0], pages: [NONE], marks: [STALE] }));
+    this.held = Array.from({ length: this.frames }, () => this.emptyRow());
+    this.renumbered = Array.from({ length: this.frames }, () => []);
     this.heldFast = new Uint8Array(this.messages + 1);
     this.heldSlow = new Uint8Array(this.messages + 1);
     const copies = this.pages.map(() => []);
@@ -152,9 +167,16 @@ class Shift {
       this.pages[page].at.push(reader.at);
       const now = this.copiesAt(reader);
       this.changeFrames(turn, page, copies[page], now);
+      this.changeFrameless(turn, page, copies[page], now);
       copies[page] = now;
     }
     this.carryHeld(turn, this.messages);
+  }
+
+  // For each stretch of a row: from which message on, which page with which mark, since when its bytes are old if it is
+  // stale, and since when the page is there.
+  emptyRow() {
+    return { turns: [0], pages: [NONE], marks: [STALE], stale: [0], arrived: [0] };
   }
 
   // A retired frame is free before and takes no copy after, so this is the last that is known of it.
@@ -162,7 +184,7 @@ class Shift {
     const reader = new Reader(unpacked('retired'));
     while (reader.at < reader.bytes.length) {
       const turn = reader.number();
-      this.changeFrame(turn, reader.byte(), NONE, RETIRED);
+      this.changeRow(turn, reader.byte(), NONE, RETIRED);
     }
   }
 
@@ -179,21 +201,75 @@ class Shift {
   changeFrames(turn, page, before, now) {
     const kept = new Set(now.map(copy => copy.frame));
     for (const { frame } of before) {
-      if (!kept.has(frame)) this.changeFrame(turn, frame, NONE, STALE);
+      if (frame !== NONE && !kept.has(frame)) this.changeRow(turn, frame, NONE, STALE);
     }
-    for (const { frame, mark } of now) this.changeFrame(turn, frame, page, mark);
+    const source = before[this.argument(turn, 'copy')];
+    now.forEach(({ frame, mark }, number) => {
+      if (frame === NONE) return;
+      this.changeRow(turn, frame, page, mark, source);
+      const earlier = before.findIndex(copy => copy.frame === frame);
+      if (earlier >= 0 && earlier !== number) this.renumbered[frame].push(turn);
+    });
   }
 
-  changeFrame(turn, frame, page, mark) {
-    if (frame === NONE) return;
-    const { turns, pages, marks } = this.held[frame];
+  // A page that stands with a null copy alone takes a row, and leaves it with its first frame or its deletion.
+  changeFrameless(turn, page, before, now) {
+    const isNull = copy => copy.frame === NONE;
+    const was = before.some(isNull);
+    if (was === now.some(isNull)) return;
+    const isFree = row => row.pages[row.pages.length - 1] === (was ? page : NONE);
+    let place = this.frames;
+    while (place < this.held.length && !isFree(this.held[place])) place++;
+    if (place === this.held.length) this.held.push(this.emptyRow());
+    this.changeRow(turn, place, was ? NONE : page, was ? STALE : RECENT);
+  }
+
+  // The argument of this name of a message; undefined if it has none.
+  argument(turn, name) {
+    const kind = this.kinds[this.kindOf[turn] - 1];
+    const place = kind ? kind.arguments.indexOf(name) : -1;
+    return place < 0 ? undefined : this.file[this.starts[turn] + 4 + place];
+  }
+
+  // A copy that comes stale onto a frame was made of `source`, and is stale since that one is.
+  changeRow(turn, place, page, mark, source) {
+    const { turns, pages, marks, stale, arrived } = this.held[place];
     const last = turns.length - 1;
     if (pages[last] === page && marks[last] === mark) return;
-    const count = frame < this.fast ? this.heldFast : this.heldSlow;
-    count[turn] += (page !== NONE) - (pages[last] !== NONE);
+    const isNew = pages[last] !== page;
+    const isMade = mark === STALE && page !== NONE && isNew && source && source.frame !== NONE;
+    stale.push(isMade ? this.holder(source.frame, turn).stale : turn);
+    arrived.push(isNew ? turn : arrived[last]);
+    if (place < this.frames) {
+      const count = place < this.fast ? this.heldFast : this.heldSlow;
+      count[turn] += (page !== NONE) - (pages[last] !== NONE);
+    }
     turns.push(turn);
     pages.push(page);
     marks.push(mark);
+  }
+
+  // Which messages name a frame, change what is on it, or lay bytes there: 1 for each of them.
+  touching(frame) {
+    const touches = new Uint8Array(this.messages + 1);
+    for (const turn of this.held[frame].turns) touches[turn] = 1;
+    for (const turn of this.renumbered[frame]) touches[turn] = 1;
+    for (let turn = 1; turn <= this.messages; turn++) {
+      if (this.frameOf[turn] === frame || this.laysInto(turn, frame)) touches[turn] = 1;
+    }
+    return touches;
+  }
+
+  // Whether an accepted write has the page that is CURRENT on the frame.
+  laysInto(turn, frame) {
+    if (this.numbers[turn] > 0 || !this.isKind(turn, 'write')) return false;
+    const { page, mark } = this.holder(frame, turn);
+    return page === this.pageOf[turn] && mark === CURRENT;
+  }
+
+  isKind(turn, word) {
+    const kind = this.kinds[this.kindOf[turn] - 1];
+    return kind !== undefined && kind.word === word;
   }
 
   message(turn) {
@@ -215,11 +291,18 @@ class Shift {
     return last < 0 ? [] : this.copiesAt(new Reader(this.changes, changes.at[last]));
   }
 
-  // Who is on a frame after a message: the page or NONE, its mark or RETIRED, and since which message.
-  holder(frame, turn) {
-    const { turns, pages, marks } = this.held[frame];
+  // Who is in a row after a message: the page or NONE, its mark or RETIRED, since which message, and for a stale copy
+  // since which its bytes are old.
+  holder(place, turn) {
+    const { turns, pages, marks, stale } = this.held[place];
     const last = lastUpTo(turns, turn);
-    return { page: pages[last], mark: marks[last], since: turns[last] };
+    return { page: pages[last], mark: marks[last], since: turns[last], stale: stale[last] };
+  }
+
+  // The message that changed a page last, up to this one.
+  changedAt(page, turn) {
+    const { turns } = this.pages[page];
+    return turns[lastUpTo(turns, turn)];
   }
 
   // ---- Words, as the table of kinds gives them
@@ -257,8 +340,16 @@ class Shift {
     return hex(data);
   }
 
-  store(frame) {
-    return frame < this.fast ? 'fast' : 'slow';
+  // The store of a frame; a row behind the frames is in none.
+  store(place) {
+    if (place >= this.frames) return 'none';
+    return place < this.fast ? 'fast' : 'slow';
+  }
+
+  // The pages that stand without a frame after a message.
+  frameless(turn) {
+    const rows = Array.from({ length: this.rows - this.frames }, (_, i) => this.holder(this.frames + i, turn).page);
+    return rows.filter(page => page !== NONE).sort((a, b) => a - b);
   }
 }
 

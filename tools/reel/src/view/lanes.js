@@ -14,10 +14,7 @@ function drawLanes(picture) {
 }
 
 function drawLaneName(picture, context, [top], ...lines) {
-  const { palette } = picture;
-  lines.forEach((line, i) => {
-    picture.text(context, line, GUTTER - 8, top + 8 + 15 * i, palette.soft, 'right');
-  });
+  lines.forEach((line, i) => picture.name(context, line, top + 8 + 15 * i));
 }
 
 function drawFloor(picture, context, y) {
@@ -47,7 +44,7 @@ function drawWords(picture, context) {
     context.rotate(-Math.PI / 2);
     context.globalAlpha = choice.has(turn) ? 1 : 0.35;
     const words = number > 0 ? `\u2715${number} ${word}` : word;
-    picture.text(context, words, 0, 0, number > 0 ? palette.refused : palette.ink);
+    picture.text(context, words, 0, 0, number > 0 ? palette.refused : palette.ink, 'left', height - 4);
     context.restore();
   }
 }
@@ -56,34 +53,49 @@ function drawWords(picture, context) {
 function drawDensity(picture, context) {
   const { palette } = picture;
   const [top, height] = LANES.messages;
-  const { accepted, refused } = density(picture);
+  const { accepted, refused, width } = density(picture);
   const middle = top + Math.round(height * 0.5);
-  const most = list => list.reduce((a, b) => Math.max(a, b), 1);
+  const most = list => list.reduce((a, b) => Math.max(a, b), 0) || 1;
   const up = (middle - top) / most(accepted);
   const down = (top + height - middle) / most(refused);
+  context.save();
+  context.beginPath();
+  context.rect(GUTTER, 0, picture.width, top + height);
+  context.clip();
   context.fillStyle = palette.soft;
-  accepted.forEach((count, x) => context.fillRect(GUTTER + x, middle - count * up, 1, count * up));
+  accepted.forEach((count, i) => context.fillRect(GUTTER + i * width, middle - count * up, width, count * up));
   context.fillStyle = palette.refused;
-  refused.forEach((count, x) => context.fillRect(GUTTER + x, middle + 1, 1, count * down));
+  refused.forEach((count, i) => context.fillRect(GUTTER + i * width, middle + 1, width, count * down));
+  context.restore();
   drawFloor(picture, context, middle);
   drawLaneName(picture, context, LANES.messages, 'accepted');
   drawLaneName(picture, context, [middle + 4], 'refused');
 }
 
-// How many chosen messages were accepted and refused in each column.
+// So many messages at least are counted together where they are not drawn one by one: with fewer, one more or less in a
+// column would be seen as the teeth of a comb.
+const COUNTED = 12;
+
+// How many chosen messages were accepted and refused in each column, and how wide a column is. A message that lies in
+// two columns counts in each with its share, so that messages that come evenly are drawn evenly.
 function density(picture) {
   const { shift, choice } = picture;
-  const columns = Math.ceil(picture.width);
-  const accepted = new Uint32Array(columns);
-  const refused = new Uint32Array(columns);
+  const cell = picture.cell();
+  const width = Math.max(1, Math.ceil(cell * (cell < 2 ? COUNTED : 0)));
+  const columns = Math.ceil(picture.width / width);
+  const accepted = new Float64Array(columns);
+  const refused = new Float64Array(columns);
   const turns = picture.visibleTurns();
   for (let turn = turns.first; turn <= turns.last; turn++) {
     if (!choice.has(turn)) continue;
-    const x = Math.max(0, Math.min(columns - 1, Math.floor(picture.x(turn) - GUTTER)));
-    if (shift.numbers[turn] > 0) refused[x]++;
-    else accepted[x]++;
+    const list = shift.numbers[turn] > 0 ? refused : accepted;
+    const left = Math.max(0, (picture.x(turn) - GUTTER) / width);
+    const right = Math.min(columns, (picture.x(turn) - GUTTER + cell) / width);
+    for (let x = Math.floor(left); x < right; x++) {
+      list[x] += ((Math.min(x + 1, right) - Math.max(x, left)) * width) / cell;
+    }
   }
-  return { accepted, refused };
+  return { accepted, refused, width };
 }
 
 // A step curve over the visible messages, by columns where there are many.
@@ -172,5 +184,5 @@ function drawOverview(picture) {
   context.strokeStyle = palette.accent;
   context.lineWidth = 2;
   context.strokeRect(left + 1, 1, width - 2, height - 3);
-  picture.text(context, 'whole shift', GUTTER - 8, height / 2 - 4, palette.soft, 'right');
+  picture.name(context, 'whole shift', height / 2 - 4);
 }

@@ -1,51 +1,16 @@
 // ---- The page at work: what is chosen, keys, pointer, and the place in the address.
 
-// Which page and station are chosen; null for all.
-class Choice {
-  constructor(shift) {
-    this.shift = shift;
-    this.set(null, null);
-  }
-
-  set(page, station) {
-    this.page = page;
-    this.station = station;
-    const { shift } = this;
-    this.chosen = new Uint8Array(shift.messages + 1);
-    this.refusals = [];
-    for (let turn = 1; turn <= shift.messages; turn++) {
-      if (page !== null && page !== shift.pageOf[turn]) continue;
-      if (station !== null && station !== shift.stationOf[turn]) continue;
-      this.chosen[turn] = 1;
-      if (shift.numbers[turn] > 0) this.refusals.push(turn);
-    }
-  }
-
-  isOnlyItsFrames() {
-    return this.page !== null && element('only').checked;
-  }
-
-  isAny() {
-    return this.page !== null || this.station !== null;
-  }
-
-  // Whether a message names the page and comes from the station.
-  has(turn) {
-    return this.chosen[turn] === 1;
-  }
-}
-
 class View {
   constructor(shift) {
     this.shift = shift;
     this.choice = new Choice(shift);
-    this.picture = new Picture(shift, this.choice);
-    this.panel = new Panel(this.picture, turn => this.goTo(turn));
-    this.isDue = false;
+    // The head takes its place before the picture is measured.
     this.writeHead();
+    this.picture = new Picture(shift, this.choice);
+    this.panel = new Panel(this.picture, { goTo: turn => this.goTo(turn), visit: turn => this.visit(turn) });
+    this.isDue = false;
     this.readAddress();
-    this.panel.drawLegend();
-    this.choose(this.choice.page, this.choice.station);
+    this.choose({});
     this.draw();
     this.listen();
   }
@@ -57,17 +22,24 @@ class View {
     const refused = grouped(shift.refused[messages]);
     const laid = counted(shift.laid[messages], 'byte', 'bytes');
     const frames = `${shift.fast} fast and ${shift.slow} slow frames`;
+    const part = shift.before > 0 ? `, from message ${shift.named(1)} on` : '';
     element('summary').textContent =
-      `${counted(messages, 'message', 'messages')}, ${refused} refused, ${laid} laid; ${frames}`;
+      `${counted(messages, 'message', 'messages')}, ${refused} refused, ${laid} laid; ${frames}${part}`;
     const option = (value, text) => made('option', text, { value });
     const numbers = count => Array.from({ length: count }, (_, number) => option(number, `${number}`));
     element('page').append(option('', 'all'), ...numbers(PAGES));
     element('station').append(option('', 'all'), ...numbers(STATIONS));
-    element('message').max = messages;
+    element('frame').append(option('', 'all'), ...numbers(shift.frames));
+    for (const id of ['message', 'first', 'last']) {
+      element(id).min = Math.min(shift.before + 1, shift.before + messages);
+      element(id).max = shift.before + messages;
+    }
+    const kinds = shift.kinds.map((kind, i) => option(i + 1, kind.word));
+    element('kind').append(option('', 'all'), ...kinds, option(0, 'broken'));
     const given = new Set(shift.numbers.subarray(1));
-    const refusals = shift.words.map((word, number) => option(number, `${number} ${word}`));
-    const isGiven = (_, number) => number > 0 && given.has(number);
-    element('refusal-number').append(option('', 'all'), ...refusals.filter(isGiven));
+    const words = shift.words.map((word, number) => option(number, `${number} ${word}`));
+    const isGiven = (_, number) => given.has(number);
+    element('number').append(option('', 'all'), option(REFUSED, 'refused'), ...words.filter(isGiven));
   }
 
   // ---- Drawing
@@ -95,15 +67,45 @@ class View {
 
   // ---- Choosing and going
 
-  choose(page, station) {
-    this.choice.set(page, station);
-    element('page').value = page === null ? '' : page;
-    element('station').value = station === null ? '' : station;
-    element('only').disabled = page === null;
-    this.panel.drawPages(other => this.choose(other, this.choice.station));
-    this.panel.drawCounts();
-    this.panel.fillRefusals();
+  // Chooses what is named in `changes`, and shows all that is chosen.
+  choose(changes) {
+    const { choice, panel } = this;
+    choice.set(changes);
+    for (const id of ['page', 'station', 'kind', 'number', 'frame']) element(id).value = choice[id] ?? '';
+    this.showSpan();
+    element('only').disabled = choice.page === null;
+    panel.drawLegend();
+    panel.drawPages(page => this.pick({ page }));
+    panel.fillList();
     this.drawSoon();
+  }
+
+  // Chooses something, and Back leads to what was chosen before.
+  pick(changes) {
+    this.keepAddress();
+    this.choose(changes);
+  }
+
+  // No page, no station and no span any more.
+  chooseNothing() {
+    const { choice } = this;
+    if (choice.isAny() || choice.first !== null) this.pick({ page: null, station: null, first: null, last: null });
+  }
+
+  // Shows the span that is chosen, and its figures.
+  showSpan() {
+    const { choice, shift } = this;
+    element('first').value = choice.first === null ? '' : choice.first + shift.before;
+    element('last').value = choice.last === null ? '' : choice.last + shift.before;
+    element('zoom-span').disabled = element('no-span').disabled = choice.first === null;
+    drawFigures(shift, choice);
+  }
+
+  // A span from one message to another, in either order.
+  spanOf(one, other) {
+    const within = turn => Math.max(1, Math.min(this.shift.messages, turn));
+    const [first, last] = [within(one), within(other)];
+    return { first: Math.min(first, last), last: Math.max(first, last) };
   }
 
   goTo(turn) {
@@ -111,10 +113,15 @@ class View {
     picture.cursor.turn = Math.max(Math.min(1, shift.messages), Math.min(shift.messages, turn));
     picture.hover = null;
     picture.reveal(picture.cursor.turn);
-    element('message').value = picture.cursor.turn;
-    this.panel.revealRefusal(picture.cursor.turn);
-    this.panel.drawRefusals();
+    element('message').value = picture.cursor.turn + shift.before;
+    this.panel.list.reveal(picture.cursor.turn);
     this.drawSoon();
+  }
+
+  // Goes to a message, and Back leads from there to the place before.
+  visit(turn) {
+    this.keepAddress();
+    this.goTo(turn);
   }
 
   goToFrame(step) {
@@ -136,10 +143,17 @@ class View {
   }
 
   goToRefusal(step) {
-    const { listNumber } = this.panel;
-    const { numbers } = this.shift;
-    const isListed = turn => listNumber === null || numbers[turn] === listNumber;
-    this.goToNext(step, turn => numbers[turn] > 0 && this.choice.has(turn) && isListed(turn));
+    const { choice, shift } = this;
+    const isListed = number => number > 0 && (choice.number === null || choice.hasNumber(number));
+    this.goToNext(step, turn => choice.has(turn) && isListed(shift.numbers[turn]));
+  }
+
+  // The next message of the list, or the one before.
+  goToListed(step) {
+    const { list } = this.choice;
+    const { turn } = this.picture.cursor;
+    const place = step > 0 ? lastUpTo(list, turn) + 1 : lastUpTo(list, turn - 1);
+    if (place >= 0 && place < list.length) this.goTo(list[place]);
   }
 
   zoom(factor, x = this.picture.x(this.picture.cursor.turn)) {
@@ -159,33 +173,79 @@ class View {
     this.drawSoon();
   }
 
-  // ---- The address: a link leads to the same part and place
+  // ---- The address: a link leads to the same part, place and settings, and Back to those before the last choice
 
-  writeAddress() {
-    const { picture, choice } = this;
+  address() {
+    const { picture, choice, shift } = this;
     const rounded = number => Math.round(number * 10) / 10;
-    const parts = { at: picture.cursor.turn, from: rounded(picture.from), span: rounded(picture.span) };
-    if (picture.cursor.frame !== null) parts.frame = picture.cursor.frame;
-    if (choice.page !== null) parts.page = choice.page;
-    if (choice.station !== null) parts.station = choice.station;
+    const inFile = turn => (turn === null ? null : turn + shift.before);
+    const parts = {
+      at: inFile(picture.cursor.turn),
+      from: rounded(picture.from + shift.before),
+      span: rounded(picture.span),
+      frame: picture.cursor.frame,
+      page: choice.page,
+      station: choice.station,
+      kind: choice.kind,
+      number: choice.number,
+      'list-frame': choice.frame,
+      first: inFile(choice.first),
+      last: inFile(choice.last),
+      colour: picture.colouring === 'page' ? null : picture.colouring,
+      all: element('only').checked ? null : 1,
+      rows: picture.wish > LEAST_ROW ? rounded(picture.wish) : null,
+      top: picture.top > 0 ? rounded(picture.top) : null,
+    };
+    return `#${new URLSearchParams(Object.entries(parts).filter(([, value]) => value !== null))}`;
+  }
+
+  // Writes the address of what is shown soon, over the one before.
+  writeAddress() {
     clearTimeout(this.addressDue);
-    const address = `#${new URLSearchParams(parts)}`;
-    this.addressDue = setTimeout(() => history.replaceState(null, '', address), 300);
+    this.shown = this.address();
+    this.addressDue = setTimeout(() => history.replaceState(null, '', this.shown), 300);
+  }
+
+  // Before a choice is drawn: what is shown still becomes the place to which Back leads.
+  keepAddress() {
+    clearTimeout(this.addressDue);
+    history.replaceState(null, '', this.shown);
+    history.pushState(null, '', this.shown);
   }
 
   readAddress() {
     const parts = new URLSearchParams(location.hash.slice(1));
+    const { picture, shift } = this;
     const number = (name, most) => {
       const value = parts.has(name) ? Number(parts.get(name)) : NaN;
       return value >= 0 && value <= most ? value : null;
     };
     const whole = (name, most) => (Number.isInteger(number(name, most)) ? number(name, most) : null);
-    const { picture, shift } = this;
-    picture.show(number('from', shift.messages) ?? 0, number('span', shift.messages) ?? picture.whole());
-    picture.cursor.turn = whole('at', shift.messages) || picture.cursor.turn;
-    picture.cursor.frame = whole('frame', shift.frames - 1);
-    element('message').value = picture.cursor.turn;
-    this.choice.set(whole('page', PAGES - 1), whole('station', STATIONS - 1));
+    const turn = name => {
+      const value = whole(name, shift.before + shift.messages);
+      return value === null || value <= shift.before ? null : value - shift.before;
+    };
+    const from = number('from', shift.before + shift.messages);
+    picture.show(from === null ? 0 : from - shift.before, number('span', shift.messages) ?? picture.whole());
+    picture.cursor.turn = turn('at') ?? Math.min(1, shift.messages);
+    picture.cursor.frame = whole('frame', shift.rows - 1);
+    picture.wish = number('rows', MOST_ROW) ?? LEAST_ROW;
+    picture.top = number('top', Infinity) ?? 0;
+    picture.colouring = ['mark', 'age'].includes(parts.get('colour')) ? parts.get('colour') : 'page';
+    element('colour').value = picture.colouring;
+    element('message').value = picture.cursor.turn + shift.before;
+    element('only').checked = !parts.has('all');
+    const [first, last] = [turn('first'), turn('last')];
+    const hasSpan = first !== null && last !== null && first <= last;
+    this.choice.set({
+      page: whole('page', PAGES - 1),
+      station: whole('station', STATIONS - 1),
+      kind: whole('kind', shift.kinds.length),
+      number: parts.get('number') === REFUSED ? REFUSED : whole('number', shift.words.length - 1),
+      frame: whole('list-frame', shift.frames - 1),
+      first: hasSpan ? first : null,
+      last: hasSpan ? last : null,
+    });
   }
 
   // ---- Events
@@ -198,43 +258,83 @@ class View {
     click('whole', () => this.showWhole());
     click('rows-lower', () => this.rows(1 / 1.5));
     click('rows-higher', () => this.rows(1.5));
-    click('earlier-refusal', () => this.goToRefusal(-1));
-    click('later-refusal', () => this.goToRefusal(1));
-    for (const id of ['page', 'station']) {
-      element(id).addEventListener('change', () => this.choose(chosen('page'), chosen('station')));
-    }
-    element('only').addEventListener('change', () => this.drawSoon());
-    element('refusal-number').addEventListener('change', () => {
-      this.panel.listNumber = chosen('refusal-number');
-      this.panel.fillRefusals();
+    click('earlier', () => this.goToListed(-1));
+    click('later', () => this.goToListed(1));
+    click('print', () => window.print());
+    click('zoom-span', () => this.showSpanWhole());
+    click('no-span', () => this.pick({ first: null, last: null }));
+    const change = (id, action) => element(id).addEventListener('change', action);
+    for (const id of ['page', 'station', 'kind', 'frame']) change(id, () => this.pick({ [id]: chosen(id) }));
+    change('number', () => this.pick({ number: element('number').value === REFUSED ? REFUSED : chosen('number') }));
+    change('only', () => {
+      this.keepAddress();
+      this.drawSoon();
     });
-    element('message').addEventListener('change', () => {
-      this.goTo(Math.round(Number(element('message').value)) || 1);
-    });
+    change('colour', () => this.paint(element('colour').value));
+    change('message', () => this.visit((Math.round(Number(element('message').value)) || 1) - this.shift.before));
+    for (const id of ['first', 'last']) change(id, () => this.pickSpan(id));
     element('tools').addEventListener('submit', event => event.preventDefault());
     document.addEventListener('keydown', event => this.key(event));
     window.addEventListener('resize', () => this.resize());
-    window.addEventListener('hashchange', () => {
+    new ResizeObserver(() => this.resize()).observe(element('map'));
+    window.addEventListener('popstate', () => {
+      clearTimeout(this.addressDue);
       this.readAddress();
-      this.choose(this.choice.page, this.choice.station);
+      this.choose({});
     });
+    window.addEventListener('beforeprint', () => this.setPaper(true));
+    window.addEventListener('afterprint', () => this.setPaper(false));
     matchMedia('(prefers-color-scheme: dark)').addEventListener('change', () => this.changeTheme());
     this.listenToPointer();
   }
 
+  // The window, or what the head takes of it, has another size.
   resize() {
     this.picture.measure();
-    this.drawSoon();
+    this.draw();
   }
 
   changeTheme() {
     this.picture.readTheme();
+    this.choose({});
+  }
+
+  // What a colour stands for from now on.
+  paint(colouring) {
+    this.keepAddress();
+    this.picture.colouring = colouring;
     this.panel.drawLegend();
-    this.choose(this.choice.page, this.choice.station);
+    this.drawSoon();
+  }
+
+  // One end of the span was typed; the other one is the shift's if there is none.
+  pickSpan(id) {
+    const { choice, shift } = this;
+    const typed = element(id).value === '' ? null : Math.round(Number(element(id).value)) - shift.before;
+    if (typed === null || shift.messages === 0) return this.pick({ first: null, last: null });
+    const other = id === 'first' ? choice.last ?? shift.messages : choice.first ?? 1;
+    this.pick(this.spanOf(typed, other));
+  }
+
+  // The picture shows the span that is chosen.
+  showSpanWhole() {
+    const { first, last } = this.choice;
+    if (first === null) return;
+    this.keepAddress();
+    this.picture.show(first - 1, last - first + 1);
+    this.drawSoon();
+  }
+
+  // Lays the page out for paper, or for the screen again.
+  setPaper(isPaper) {
+    document.documentElement.classList.toggle('print', isPaper);
+    this.picture.readTheme();
+    this.panel.drawLegend();
+    this.resize();
   }
 
   key(event) {
-    const isElsewhere = event.target.closest('input, select, #refusals');
+    const isElsewhere = event.target.closest('input, select, #messages');
     if (isElsewhere || event.ctrlKey || event.metaKey || event.altKey) return;
     const { shift, choice, picture } = this;
     const { turn } = picture.cursor;
@@ -255,9 +355,10 @@ class View {
       0: () => this.showWhole(),
       '[': () => this.rows(1 / 1.5),
       ']': () => this.rows(1.5),
-      n: () => this.goToNext(back, other => choice.has(other)),
+      n: () => this.goToListed(back),
       r: () => this.goToRefusal(back),
-      Escape: () => this.choose(null, null),
+      s: () => this.pick(this.spanOf(turn, event.shiftKey ? choice.first ?? 1 : choice.last ?? shift.messages)),
+      Escape: () => this.chooseNothing(),
     };
     const action = actions[event.key.length === 1 ? event.key.toLowerCase() : event.key];
     if (!action) return;
@@ -314,7 +415,8 @@ class View {
     event.target.setPointerCapture(event.pointerId);
     element('map').focus({ preventScroll: true });
     const { offsetX: x, offsetY: y } = event;
-    this.grabbed = { x, y, from: picture.from, top: picture.top, isMoved: false };
+    const marksFrom = event.shiftKey ? picture.turnAt(x) : null;
+    this.grabbed = { x, y, from: picture.from, top: picture.top, isMoved: false, marksFrom };
   }
 
   move(event) {
@@ -323,6 +425,10 @@ class View {
       const [x, y] = [event.offsetX - grabbed.x, event.offsetY - grabbed.y];
       grabbed.isMoved = grabbed.isMoved || Math.abs(x) + Math.abs(y) > 4;
       if (!grabbed.isMoved) return;
+      if (grabbed.marksFrom !== null) {
+        this.markSpan(grabbed, picture.turnAt(event.offsetX));
+        return;
+      }
       picture.show(grabbed.from - x / picture.cell(), picture.span);
       picture.scroll(grabbed.top - y);
       picture.hover = null;
@@ -334,10 +440,24 @@ class View {
     this.drawPlace();
   }
 
+  // The pointer marks a span; its figures follow when it is let go.
+  markSpan(grabbed, turn) {
+    if (!grabbed.isMarking) this.keepAddress();
+    grabbed.isMarking = true;
+    Object.assign(this.choice, this.spanOf(grabbed.marksFrom, turn));
+    this.picture.hover = null;
+    this.drawPlace();
+  }
+
   release(event) {
     const { grabbed, picture } = this;
+    if (grabbed && grabbed.isMarking) {
+      this.showSpan();
+      this.writeAddress();
+    }
     this.grabbed = null;
     if (!grabbed || grabbed.isMoved || this.shift.messages === 0) return;
+    this.keepAddress();
     picture.cursor = this.placeOf(event);
     this.goTo(picture.cursor.turn);
   }

@@ -1,7 +1,4 @@
-// ---- The panel: the place pointed at, the legend, the counts and the refusals.
-
-// The height of a row in the list of refusals.
-const LINE = 22;
+// ---- The panel: the place pointed at, the legend and the list of messages.
 
 // A new element with this text and these attributes.
 function made(name, text = '', attributes = {}) {
@@ -21,15 +18,29 @@ function sample(palette, colour, mark) {
   return canvas;
 }
 
+// A bar with a read and a write.
+function sampleTicks(palette, colour) {
+  const canvas = sample(palette, colour, CURRENT);
+  const context = canvas.getContext('2d');
+  drawTick(context, palette, false, 14, 1, 14);
+  drawTick(context, palette, true, 30, 1, 14);
+  return canvas;
+}
+
+function legendItem(picture, text) {
+  const item = made('li');
+  item.append(picture, made('span', text));
+  return item;
+}
+
 class Panel {
-  constructor(picture, goTo) {
+  // `ways` are those that lead to a message: `goTo`, and `visit`, from which Back leads to the place before.
+  constructor(picture, ways) {
     this.picture = picture;
     this.shift = picture.shift;
     this.choice = picture.choice;
-    this.goTo = goTo;
-    this.listNumber = null;
-    this.list = [];
-    element('refusals').addEventListener('scroll', () => this.drawRefusals());
+    this.ways = ways;
+    this.list = new List('messages', turn => this.listed(turn), ways);
   }
 
   // ---- The place
@@ -43,7 +54,7 @@ class Panel {
       return;
     }
     const parts = [
-      made('h2', `Message ${grouped(turn)} of ${grouped(shift.messages)}`),
+      made('h2', `Message ${shift.named(turn)} of ${shift.named(shift.messages)}`),
       made('p', shift.sentence(turn), { class: 'what' }),
       made('p', shift.reply(turn), { class: shift.numbers[turn] > 0 ? 'refused' : '' }),
       made('p', this.tally(turn), { class: 'soft' }),
@@ -51,9 +62,10 @@ class Panel {
     const pages = new Map();
     if (frame !== null) {
       const holder = shift.holder(frame, turn);
-      const title = `Frame ${frame}, ${shift.store(frame)}`;
-      parts.push(made('h3', title), made('p', this.holding(holder)));
-      if (holder.page !== NONE) pages.set(holder.page, 'on this frame');
+      const isFrame = frame < shift.frames;
+      const title = isFrame ? `Frame ${frame}, ${shift.store(frame)}` : 'No frame';
+      parts.push(made('h3', title), made('p', this.holding(holder, isFrame)));
+      if (holder.page !== NONE) pages.set(holder.page, isFrame ? 'on this frame' : 'without a frame');
     }
     if (this.choice.page !== null) pages.set(this.choice.page, 'chosen');
     if (shift.pageOf[turn] < PAGES) pages.set(shift.pageOf[turn], 'named by the message');
@@ -66,13 +78,16 @@ class Panel {
     const fast = `${shift.heldFast[turn]} of ${shift.fast} fast`;
     const slow = `${shift.heldSlow[turn]} of ${shift.slow} slow`;
     const laid = counted(shift.laid[turn], 'byte', 'bytes');
-    return `So far ${grouped(shift.refused[turn])} refused, ${laid} laid; ${fast}, ${slow} frames held.`;
+    const pages = shift.frameless(turn);
+    const frameless = pages.length > 0 ? ` Without a frame: page ${pages.join(', ')}.` : '';
+    return `So far ${grouped(shift.refused[turn])} refused, ${laid} laid; ${fast}, ${slow} frames held.${frameless}`;
   }
 
-  holding({ page, mark, since }) {
-    if (mark === RETIRED) return `retired since message ${grouped(since)}`;
-    if (page === NONE) return since > 0 ? `free since message ${grouped(since)}` : 'free from the start';
-    return `page ${page}, ${MARKS[mark]} since message ${grouped(since)}`;
+  holding({ page, mark, since }, isFrame) {
+    const when = this.shift.when(since);
+    if (mark === RETIRED) return `retired ${when}`;
+    if (page === NONE) return isFrame ? `free ${when}` : 'no page';
+    return isFrame ? `page ${page}, ${MARKS[mark]} ${when}` : `page ${page} ${when}`;
   }
 
   // A page's copies after a message.
@@ -92,38 +107,64 @@ class Panel {
     const isNull = copy.frame === NONE;
     const row = made('tr', '', copy.frame === frame ? { 'aria-current': 'true' } : {});
     const shape = made('td');
-    if (!isNull) shape.append(sample(picture.palette, picture.palette.pages[page], copy.mark));
+    if (!isNull) shape.append(sample(picture.palette, this.colour(page, copy, turn), copy.mark));
     const since = made('td');
-    if (!isNull) since.append(this.jump(shift.holder(copy.frame, turn).since));
+    since.append(...this.since(page, copy, turn));
     const where = isNull ? 'none' : `${copy.frame} ${shift.store(copy.frame)}`;
     row.append(made('td', `${number}`), made('td', where), shape, made('td', MARKS[copy.mark]), since);
     return row;
   }
 
+  // The colour of a copy in the picture.
+  colour(page, { frame, mark }, turn) {
+    const { arrived, turns } = this.shift.held[frame];
+    const age = turn - arrived[lastUpTo(turns, turn)];
+    return this.picture.palette.tones[this.picture.tone(page, mark, age)];
+  }
+
+  // Since when a copy has its mark; of a copy made of a stale one also which message made it.
+  since(page, copy, turn) {
+    const { shift } = this;
+    if (copy.frame === NONE) return [this.jump(shift.changedAt(page, turn))];
+    const { since, stale } = shift.holder(copy.frame, turn);
+    if (copy.mark !== STALE || stale === since) return [this.jump(since)];
+    return [this.jump(stale), made('span', ' made '), this.jump(since)];
+  }
+
   jump(turn) {
-    const attributes = { type: 'button', class: 'jump', title: `Go to message ${turn}` };
-    const button = made('button', grouped(turn), attributes);
-    button.addEventListener('click', () => this.goTo(turn));
+    const { shift } = this;
+    if (turn === 0) return made('span', shift.before > 0 ? 'before' : 'start');
+    const attributes = { type: 'button', class: 'jump', title: `Go to message ${shift.named(turn)}` };
+    const button = made('button', shift.named(turn), attributes);
+    button.addEventListener('click', () => this.ways.visit(turn));
     return button;
   }
 
-  // ---- Legend, counts
+  // ---- Legend
 
   drawLegend() {
-    const { palette } = this.picture;
+    const { palette, colouring } = this.picture;
+    const of = mark => (colouring === 'mark' ? palette.marks[mark] : palette.pages[1]);
     const words = [
       [CURRENT, 'CURRENT: a full bar'],
       [RECENT, 'MOST RECENT, not CURRENT: hatched'],
       [STALE, 'stale: a thin line'],
       [RETIRED, 'retired frame: a dashed line'],
     ];
-    const items = words.map(([mark, text]) => {
-      const item = made('li');
-      item.append(sample(palette, palette.pages[1], mark), made('span', text));
-      return item;
-    });
+    const items = words.map(([mark, text]) => legendItem(sample(palette, of(mark), mark), text));
+    items.push(legendItem(sampleTicks(palette, of(CURRENT)), 'a read, at the top; a write, at the foot'));
+    if (colouring === 'age') {
+      const ages = AGES.map((text, age) => legendItem(sample(palette, palette.ages[age], CURRENT), text));
+      items.push(made('li', 'So many messages on its frame:'), ...ages);
+    }
+    const colour = {
+      page: 'A number in a bar is the page, and so is its colour.',
+      mark: 'A number in a bar is the page; its colour is the mark.',
+      age: 'A number in a bar is the page; its colour is its age on the frame.',
+    };
     const notes = [
-      'A number in a bar is the page, and so is its colour. Neither bar nor line: the frame is free; a freed one holds zeros.',
+      `${colour[colouring]} Neither bar nor line: the frame is free; a freed one holds zeros.`,
+      'Below the frames stand the pages that have no frame.',
       'A column shows the state after its message; zoomed out, after the last of its messages.',
       'Close up, an arrow is a copy being made, and \u271516 a message refused with number 16.',
       'Of the frames held, fast ones are full, slow ones hatched.',
@@ -146,63 +187,16 @@ class Panel {
     element('pages').replaceChildren(...buttons);
   }
 
-  drawCounts() {
-    const { shift, choice } = this;
-    const all = new Array(shift.words.length).fill(0);
-    const chosen = new Array(shift.words.length).fill(0);
-    for (let turn = 1; turn <= shift.messages; turn++) {
-      all[shift.numbers[turn]]++;
-      if (choice.has(turn)) chosen[shift.numbers[turn]]++;
-    }
-    const given = [...all.keys()].filter(number => all[number] > 0);
-    const rows = given.map(number => this.countRow(number, all[number], chosen[number]));
-    element('counts').tBodies[0].replaceChildren(...rows);
-    element('chosen-head').textContent = choice.isAny() ? 'Chosen' : '';
+  // ---- The messages
+
+  fillList() {
+    element('message-count').textContent = `(${grouped(this.choice.list.length)})`;
+    this.list.fill(this.choice.list);
+    this.list.reveal(this.picture.cursor.turn);
   }
 
-  countRow(number, count, chosen) {
-    const row = made('tr', '', { 'data-number': number, 'data-count': count });
-    const last = this.choice.isAny() ? grouped(chosen) : '';
-    const cells = [`${number}`, this.shift.words[number], grouped(count), last];
-    row.append(...cells.map(cell => made('td', cell)));
-    return row;
-  }
-
-  // ---- The refusals, of which only the visible rows are in the document
-
-  fillRefusals() {
-    const { shift, choice, listNumber } = this;
-    this.list = choice.refusals.filter(turn => listNumber === null || shift.numbers[turn] === listNumber);
-    element('refusal-count').textContent = `(${grouped(this.list.length)})`;
-    element('refusals').firstElementChild.style.height = `${LINE * this.list.length}px`;
-    this.drawRefusals();
-  }
-
-  drawRefusals() {
-    const box = element('refusals');
-    const first = Math.max(0, Math.floor(box.scrollTop / LINE) - 2);
-    const shown = this.list.slice(first, first + Math.ceil(box.clientHeight / LINE) + 4);
-    box.firstElementChild.replaceChildren(...shown.map((turn, i) => this.refusal(turn, first + i)));
-  }
-
-  refusal(turn, place) {
+  listed(turn) {
     const { shift } = this;
-    const number = shift.numbers[turn];
-    const text = `${grouped(turn)}  ${number} ${shift.words[number]}: ${shift.sentence(turn)}`;
-    const button = made('button', text, { type: 'button', title: text, 'data-turn': turn });
-    button.style.top = `${LINE * place}px`;
-    if (turn === this.picture.cursor.turn) button.setAttribute('aria-current', 'true');
-    button.addEventListener('click', () => this.goTo(turn));
-    return button;
-  }
-
-  // Scrolls the list to a refusal.
-  revealRefusal(turn) {
-    const place = lastUpTo(this.list, turn);
-    if (place < 0 || this.list[place] !== turn) return;
-    const box = element('refusals');
-    const top = LINE * place;
-    const isInSight = top >= box.scrollTop && top <= box.scrollTop + box.clientHeight - LINE;
-    if (!isInSight) box.scrollTop = top - box.clientHeight / 2;
+    return `${shift.named(turn)}  ${shift.sentence(turn)}: ${shift.reply(turn)}`;
   }
 }

@@ -4,6 +4,9 @@ const GUTTER = 70;
 const AXIS = 22;
 const LEAST_SPAN = 12;
 const LEAST_ROW = 2;
+// On paper all rows are in sight, however low, and there are so many dots to a pixel of the screen.
+const LEAST_ROW_ON_PAPER = 0.2;
+const DOTS = 4;
 const MOST_ROW = 40;
 // So many bars at the most are drawn one by one; more are drawn pixel by pixel.
 const MOST_BARS = 4000;
@@ -25,6 +28,8 @@ class Picture {
     // The place kept, and the place under the pointer.
     this.cursor = { turn: Math.min(1, shift.messages), frame: null };
     this.hover = null;
+    // What a colour stands for: the page, the mark or the age.
+    this.colouring = 'page';
     this.readTheme();
     this.measure();
   }
@@ -33,8 +38,12 @@ class Picture {
     this.palette = new Palette();
   }
 
+  isPaper() {
+    return document.documentElement.classList.contains('print');
+  }
+
   measure() {
-    this.scale = window.devicePixelRatio || 1;
+    this.scale = this.isPaper() ? DOTS : window.devicePixelRatio || 1;
     for (const context of Object.values(this.contexts)) {
       const { canvas } = context;
       canvas.width = Math.round(canvas.clientWidth * this.scale);
@@ -46,12 +55,13 @@ class Picture {
     this.layRows();
   }
 
-  // Which frames have a row: all, or those that the chosen page is on in the part shown.
+  // Which frames have a row: all, or those that the chosen page is on in the part shown; behind them come the rows of
+  // pages without a frame.
   layRows() {
     const { shift, choice } = this;
-    const all = Array.from({ length: shift.frames }, (_, frame) => frame);
-    this.rows = choice.isOnlyItsFrames() ? all.filter(frame => this.isHeldHere(frame, choice.page)) : all;
-    this.rowOf = new Int16Array(shift.frames).fill(-1);
+    const all = Array.from({ length: shift.rows }, (_, place) => place);
+    this.rows = choice.isOnlyItsFrames() ? all.filter(place => this.isHeldHere(place, choice.page)) : all;
+    this.rowOf = new Int16Array(shift.rows).fill(-1);
     this.rows.forEach((frame, row) => (this.rowOf[frame] = row));
     this.fitRow(this.wish);
   }
@@ -140,7 +150,7 @@ class Picture {
   fitRow(wish) {
     const fitting = Math.min(MOST_ROW, this.height / Math.max(1, this.rows.length));
     this.wish = Math.min(MOST_ROW, wish);
-    this.row = Math.max(LEAST_ROW, fitting, this.wish);
+    this.row = this.isPaper() ? Math.max(LEAST_ROW_ON_PAPER, fitting) : Math.max(LEAST_ROW, fitting, this.wish);
     this.scroll(this.top);
   }
 
@@ -152,8 +162,11 @@ class Picture {
     return choice.station === null || this.pagesNamed.has(page);
   }
 
-  colour(page) {
-    return this.isChosenPage(page) ? this.palette.pages[page] : this.palette.dim;
+  // The place in the list of tones of a page with this mark that is on its frame for so many messages.
+  tone(page, mark, age) {
+    if (!this.isChosenPage(page)) return TONES.dim;
+    if (this.colouring === 'mark') return TONES.marks + mark;
+    return this.colouring === 'age' ? TONES.ages + ageClass(age) : page;
   }
 
   // The pages that chosen messages name in the part shown.
@@ -183,10 +196,16 @@ class Picture {
     context.textAlign = 'left';
   }
 
-  text(context, words, x, y, colour, align = 'left') {
+  // Words that are drawn closer together where they would be wider than `most`.
+  text(context, words, x, y, colour, align = 'left', most = undefined) {
     context.fillStyle = colour;
     context.textAlign = align;
-    context.fillText(words, x, y);
+    context.fillText(words, x, y, most);
+  }
+
+  // Words in the margin at the left.
+  name(context, words, y) {
+    this.text(context, words, GUTTER - 8, y, this.palette.soft, 'right', GUTTER - 10);
   }
 
   drawMap() {
@@ -195,6 +214,7 @@ class Picture {
     if (this.rows.length > 0 && this.shift.messages > 0) {
       if (this.row * this.scale >= 6 && this.countBars() <= MOST_BARS) this.drawBars(context);
       else this.drawPixels(context);
+      this.drawTicks(context);
       this.drawMoves(context);
     } else {
       this.text(context, 'Nothing is on a frame here.', GUTTER + 12, AXIS + 20, this.palette.soft);
@@ -248,36 +268,86 @@ class Picture {
     context.clip();
   }
 
-  drawBarsOf(context, frame) {
-    const { turns, pages, marks } = this.shift.held[frame];
+  // Where a row's bar is, on whole pixels of the screen, so that thin lines have their full colour.
+  bar(place) {
+    const snapped = y => Math.round(y * this.scale) / this.scale;
+    const y = snapped(this.y(place) + 1);
+    return { y, height: snapped(this.y(place) + this.row - 1) - y };
+  }
+
+  drawBarsOf(context, place) {
+    const { turns, pages, marks } = this.shift.held[place];
     const visible = this.visibleTurns();
-    const y = this.y(frame) + 1;
-    const height = this.row - 2;
+    const { y, height } = this.bar(place);
     for (let i = lastUpTo(turns, visible.first); i < turns.length && turns[i] <= visible.last; i++) {
       if (pages[i] === NONE && marks[i] !== RETIRED) continue;
-      const left = Math.max(GUTTER - 2, this.x(turns[i]));
       const end = i + 1 < turns.length ? turns[i + 1] : this.shift.messages + 1;
-      const right = Math.min(GUTTER + this.width + 2, this.x(end));
+      const [left, right] = this.across(turns[i], end);
       if (marks[i] === RETIRED) {
         drawRetired(context, this.palette, left, y, right - left, height);
         continue;
       }
-      drawCopy(context, this.palette, this.colour(pages[i]), marks[i], left, y, right - left, height);
+      this.drawStretch(context, this.shift.held[place], i, end, y, height);
       this.drawLabel(context, pages[i], marks[i], Math.max(GUTTER, left), right, y, height);
     }
+  }
+
+  // From where to where the messages from one up to another go, as far as they are in sight.
+  across(from, end) {
+    return [Math.max(GUTTER - 2, this.x(from)), Math.min(GUTTER + this.width + 2, this.x(end))];
+  }
+
+  // One stretch of a row, in parts where its age changes the colour.
+  drawStretch(context, { turns, pages, marks, arrived }, i, end, y, height) {
+    let from = turns[i];
+    while (from < end) {
+      const age = from - arrived[i];
+      const next = this.colouring === 'age' ? arrived[i] + 10 ** (ageClass(age) + 1) : end;
+      const last = ageClass(age) === AGES.length - 1 ? end : Math.min(end, next);
+      const [left, right] = this.across(from, last);
+      const colour = this.palette.tones[this.tone(pages[i], marks[i], age)];
+      if (right > left) drawCopy(context, this.palette, colour, marks[i], left, y, right - left, height);
+      from = last;
+    }
+  }
+
+  // A tick at each accepted read and write, on the copies that it read or wrote, where single messages can be seen.
+  drawTicks(context) {
+    const { shift } = this;
+    if (this.cell() < 3 || this.row < 8) return;
+    context.save();
+    this.clip(context);
+    const turns = this.visibleTurns();
+    for (let turn = turns.first; turn <= turns.last; turn++) {
+      const isWrite = shift.isKind(turn, 'write');
+      if (shift.numbers[turn] > 0 || !(isWrite || shift.isKind(turn, 'read'))) continue;
+      const current = shift.copies(shift.pageOf[turn], turn).filter(copy => copy.mark === CURRENT);
+      // A read takes its bytes from the first CURRENT copy, a write lays them into each.
+      for (const { frame } of isWrite ? current : current.slice(0, 1)) {
+        if (this.rowOf[frame] < 0) continue;
+        const { y, height } = this.bar(frame);
+        drawTick(context, this.palette, isWrite, this.x(turn) + this.cell() / 2, y, height);
+      }
+    }
+    context.restore();
   }
 
   // The page's number in its bar, where there is room.
   drawLabel(context, page, mark, left, right, y, height) {
     const words = `${page}`;
     const width = context.measureText(words).width + 6;
-    if (height < 11 || right - left < width + 2) return;
+    if (height < 11 || right - left < width + 2 || !this.hasRoomAt(y + height / 2)) return;
     const isSolid = mark === CURRENT && this.isChosenPage(page);
     if (mark === RECENT) {
       context.fillStyle = this.palette.paper;
       context.fillRect(left + 2, y + height / 2 - 6, width, 12);
     }
     this.text(context, words, left + 5, y + height / 2, isSolid ? this.palette.paper : this.palette.ink);
+  }
+
+  // Whether a line of text around this height is within the rows.
+  hasRoomAt(y) {
+    return y >= AXIS + 6 && y <= AXIS + this.height - 6;
   }
 
   // Many bars: each column of pixels shows its last message, or where it held the chosen page.
@@ -311,14 +381,14 @@ class Picture {
     return columns;
   }
 
+  // The tones as pixels, full and light.
   shades() {
-    const { paper } = this.palette;
-    const shade = strength =>
-      Uint32Array.from({ length: PAGES }, (_, page) => pixelOf(this.colour(page), paper, strength));
-    return { full: shade(1), light: shade(0.25), retired: pixelOf(this.palette.soft, paper) };
+    const { paper, soft, tones } = this.palette;
+    const shade = strength => Uint32Array.from(tones, colour => pixelOf(colour, paper, strength));
+    return { full: shade(1), light: shade(0.25), retired: pixelOf(soft, paper) };
   }
 
-  paintRow({ pixels, width, height, columns, shades }, { turns, pages, marks }, top, bottom) {
+  paintRow({ pixels, width, height, columns, shades }, { turns, pages, marks, arrived }, top, bottom) {
     const { page: chosen } = this.choice;
     const line = staleHeight(bottom - top);
     const stale = bottom - line;
@@ -338,11 +408,10 @@ class Picture {
         }
       }
       if (pages[shown] === NONE) continue;
-      const full = shades.full[pages[shown]];
-      const light = shades.light[pages[shown]];
+      const tone = this.tone(pages[shown], mark, columns[x] - arrived[shown]);
       const first = Math.max(0, mark === STALE ? stale : top);
       for (let y = first; y < Math.min(bottom, height); y++) {
-        pixels[y * width + x] = mark === RECENT && ((x + y) & 3) > 1 ? light : full;
+        pixels[y * width + x] = mark === RECENT && ((x + y) & 3) > 1 ? shades.light[tone] : shades.full[tone];
       }
     }
   }
@@ -387,33 +456,47 @@ class Picture {
     context.fill();
   }
 
-  // The names of the frames and the border between the stores.
+  // The names of the frames, and the borders between the stores and the rows of pages without a frame.
   drawFrames(context) {
-    const { shift, palette } = this;
     context.clearRect(0, AXIS, GUTTER, this.height);
     const step = [1, 2, 5, 10, 20, 50].find(count => count * this.row >= 13) || 100;
-    const slow = this.firstSlowRow();
-    for (const frame of this.visibleFrames()) {
-      const row = this.rowOf[frame] - (frame < shift.fast ? 0 : slow);
-      // The last name of the fast store gives way to the first of the slow one.
-      const isCrowded = frame < shift.fast && (slow - row) * this.row < 13 && slow < this.rows.length && row > 0;
-      if (row % step > 0 || isCrowded) continue;
-      const y = Math.max(AXIS + 7, this.y(frame) + this.row / 2);
-      this.text(context, `${shift.store(frame)} ${frame}`, GUTTER - 8, y, palette.soft, 'right');
+    const parts = this.parts();
+    let below = 0;
+    for (const place of this.visibleFrames()) {
+      const part = parts.find(({ end }) => this.rowOf[place] < end);
+      const row = this.rowOf[place] - part.first;
+      // The last name of a part gives way to the first of the next.
+      const isCrowded = (part.end - this.rowOf[place]) * this.row < 13 && part.end < this.rows.length && row > 0;
+      const y = Math.max(AXIS + 7, this.y(place) + this.row / 2);
+      if (row % step > 0 || isCrowded || y < below || !this.hasRoomAt(y)) continue;
+      below = y + 12;
+      const number = place < this.shift.frames ? ` ${place}` : '';
+      this.name(context, number ? `${this.shift.store(place)}${number}` : 'no frame', y);
     }
-    const border = Math.round(AXIS + slow * this.row - this.top) - 0.5;
-    if (border <= AXIS || border > AXIS + this.height) return;
-    context.strokeStyle = palette.ink;
+    for (const { first } of parts.slice(1)) this.drawBorder(context, first);
+  }
+
+  // The rows of the fast frames, of the slow ones, and of pages without a frame: the first of each, and the one behind.
+  parts() {
+    const { shift } = this;
+    const count = store => this.rows.filter(place => shift.store(place) === store).length;
+    let first = 0;
+    return ['fast', 'slow', 'none'].map(store => {
+      const part = { first, end: first + count(store) };
+      first = part.end;
+      return part;
+    });
+  }
+
+  drawBorder(context, row) {
+    const border = Math.round(AXIS + row * this.row - this.top) - 0.5;
+    if (border <= AXIS || border > AXIS + this.height || row >= this.rows.length) return;
+    context.strokeStyle = this.palette.ink;
     context.lineWidth = 1;
     context.beginPath();
     context.moveTo(GUTTER, border);
     context.lineTo(GUTTER + this.width, border);
     context.stroke();
-  }
-
-  // How many rows are of fast frames.
-  firstSlowRow() {
-    return this.rows.filter(frame => frame < this.shift.fast).length;
   }
 
   drawAxis(context) {
@@ -425,17 +508,18 @@ class Picture {
     context.moveTo(0, AXIS - 0.5);
     context.lineTo(GUTTER + this.width, AXIS - 0.5);
     const step = niceStep((this.span * 90) / this.width);
-    const first = Math.max(step, Math.ceil((this.from + 1) / step) * step);
-    for (let turn = first; turn <= Math.min(this.shift.messages, this.from + this.span); turn += step) {
+    const { before, messages } = this.shift;
+    const first = Math.max(step, Math.ceil((this.from + before + 1) / step) * step) - before;
+    for (let turn = first; turn <= Math.min(messages, this.from + this.span); turn += step) {
       const x = this.x(turn) + this.cell() / 2;
       context.moveTo(x, AXIS - 5);
       context.lineTo(x, AXIS);
       const isLast = x > GUTTER + this.width - 30;
       const [at, align] = isLast ? [GUTTER + this.width - 2, 'right'] : [x, 'center'];
-      this.text(context, grouped(turn), at, 9, palette.soft, align);
+      this.text(context, this.shift.named(turn), at, 9, palette.soft, align);
     }
     context.stroke();
-    this.text(context, 'message', GUTTER - 8, 9, palette.soft, 'right');
+    this.name(context, 'message', 9);
   }
 
   // ---- The overlay: the place kept and the place pointed at
@@ -446,6 +530,7 @@ class Picture {
     this.clear(context);
     if (this.shift.messages === 0) return;
     const map = element('map');
+    this.drawSpan(context, map.offsetTop);
     const left = this.x(place.turn);
     const width = Math.max(1, this.cell());
     if (left + width >= GUTTER && left <= GUTTER + this.width) {
@@ -461,6 +546,20 @@ class Picture {
     context.strokeStyle = this.palette.accent;
     context.lineWidth = 1;
     context.strokeRect(1.5, map.offsetTop + Math.max(AXIS, y) - 0.5, GUTTER + this.width - 3, this.row + 1);
+  }
+
+  // The span that is chosen, over map and lanes.
+  drawSpan(context, top) {
+    const { first, last } = this.choice;
+    if (first === null) return;
+    const within = x => Math.max(GUTTER, Math.min(GUTTER + this.width, x));
+    const [left, right] = [within(this.x(first)), within(this.x(last + 1))];
+    context.fillStyle = context.strokeStyle = this.palette.accent;
+    context.globalAlpha = 0.1;
+    context.fillRect(left, top, right - left, context.canvas.clientHeight - top);
+    context.globalAlpha = 1;
+    context.lineWidth = 1;
+    context.strokeRect(left + 0.5, top + 0.5, Math.max(1, right - left - 1), context.canvas.clientHeight - top - 1);
   }
 }
 

@@ -1,8 +1,7 @@
 -- `answer` meets its contract: the message as the reader yields it at place 0, turned back early, or decided on and carried out.
 use Prim.Native.Nat.{ℕ}
 use mathlib.Core.Bool.{cond}
-use mathlib.Core.Path.{_≡_, refl, ap, _∙_}
-use native.Mathlib.Omega.{arith}
+use mathlib.Core.Path.{_≡_, refl, sym, ap, _∙_}
 use lib.Dec.{ltb}
 use borrow.Author.Tests.{le-ltb}
 use Rattle.steps.specs.Promises.{stateOf}
@@ -22,15 +21,15 @@ asks c =
     ∙ ap (λ (n : Next). asked (sentBy l n)) (c .before .before .message-at .ensures .told)
 
 -- what is known where it is decided on
-done : (c : tie.After-judge-any) →
+done : (c : tie.After-decide-any) →
     let v = c .before .before .before .before .before .before .before .before .before .before .before .before .args in
-    Decided (stateOf (v .tables) (v .fast .now) (v .slow .now)) (sentAlone (v .message .now)) (v .out .now) (c .before .write-bytes .result .now) (c .judge-any .result)
+    Decided (stateOf (v .tables) (v .fast .now) (v .slow .now)) (sentAlone (v .message .now)) (v .out .now) (c .before .write-bytes .result .now) (c .decide-any .result)
 done c =
     let a = c .before .before .before .before .before in
     let v = a .before .before .before .before .before .before .before .args in
     decided (stateOf (v .tables) (v .fast .now) (v .slow .now)) (sentAlone (v .message .now)) _ 0 _ (v .out .now) (asks a) (c .before .before .before .before .early-number .ensures)
-    _ (c .judge-any .result) (c .before .before .before .if1 .left) (c .before .write-bytes .ensures ∙ bytes-by (v .message .now) _ (a .before .before .message-at .result) (a .before .bytes-in .ensures) ∙ ap (λ (n : Next). bytesOf (sentBy (v .message .now) n)) (a .before .before .message-at .ensures .told))
-    (λ _. rw (← c .before .before .call-in .ensures) (c .judge-any .ensures))
+    _ (c .decide-any .result) (c .before .before .before .if1 .left) (c .before .write-bytes .ensures ∙ bytes-by (v .message .now) _ (a .before .before .message-at .result) (a .before .bytes-in .ensures) ∙ ap (λ (n : Next). bytesOf (sentBy (v .message .now) n)) (a .before .before .message-at .ensures .told))
+    (λ _. rw (← c .before .before .call-in .ensures) (c .decide-any .ensures))
 
 message-at-requires : tie.Need-message-at-requires
 message-at-requires c κs = search needs
@@ -58,10 +57,10 @@ returns c =
     let b = c .before .before .before .before .before .before in
     let v = b .before .before .before .before .before .before .before .before .args in
     let f = c .before .before .before .reply-refusal in
-    replied _ _ (v .out .now) _ _ 0 _
+    replied _ _ (v .out .now) _ _ 0 _ _
     (served-early (stateOf (v .tables) (v .fast .now) (v .slow .now)) (sentAlone (v .message .now)) _ 0 _ (v .out .now) (asks (b .before)) (b .early-number .ensures) _
     (λ z. absurd (z refl)) (c .before .before .before .before .before .if1 .taken) (f .ensures))
-    (c .reply-length .ensures ∙ ap (λ (n : ℕ). cond (ltb n 70) 0 6) (f .kept .0)) (λ _. refl)
+    refl (c .reply-length .ensures ∙ ap (λ (n : ℕ). cond (ltb n 70) 0 6) (f .kept .0))
 
 call-in-requires : tie.Need-call-in-requires
 call-in-requires c κs = search needs
@@ -69,8 +68,8 @@ call-in-requires c κs = search needs
 write-bytes-requires : tie.Need-write-bytes-requires
 write-bytes-requires c κs = search needs
 
-judge-any-requires : tie.Need-judge-any-requires
-judge-any-requires c κs = search needs
+decide-any-requires : tie.Need-decide-any-requires
+decide-any-requires c κs = search needs
 
 reply-decided-requires : tie.Need-reply-decided-requires
 reply-decided-requires c κs =
@@ -97,7 +96,7 @@ same-length-4 c = search needs
 returns-2 : tie.Need-returns-2
 returns-2 c =
     let w = done (c .before .before .before .before .before .before .before .before .before .before .before .before .before) in
-    replied _ _ _ _ _ _ _ (w .served _ _ _ _ (c .before .settle .ensures) (c .before .before .before .before .before .before .before .before .before .reply-decided .ensures)) (rw (le-ltb _ 70 (w .roomy))) (λ e. let z : _≡_ {A = ℕ} 0 1 = cc in absurd (omega arith))
+    replied _ _ _ _ _ _ _ _ (w .served _ _ _ _ (c .before .settle .ensures) (c .before .before .before .before .before .before .before .before .before .reply-decided .ensures)) (sym (c .before .before .if2 .taken)) (rw (le-ltb _ 70 (w .roomy)))
 
 add-t14 : tie.Need-add-t14
 add-t14 c =
@@ -116,7 +115,7 @@ same-length-7 c = search needs
 returns-3 : tie.Need-returns-3
 returns-3 c =
     let w = done (c .before .before .before .before .before .before .before .before .before .before .before .before) in
-    replied _ _ _ _ _ _ _ (w .served _ _ _ _ (rw (c .before .if2 .left)) (c .before .before .before .before .before .before .before .before .reply-decided .ensures)) (rw (le-ltb _ 70 (w .roomy))) (λ _. refl)
+    replied _ _ _ _ _ _ _ _ (w .served _ _ _ _ (rw (c .before .if2 .left)) (c .before .before .before .before .before .before .before .before .reply-decided .ensures)) (sym (c .before .if2 .left)) (rw (le-ltb _ 70 (w .roomy)))
 
 pub answer-spec : {M : Type 1} → statement M
 answer-spec =
@@ -132,7 +131,7 @@ answer-spec =
     returns
     call-in-requires
     write-bytes-requires
-    judge-any-requires
+    decide-any-requires
     reply-decided-requires
     settle-requires
     add-t30

@@ -2,7 +2,7 @@
 -- measure is what is left of the file.
 use Prim.Native.Nat.{ℕ, _-_, _≤_}
 use mathlib.Core.Path.{_≡_, refl, sym, ap, _∙_}
-use mathlib.Core.Bool.{Bool, true, false, cond}
+use mathlib.Core.Bool.{Bool, true, false, cond, or-true, or-false}
 use native.Mathlib.Omega.{arith}
 use lib.ListN.{length, take, drop}
 use lib.Dec.{ltb}
@@ -20,7 +20,7 @@ use Rattle.messages.proofs.turns.serve.Tie as tie
 
 abbrev Inv-loop : tie.InvT-loop
 Inv-loop tables₀ fast₀ slow₀ file at₀ out₀ tally₀ keep known moved₀ used₀ last tables fast slow at out tally moved used =
-    Going keep file (serving at₀ 0 (stateOf tables₀ fast₀ slow₀) out₀ tally₀) known moved (serving at used (stateOf tables fast slow) out tally)
+    Going keep file (serving at₀ 0 (stateOf tables₀ fast₀ slow₀) out₀ tally₀ false) known (serving at used (stateOf tables fast slow) out tally moved)
     × (last ≡ length out₀ - 70)
 
 abbrev μ-loop : tie.MeasureT-loop
@@ -53,18 +53,18 @@ asks : (c : tie.After-past Inv-loop μ-loop) → c .before .asked-in .result ≡
 asks c = asked-by _ _ (c .before .before .before .before .before .due-at .result) _ (c .before .before .bytes-in .ensures) (c .before .asked-in .ensures)
 
 -- what is known where it is decided on
-done : (c : tie.After-judge Inv-loop μ-loop) →
+done : (c : tie.After-decide Inv-loop μ-loop) →
     let l = c .before .before .before .before .before .before .before .before .before .before .before .before .loop in
     Decided (stateOf (l .tables) (l .fast) (l .slow)) (sentBy (c .before .before .before .before .before .before .before .before .before .before .before .before .before .before .before .before .before .before .before .args .file .now) (c .before .before .before .before .before .before .before .before .before .before .before .due-at .result))
-    (take (length (l .out) - l .used) (drop (l .used) (l .out))) (c .before .write-bytes .result .now) (c .judge .result)
+    (take (length (l .out) - l .used) (drop (l .used) (l .out))) (c .before .write-bytes .result .now) (c .decide .result)
 done c =
     let l = c .before .before .before .before .before .before .before .before .before .before .before .before .loop in
     let v = l .inv .0 in
     decided (stateOf (l .tables) (l .fast) (l .slow)) (sentBy (c .before .before .before .before .before .before .before .before .before .before .before .before .before .before .before .before .before .before .before .args .file .now) (c .before .before .before .before .before .before .before .before .before .before .before .due-at .result)) _ _ _
     (take (length (l .out) - l .used) (drop (l .used) (l .out))) (asks (c .before .before .before .before .before .before)) (c .before .before .before .before .early-number .ensures)
-    _ (c .judge .result) (c .before .before .before .if2 .left)
+    _ (c .decide .result) (c .before .before .before .if2 .left)
     (c .before .write-bytes .ensures ∙ bytes-by _ _ (c .before .before .before .before .before .before .before .before .before .before .before .due-at .result) (c .before .before .before .before .before .before .before .before .bytes-in .ensures))
-    (λ z. rw (← c .before .before .call-in .ensures, decide-ruled (l .tables) (length (l .fast)) (length (l .slow)) _ _ (sym (v .rules) ∙ z)) (c .judge .ensures))
+    (λ z. rw (← c .before .before .call-in .ensures, decide-ruled (l .tables) (length (l .fast)) (length (l .slow)) _ _ (sym (v .rules) ∙ z)) (c .decide .ensures))
 
 rules-requires : tie.Need-rules-requires Inv-loop μ-loop
 rules-requires c κs = search needs
@@ -96,10 +96,7 @@ same-length-3 c = search needs
 
 returns : tie.Need-returns Inv-loop μ-loop
 returns c =
-    record {
-      all = going-none (c .before .before .before .loop .inv .0) _ (found (c .before .before)) (sym (c .before .is-end .ensures) ∙ c .if1 .taken);
-      kept = c .before .before .before .loop .inv .0 .kept;
-    }
+    record { all = going-none (c .before .before .before .loop .inv .0) _ (found (c .before .before)) (sym (c .before .is-end .ensures) ∙ c .if1 .taken) }
 
 bytes-in-requires : tie.Need-bytes-in-requires Inv-loop μ-loop
 bytes-in-requires c κs = record { at = c .before .before .before .loop .at; found = here c .found }
@@ -149,8 +146,8 @@ call-in-requires c κs = search needs
 write-bytes-requires : tie.Need-write-bytes-requires Inv-loop μ-loop
 write-bytes-requires c κs = search needs
 
-judge-requires : tie.Need-judge-requires Inv-loop μ-loop
-judge-requires c κs = search needs
+decide-requires : tie.Need-decide-requires Inv-loop μ-loop
+decide-requires c κs = search needs
 
 reply-decided-requires : tie.Need-reply-decided-requires Inv-loop μ-loop
 reply-decided-requires c κs =
@@ -187,10 +184,10 @@ loop-again c =
     let f = c .before .before .before .before .before .reply-refusal in
     let e = c .before .before .before .before .before .before .before .early-number in
     let slip = take (length (l .out) - l .used) (drop (l .used) (l .out)) in (
-      rw (p .past .ensures) (going-on v _ _ _ _ _ _ _ _ _ _ (here (p .before .before .before)) (goes (p .before .before .before))
+      rw (p .past .ensures) (going-on v _ _ _ _ _ _ _ _ _ _ _ (here (p .before .before .before)) (goes (p .before .before .before))
           (served-early (stateOf (l .tables) (l .fast) (l .slow)) _ _ _ _ slip (asks p) (e .ensures) _ (λ _. sym (v .rules)) (c .before .before .before .before .before .before .if2 .taken) (f .ensures))
           refl (f .kept .0) (c .before .ahead .ensures ∙ ap (ahead (c .before .before .before .before .before .before .before .before .before .before .before .before .before .before .before .before .before .before .before .before .before .before .args .keep) (l .used)) (c .before .before .reply-length .ensures))
-          (rw (ne-eqb _ 0 (c .before .before .before .before .before .before .if2 .taken)) (c .tally-after .ensures)) (v .kept) refl refl),
+          (rw (ne-eqb _ 0 (c .before .before .before .before .before .before .if2 .taken)) (c .tally-after .ensures)) (sym (or-false (l .moved))) refl refl),
       l .inv .1,
     )
 
@@ -206,10 +203,10 @@ loop-again-2 c =
     let v = l .inv .0 in
     let d = c .before .before .before .before .before .before .before .before .before .before .before .before .reply-decided in
     let w = done (c .before .before .before .before .before .before .before .before .before .before .before .before .before .before .before) in (
-      rw (p .past .ensures) (going-on v _ _ _ _ _ _ _ _ _ _ (here (p .before .before .before)) (goes (p .before .before .before))
+      rw (p .past .ensures) (going-on v _ _ _ _ _ _ _ _ _ _ _ (here (p .before .before .before)) (goes (p .before .before .before))
           (w .served _ _ _ _ (c .settle .ensures) (d .ensures))
           refl (d .kept .1 .1 .1 .1 .0) (rw (le-ltb _ 70 (w .roomy)) (c .before .before .before .before .ahead2 .ensures))
-          (c .before .before .tally-after2 .ensures) (λ e. let z : _≡_ {A = ℕ} 0 1 = cc in absurd (omega arith)) (d .kept .1 .1 .0) (d .kept .1 .1 .1 .0)),
+          (c .before .before .tally-after2 .ensures) (rw (c .before .if3 .taken) (sym (or-true (l .moved)))) (d .kept .1 .1 .0) (d .kept .1 .1 .1 .0)),
       l .inv .1,
     )
 
@@ -225,10 +222,10 @@ loop-again-3 c =
     let v = l .inv .0 in
     let d = c .before .before .before .before .before .before .before .before .before .before .before .reply-decided in
     let w = done (c .before .before .before .before .before .before .before .before .before .before .before .before .before .before) in (
-      rw (p .past .ensures) (going-on v _ _ _ _ _ _ _ _ _ _ (here (p .before .before .before)) (goes (p .before .before .before))
+      rw (p .past .ensures) (going-on v _ _ _ _ _ _ _ _ _ _ _ (here (p .before .before .before)) (goes (p .before .before .before))
           (w .served _ _ _ _ (rw (c .if3 .left)) (d .ensures))
           refl (d .kept .1 .1 .1 .1 .0) (rw (le-ltb _ 70 (w .roomy)) (c .before .before .before .ahead2 .ensures))
-          (c .before .tally-after2 .ensures) (v .kept) (d .kept .1 .1 .0) (d .kept .1 .1 .1 .0)),
+          (c .before .tally-after2 .ensures) (rw (c .if3 .left) (sym (or-false (l .moved)))) (d .kept .1 .1 .0) (d .kept .1 .1 .1 .0)),
       l .inv .1,
     )
 
@@ -260,7 +257,7 @@ serve-spec =
     tally-after-requires
     call-in-requires
     write-bytes-requires
-    judge-requires
+    decide-requires
     reply-decided-requires
     add-ahead
     ahead-requires-2

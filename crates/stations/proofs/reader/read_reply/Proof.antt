@@ -1,10 +1,11 @@
 -- `read_reply` meets its contract: what the reader over messages yields at place 0.
-use mathlib.Core.Path.{sym, ap, _∙_}
+use mathlib.Core.Path.{_≡_, sym, ap, _∙_}
 use mathlib.Core.List.{List}
 use Prim.Native.Nat.{ℕ}
 use native.Mathlib.Omega.{arith}
 use Rattle.messages.proofs.ReaderLaws.{message-at, message-part}
 use Rattle.stations.specs.Reader.{readBody, readReply}
+use Rattle.stations.proofs.ReaderLaws.{read-of}
 use borrow.Author.Needs.{needs}
 use Rattle.stations.proofs.reader.read_reply.Statement.{statement}
 use Rattle.stations.proofs.reader.read_reply.Tie as tie
@@ -52,19 +53,29 @@ returns c =
     let m = k .before .before in
     let a = m .before .before .args in
     let e = sym (k .start .given .1) ∙ m .message-at .ensures .told in
-    rw (← e) (c .read-body .ensures ∙ ap (λ (l : List ℕ). readBody (a .kind) l) (message-part (a .bytes .now) 0 _ _ _ e))
+    let is : c .read-body .result ≡ readReply (a .kind) (a .bytes .now) =
+    rw (← e) (c .read-body .ensures ∙ ap (λ (l : List ℕ). readBody (a .kind) l) (message-part (a .bytes .now) 0 _ _ _ e)) in
+    read-of (a .kind) (a .bytes .now) (c .read-body .result) is
 
 returns-2 : tie.Need-returns-2
 unfolding readReply
 returns-2 c =
     let k = c .before in
-    rw (← (sym (k .enum-told .given .1) ∙ k .before .before .message-at .ensures .told)) (c .refused .ensures)
+    let m = k .before .before in
+    let a = m .before .before .args in
+    let is : c .refused .result ≡ readReply (a .kind) (a .bytes .now) =
+    rw (← (sym (k .enum-told .given .1) ∙ m .message-at .ensures .told)) (c .refused .ensures) in
+    read-of (a .kind) (a .bytes .now) (c .refused .result) is
 
 returns-3 : tie.Need-returns-3
 unfolding readReply
 returns-3 c =
     let k = c .before in
-    rw (← (sym (k .enum-told2 .given .1) ∙ k .before .before .message-at .ensures .told)) (c .refused2 .ensures)
+    let m = k .before .before in
+    let a = m .before .before .args in
+    let is : c .refused2 .result ≡ readReply (a .kind) (a .bytes .now) =
+    rw (← (sym (k .enum-told2 .given .1) ∙ m .message-at .ensures .told)) (c .refused2 .ensures) in
+    read-of (a .kind) (a .bytes .now) (c .refused2 .result) is
 
 pub read-reply-spec : {M : Type 1} → statement M
 read-reply-spec =

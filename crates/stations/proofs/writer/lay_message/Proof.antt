@@ -1,7 +1,8 @@
 -- `lay_message` meets its contract: the first bytes, and then those that end the message.
-use Prim.Native.Nat.{_+_, _≤_}
+use Prim.Native.Nat.{ℕ, _+_, _≤_}
 use native.Mathlib.Omega.{arith}
-use lib.ListN.{length, length-append, length-take}
+use mathlib.Core.List.{List, [], _∷_}
+use lib.ListN.{length, take, length-append, length-take}
 use Rattle.stations.proofs.WriterLaws.{parts-laid}
 use borrow.Author.Needs.{needs}
 use Rattle.stations.proofs.writer.lay_message.Statement.{statement}
@@ -35,22 +36,17 @@ add-head c = search needs
 array-share-prefix-head : tie.Need-array-share-prefix-head
 array-share-prefix-head c = search needs
 
-slice-aggregate-lay : tie.Need-slice-aggregate-lay
-slice-aggregate-lay c = simp length-take (omega (arith, few (c .before .before)))
+slice-aggregate-lay-bytes : tie.Need-slice-aggregate-lay-bytes
+slice-aggregate-lay-bytes c = simp length-take (omega (arith, few (c .before .before)))
 
-lay-requires : tie.Need-lay-requires
-lay-requires c κs =
-    let t = c .before .before in
-    simp length-take (omega (arith, few t, t .before .before .before .before .pre .room))
+lay-bytes-requires : tie.Need-lay-bytes-requires
+lay-bytes-requires c κs = search needs
 
-add-lay : tie.Need-add-lay
-add-lay c = search needs
+add-lay-bytes : tie.Need-add-lay-bytes
+add-lay-bytes c = search needs
 
-lay-requires-2 : tie.Need-lay-requires-2
-lay-requires-2 c κs =
-    let l = c .before .before .before in
-    let t = l .before .before .before in
-    omega (arith, few t, short t, t .before .before .before .before .pre .room, l .lay .kept .0)
+lay-bytes-requires-2 : tie.Need-lay-bytes-requires-2
+lay-bytes-requires-2 c κs = search needs
 
 add-result : tie.Need-add-result
 add-result c = search needs
@@ -65,9 +61,14 @@ returns c =
     let t = l .before .before .before in
     let n = t .before .count-of in
     let k = few t in
+    let s = t .before .before .before .before in
+    let a = s .args in
+    let tail = t .tail-of .result .now in
+    let head : List ℕ = 0 ∷ (2 + n .result + length tail) ∷ 1 ∷ a .kind ∷ a .first ∷ a .second ∷ a .third ∷ a .fourth ∷ [] in
     rw (← n .ensures, ← t .tail-of .ensures) (
       simp (length-append, length-take) (omega arith),
-      parts-laid _ (t .tail-of .result .now) _ _ _ (4 + n .result) (simp length-take (omega arith)) (l .lay .ensures) (m .lay2 .ensures),
+      parts-laid (take (4 + n .result) head) tail (a .out .now) _ _ (4 + n .result) (l .lay-bytes .ensures) (m .lay-bytes2 .ensures)
+          (simp length-take (omega arith)) (omega (arith, short t, s .pre .room)),
     )
 
 pub lay-message-spec : {M : Type 1} → statement M
@@ -81,10 +82,10 @@ lay-message-spec =
     cast-t16
     add-head
     array-share-prefix-head
-    slice-aggregate-lay
-    lay-requires
-    add-lay
-    lay-requires-2
+    slice-aggregate-lay-bytes
+    lay-bytes-requires
+    add-lay-bytes
+    lay-bytes-requires-2
     add-result
     same-length
     returns)

@@ -11,7 +11,7 @@ use borrow.Author.Needs.{needs}
 use Rattle.stations.proofs.writer.write_kind.Statement.{statement}
 use Rattle.stations.proofs.writer.write_kind.Tie as tie
 
--- whether the call is out of range
+-- the number of the call
 told : (c : tie.After-outside) →
     let a = c .before .before .before .before .before .before .before .before .args in
     c .outside .result ≡ outside 254 (length (a .bytes .now)) (callOf (kindOf (a .kind)) (a .first ∷ a .second ∷ a .third ∷ a .fourth ∷ []))
@@ -58,8 +58,8 @@ returns-3 c =
     let o = c .before .before in
     let u = o .before .before .before in
     let a = u .before .before .before .before .before .args in
-    wrote-refused _ 7 (a .out .now) _
-    (as-outside _ (a .kind) _ (a .bytes .now) (u .before .before .if1 .left) (known u) (sym (told o) ∙ c .before .if3 .taken)) (c .refused3 .ensures)
+    wrote-refused _ _ (a .out .now) _
+    (as-outside _ (a .kind) _ (a .bytes .now) (u .before .before .if1 .left) (known u) _ (told o) (c .before .if3 .taken)) (c .refused3 .ensures)
 
 lay-message-requires : tie.Need-lay-message-requires
 lay-message-requires c κs =

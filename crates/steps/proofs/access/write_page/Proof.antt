@@ -3,22 +3,23 @@ use native.Mathlib.Nat.{mul-le-mul}
 use native.Mathlib.Omega.{arith}
 use borrow.Author.Tests.{eq-eqb, ne-eqb}
 use Rattle.steps.specs.Steps.{perform}
+use Rattle.steps.proofs.GuardLaws.{guard-refused, guard-on}
 use borrow.Author.Needs.{needs}
 use Rattle.steps.proofs.access.write_page.Statement.{statement}
 use Rattle.steps.proofs.access.write_page.Tie as tie
+
+lacks-right-requires : tie.Need-lacks-right-requires
+lacks-right-requires c κs = search needs
 
 refused-requires : tie.Need-refused-requires
 refused-requires c κs = search needs
 
 returns : tie.Need-returns
 unfolding perform
-returns c = rw (eq-eqb _ 0 (c .before .if1 .taken)) (c .refused .ensures)
+returns c = guard-refused (c .before .before .lacks-right .ensures) _ (c .before .if1 .taken) (c .refused .ensures)
 
-right-of-requires : tie.Need-right-of-requires
-right-of-requires c κs = search needs
-
-allows-requires : tie.Need-allows-requires
-allows-requires c κs = search needs
+count-of-requires : tie.Need-count-of-requires
+count-of-requires c κs = search needs
 
 refused-requires-2 : tie.Need-refused-requires-2
 refused-requires-2 c κs = search needs
@@ -26,69 +27,39 @@ refused-requires-2 c κs = search needs
 returns-2 : tie.Need-returns-2
 unfolding perform
 returns-2 c =
-    let a = c .before .before in
-    let r = a .before in
-    rw (ne-eqb _ 0 (r .before .if1 .left), ← r .right-of .ensures, ← a .allows .ensures, c .before .if2 .taken) (c .refused2 .ensures)
+    let k = c .before .before in
+    let n = k .before in
+    guard-on (n .before .lacks-right .ensures) _ (n .if1 .left)
+    (rw (← k .count-of .ensures .0, eq-eqb _ 0 (c .before .if2 .taken)) (c .refused2 .ensures))
 
-count-of-requires : tie.Need-count-of-requires
-count-of-requires c κs = search needs
+mul-laid : tie.Need-mul-laid
+mul-laid c = omega (arith, mul-le-mul (c .before .before .before .before .before .pre) (c .before .count-of .ensures .1))
 
-refused-requires-3 : tie.Need-refused-requires-3
-refused-requires-3 c κs = search needs
+cast-laying : tie.Need-cast-laying
+cast-laying c = omega (arith, mul-le-mul (c .before .before .before .before .before .pre) (c .before .count-of .ensures .1))
+
+laying-requires : tie.Need-laying-requires
+laying-requires c κs = search needs
 
 returns-3 : tie.Need-returns-3
 unfolding perform
 returns-3 c =
     let k = c .before .before in
-    let a = k .before .before in
-    let r = a .before in
-    rw (
-      ne-eqb _ 0 (r .before .if1 .left),
-      ← r .right-of .ensures,
-      ← a .allows .ensures,
-      k .before .if2 .left,
-      ← k .count-of .ensures .0,
-      eq-eqb _ 0 (c .before .if3 .taken),
-    ) (c .refused3 .ensures)
-
-mul-laid : tie.Need-mul-laid
-mul-laid c = omega (arith, mul-le-mul (c .before .before .before .before .before .before .before .before .pre) (c .before .count-of .ensures .1))
-
-cast-accepted : tie.Need-cast-accepted
-cast-accepted c = omega (arith, mul-le-mul (c .before .before .before .before .before .before .before .before .pre) (c .before .count-of .ensures .1))
-
-accepted-requires : tie.Need-accepted-requires
-accepted-requires c κs = search needs
-
-returns-4 : tie.Need-returns-4
-unfolding perform
-returns-4 c =
-    let k = c .before .before in
-    let a = k .before .before in
-    let r = a .before in
-    rw (
-      ne-eqb _ 0 (r .before .if1 .left),
-      ← r .right-of .ensures,
-      ← a .allows .ensures,
-      k .before .if2 .left,
-      ← k .count-of .ensures .0,
-      ne-eqb _ 0 (c .before .if3 .left),
-    ) (c .accepted .ensures)
+    let n = k .before in
+    guard-on (n .before .lacks-right .ensures) _ (n .if1 .left)
+    (rw (← k .count-of .ensures .0, ne-eqb _ 0 (c .before .if2 .left)) (c .laying .ensures))
 
 pub write-page-spec : {M : Type 1} → statement M
 write-page-spec =
     tie.close
     (tie.spec
+    lacks-right-requires
     refused-requires
     returns
-    right-of-requires
-    allows-requires
+    count-of-requires
     refused-requires-2
     returns-2
-    count-of-requires
-    refused-requires-3
-    returns-3
     mul-laid
-    cast-accepted
-    accepted-requires
-    returns-4)
+    cast-laying
+    laying-requires
+    returns-3)

@@ -4,17 +4,17 @@ use borrow.Author.Needs.{needs}
 use Rattle.steps.proofs.copies.copied.Statement.{statement}
 use Rattle.steps.proofs.copies.copied.Tie as tie
 
-accepted-requires : tie.Need-accepted-requires
-accepted-requires c κs = search needs
+laying-requires : tie.Need-laying-requires
+laying-requires c κs = search needs
 
 returns : tie.Need-returns
-returns c = rw (eq-eqb _ 255 (c .before .if1 .taken)) (c .accepted .ensures)
+returns c = rw (eq-eqb _ 255 (c .before .if1 .taken)) (c .laying .ensures)
 
-accepted-requires-2 : tie.Need-accepted-requires-2
-accepted-requires-2 c κs = search needs
+laying-requires-2 : tie.Need-laying-requires-2
+laying-requires-2 c κs = search needs
 
 returns-2 : tie.Need-returns-2
-returns-2 c = rw (ne-eqb _ 255 (c .before .if1 .left)) (c .accepted2 .ensures)
+returns-2 c = rw (ne-eqb _ 255 (c .before .if1 .left)) (c .laying2 .ensures)
 
 pub copied-spec : {M : Type 1} → statement M
-copied-spec = tie.close (tie.spec accepted-requires returns accepted-requires-2 returns-2)
+copied-spec = tie.close (tie.spec laying-requires returns laying-requires-2 returns-2)

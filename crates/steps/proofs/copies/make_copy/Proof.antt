@@ -1,20 +1,20 @@
 -- `steps::copies::make_copy` meets its contract: 9 and 12, then 20, 13 and 14.
 use borrow.Author.Tests.{eq-eqb, ne-eqb}
 use Rattle.steps.specs.Steps.{perform}
-use Rattle.steps.proofs.VerdictLaws.{numbered-refused, numbered-on}
+use Rattle.steps.proofs.GuardLaws.{guard-refused, guard-on}
 use borrow.Author.Needs.{needs}
 use Rattle.steps.proofs.copies.make_copy.Statement.{statement}
 use Rattle.steps.proofs.copies.make_copy.Tie as tie
 
-unnumbered-requires : tie.Need-unnumbered-requires
-unnumbered-requires c κs = search needs
+lacks-copy-requires : tie.Need-lacks-copy-requires
+lacks-copy-requires c κs = search needs
 
 refused-requires : tie.Need-refused-requires
 refused-requires c κs = search needs
 
 returns : tie.Need-returns
 unfolding perform
-returns c = λ size. numbered-refused (c .before .before .unnumbered .ensures) _ (c .before .if1 .taken) (c .refused .ensures)
+returns c = λ size. guard-refused (c .before .before .lacks-copy .ensures) _ (c .before .if1 .taken) (c .refused .ensures)
 
 is-retired-requires : tie.Need-is-retired-requires
 is-retired-requires c κs = search needs
@@ -26,7 +26,7 @@ returns-2 : tie.Need-returns-2
 unfolding perform
 returns-2 c = λ size.
     let r = c .before .before in
-    numbered-on (r .before .before .unnumbered .ensures) _ (r .before .if1 .left)
+    guard-on (r .before .before .lacks-copy .ensures) _ (r .before .if1 .left)
     (rw (← r .is-retired .ensures, c .before .if2 .taken) (c .refused2 .ensures))
 
 is-free-requires : tie.Need-is-free-requires
@@ -40,7 +40,7 @@ unfolding perform
 returns-3 c = λ size.
     let f = c .before .before in
     let r = f .before .before in
-    numbered-on (r .before .before .unnumbered .ensures) _ (r .before .if1 .left)
+    guard-on (r .before .before .lacks-copy .ensures) _ (r .before .if1 .left)
     (rw (← r .is-retired .ensures, f .before .if2 .left, ← f .is-free .ensures, c .before .if3 .taken) (c .refused3 .ensures))
 
 refused-requires-4 : tie.Need-refused-requires-4
@@ -52,7 +52,7 @@ returns-4 c = λ size.
     let h = c .before .before .before in
     let f = h .before in
     let r = f .before .before in
-    numbered-on (r .before .before .unnumbered .ensures) _ (r .before .if1 .left)
+    guard-on (r .before .before .lacks-copy .ensures) _ (r .before .if1 .left)
     (rw (← r .is-retired .ensures, f .before .if2 .left, ← f .is-free .ensures, h .if3 .left, eq-eqb _ 8 (c .before .if4 .taken)) (c .refused4 .ensures))
 
 copy-at-requires : tie.Need-copy-at-requires
@@ -68,7 +68,7 @@ returns-5 c = λ size.
     let h = e .before .before in
     let f = h .before in
     let r = f .before .before in
-    numbered-on (r .before .before .unnumbered .ensures) _ (r .before .if1 .left)
+    guard-on (r .before .before .lacks-copy .ensures) _ (r .before .if1 .left)
     (rw (← r .is-retired .ensures, f .before .if2 .left, ← f .is-free .ensures, h .if3 .left, ne-eqb _ 8 (e .if4 .left), ← c .before .copy-at .ensures)
     (c .copied .ensures))
 
@@ -76,7 +76,7 @@ pub make-copy-spec : {M : Type 1} → statement M
 make-copy-spec =
     tie.close
     (tie.spec
-    unnumbered-requires
+    lacks-copy-requires
     refused-requires
     returns
     is-retired-requires

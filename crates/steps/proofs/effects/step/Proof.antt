@@ -5,8 +5,8 @@ use borrow.Author.Needs.{needs}
 use Rattle.steps.proofs.effects.step.Statement.{statement}
 use Rattle.steps.proofs.effects.step.Tie as tie
 
-judge-any-requires : tie.Need-judge-any-requires
-judge-any-requires c κs = search needs
+decide-any-requires : tie.Need-decide-any-requires
+decide-any-requires c κs = search needs
 
 carry-requires : tie.Need-carry-requires
 carry-requires c κs = search needs
@@ -24,7 +24,7 @@ returns : tie.Need-returns
 returns c =
     let a = c .before .before .before .before .before .before .before .before .before .before .before .before .before .before .args in
     let s = stateOf (a .tables) (a .fast .now) (a .slow .now) in
-    let d = c .before .before .before .before .before .before .before .before .before .before .judge-any in
+    let d = c .before .before .before .before .before .before .before .before .before .before .decide-any in
     stepped s (a .call) (a .bytes .now) (a .out .now) (d .result)
     (carries s (a .call) (a .bytes .now) (a .out .now) (d .result) (search needs) (d .ensures))
     _ _ _ _ (c .settle .ensures) (c .before .before .before .before .before .before .carry .ensures)
@@ -39,7 +39,7 @@ returns-2 : tie.Need-returns-2
 returns-2 c =
     let a = c .before .before .before .before .before .before .before .before .before .before .before .before .before .args in
     let s = stateOf (a .tables) (a .fast .now) (a .slow .now) in
-    let d = c .before .before .before .before .before .before .before .before .before .judge-any in
+    let d = c .before .before .before .before .before .before .before .before .before .decide-any in
     stepped s (a .call) (a .bytes .now) (a .out .now) (d .result)
     (carries s (a .call) (a .bytes .now) (a .out .now) (d .result) (search needs) (d .ensures))
     _ _ _ _ (rw (c .if1 .left)) (c .before .before .before .before .before .carry .ensures)
@@ -48,7 +48,7 @@ pub step-spec : {M : Type 1} → statement M
 step-spec =
     tie.close
     (tie.spec
-    judge-any-requires
+    decide-any-requires
     carry-requires
     settle-requires
     same-length

@@ -15,18 +15,18 @@ returns c = λ call size. rw (eq-eqb _ 0 (c .before .if1 .taken)) (c .refused .e
 in-use-requires : tie.Need-in-use-requires
 in-use-requires c κs = search needs
 
-mul-accepted : tie.Need-mul-accepted
-mul-accepted c = search needs
+mul-showing : tie.Need-mul-showing
+mul-showing c = search needs
 
-add-accepted : tie.Need-add-accepted
-add-accepted c = search needs
+add-showing : tie.Need-add-showing
+add-showing c = search needs
 
-accepted-requires : tie.Need-accepted-requires
-accepted-requires c κs = search needs
+showing-requires : tie.Need-showing-requires
+showing-requires c κs = search needs
 
 returns-2 : tie.Need-returns-2
 unfolding perform
-returns-2 c = λ call size. rw (ne-eqb _ 0 (c .before .before .if1 .left), ← c .before .in-use .ensures .0) (c .accepted .ensures)
+returns-2 c = λ call size. rw (ne-eqb _ 0 (c .before .before .if1 .left), ← c .before .in-use .ensures .0) (c .showing .ensures)
 
 pub look-page-spec : {M : Type 1} → statement M
 look-page-spec =
@@ -35,7 +35,7 @@ look-page-spec =
     refused-requires
     returns
     in-use-requires
-    mul-accepted
-    add-accepted
-    accepted-requires
+    mul-showing
+    add-showing
+    showing-requires
     returns-2)

@@ -7,7 +7,7 @@ use Rattle.tables.specs.Model.{inUse}
 use Rattle.steps.specs.Stores.{splice}
 use Rattle.steps.specs.Effects.{entries}
 use Rattle.steps.proofs.StoreLaws.{splice-second}
-use Rattle.steps.proofs.CopyLaws.{entries-turn, entries-ended, length-entries}
+use Rattle.steps.proofs.CopyLaws.{entries-turn, entries-ended, length-shown}
 use borrow.Author.Needs.{needs}
 use Rattle.steps.proofs.looks.show_page.Statement.{statement}
 use Rattle.steps.proofs.looks.show_page.Tie as tie
@@ -48,7 +48,7 @@ slice-aggregate-put : tie.Need-slice-aggregate-put Inv-loop μ-loop
 slice-aggregate-put c = search needs
 
 put-requires : tie.Need-put-requires Inv-loop μ-loop
-put-requires c κs = omega (arith, ap length (c .before .before .entry .ensures) ∙ length-entries _)
+put-requires c κs = omega (arith, ap length (c .before .before .entry .ensures) ∙ length-shown _)
 
 add-j : tie.Need-add-j Inv-loop μ-loop
 add-j c = search needs

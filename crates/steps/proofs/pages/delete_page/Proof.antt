@@ -1,9 +1,20 @@
 -- `delete_page`: what the owner may do, with 64 bytes laid for each frame.
 use mathlib.Core.Path.{_≡_}
 use Rattle.steps.specs.Steps.{placed, perform}
+use Rattle.steps.proofs.GuardLaws.{guard-refused, guard-on}
 use borrow.Author.Needs.{needs}
 use Rattle.steps.proofs.pages.delete_page.Statement.{statement}
 use Rattle.steps.proofs.pages.delete_page.Tie as tie
+
+lacks-owner-requires : tie.Need-lacks-owner-requires
+lacks-owner-requires c κs = search needs
+
+refused-requires : tie.Need-refused-requires
+refused-requires c κs = search needs
+
+returns : tie.Need-returns
+unfolding perform
+returns c = λ size. guard-refused (c .before .before .lacks-owner .ensures) _ (c .before .if1 .taken) (c .refused .ensures)
 
 count-of-requires : tie.Need-count-of-requires
 count-of-requires c κs = search needs
@@ -11,18 +22,28 @@ count-of-requires c κs = search needs
 mul-laid : tie.Need-mul-laid
 mul-laid c = search needs
 
-cast-owner-step : tie.Need-cast-owner-step
-cast-owner-step c = search needs
+cast-laying : tie.Need-cast-laying
+cast-laying c = search needs
 
-owner-step-requires : tie.Need-owner-step-requires
-owner-step-requires c κs = search needs
+laying-requires : tie.Need-laying-requires
+laying-requires c κs = search needs
 
-returns : tie.Need-returns
+returns-2 : tie.Need-returns-2
 unfolding perform
-returns c = λ size.
-    let k : c .before .count-of .result ≡ placed (c .before .before .args .view .page) = c .before .count-of .ensures .0 in
-    rw (← k) (c .owner-step .ensures)
+returns-2 c = λ size.
+    let n = c .before .before in
+    let k : c .before .count-of .result ≡ placed (n .before .before .before .args .view .page) = c .before .count-of .ensures .0 in
+    guard-on (n .before .lacks-owner .ensures) _ (n .if1 .left) (rw (← k) (c .laying .ensures))
 
 pub delete-page-spec : {M : Type 1} → statement M
 delete-page-spec =
-    tie.close (tie.spec count-of-requires mul-laid cast-owner-step owner-step-requires returns)
+    tie.close
+    (tie.spec
+    lacks-owner-requires
+    refused-requires
+    returns
+    count-of-requires
+    mul-laid
+    cast-laying
+    laying-requires
+    returns-2)

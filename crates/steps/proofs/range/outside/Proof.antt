@@ -1,31 +1,22 @@
--- `steps::range::outside` meets its contract: the three tests, in that order.
+-- `outside`: 7 or 0.
+use mathlib.Core.Path.{sym, _∙_}
+use Rattle.steps.proofs.RangeLaws.{outside-any, outside-none}
 use borrow.Author.Needs.{needs}
 use Rattle.steps.proofs.range.outside.Statement.{statement}
 use Rattle.steps.proofs.range.outside.Tie as tie
 
+is-outside-requires : tie.Need-is-outside-requires
+is-outside-requires c κs = search needs
+
 returns : tie.Need-returns
-returns c = rw (c .if1 .taken)
-
-names-frame-requires : tie.Need-names-frame-requires
-names-frame-requires c κs = search needs
-
-cast-if2 : tie.Need-cast-if2
-cast-if2 c = search needs
+returns c =
+    let a = c .before .before .args in
+    sym (outside-any (a .frames) (a .size) (a .call) (sym (c .before .is-outside .ensures) ∙ c .if1 .taken))
 
 returns-2 : tie.Need-returns-2
 returns-2 c =
-    let n = c .before .before in
-    rw (n .before .if1 .left, (rw (n .names-frame .ensures) at (c .if2 .taken)))
-
-span-outside-requires : tie.Need-span-outside-requires
-span-outside-requires c κs = search needs
-
-returns-3 : tie.Need-returns-3
-returns-3 c =
-    let n = c .before .before .before in
-    rw (n .before .if1 .left, (rw (n .names-frame .ensures) at (c .before .if2 .left))) (c .span-outside .ensures)
+    let a = c .before .before .args in
+    sym (outside-none (a .frames) (a .size) (a .call) (sym (c .before .is-outside .ensures) ∙ c .if1 .left))
 
 pub outside-spec : {M : Type 1} → statement M
-outside-spec =
-    tie.close
-    (tie.spec returns names-frame-requires cast-if2 returns-2 span-outside-requires returns-3)
+outside-spec = tie.close (tie.spec is-outside-requires returns returns-2)

@@ -1,6 +1,6 @@
 -- `lay_copy`: where the copy is one of these, what `lay_frame` ensures; else nothing is laid.
 use mathlib.Core.Path.{sym, _∙_}
-use Rattle.steps.specs.Stores.{layEach}
+use Rattle.steps.specs.Private.{layEach}
 use borrow.Author.Needs.{needs}
 use Rattle.steps.proofs.stores.lay_copy.Statement.{statement}
 use Rattle.steps.proofs.stores.lay_copy.Tie as tie

@@ -5,7 +5,7 @@ use mathlib.Core.List.{_++_}
 use native.Mathlib.Omega.{arith}
 use lib.ListN.{length, drop}
 use Rattle.tables.specs.Model.{inUse}
-use Rattle.steps.specs.Stores.{layEach}
+use Rattle.steps.specs.Private.{layEach}
 use Rattle.steps.specs.Private.{chosen}
 use Rattle.steps.proofs.CopyLaws.{lay-turn, lay-ended}
 use borrow.Author.Needs.{needs}

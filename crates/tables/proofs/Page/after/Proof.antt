@@ -63,9 +63,6 @@ enum-known-edit-6 c = search needs
 marked-requires : tie.Need-marked-requires
 marked-requires c κs = search needs
 
-enum-told-4 : tie.Need-enum-told-4
-enum-told-4 c = search needs
-
 returns : tie.Need-returns
 unfolding changed
 returns c = cc
@@ -111,10 +108,6 @@ returns-10 : tie.Need-returns-10
 unfolding changed
 returns-10 c = c .marked .ensures ∙ rw (c .before .before .edit6 .given .1)
 
-returns-11 : tie.Need-returns-11
-unfolding changed
-returns-11 c = cc
-
 pub after-spec : {M : Type 1} → statement M
 after-spec =
     tie.close
@@ -137,7 +130,6 @@ after-spec =
     without-copy-requires
     enum-known-edit-6
     marked-requires
-    enum-told-4
     returns
     returns-2
     returns-3
@@ -147,5 +139,4 @@ after-spec =
     returns-7
     returns-8
     returns-9
-    returns-10
-    returns-11)
+    returns-10)

@@ -37,9 +37,6 @@ enum-known-edit c = search needs
 is-marked-requires : tie.Need-is-marked-requires
 is-marked-requires c κs = search needs
 
-enum-told-9 : tie.Need-enum-told-9
-enum-told-9 c = search needs
-
 returns : tie.Need-returns
 unfolding unchanged
 returns c = cc
@@ -76,10 +73,6 @@ returns-9 : tie.Need-returns-9
 unfolding unchanged
 returns-9 c = cc
 
-returns-10 : tie.Need-returns-10
-unfolding unchanged
-returns-10 c = cc
-
 pub keeps-spec : {M : Type 1} → statement M
 keeps-spec =
     tie.close
@@ -95,7 +88,6 @@ keeps-spec =
     enum-told-8
     enum-known-edit
     is-marked-requires
-    enum-told-9
     returns
     returns-2
     returns-3
@@ -104,5 +96,4 @@ keeps-spec =
     returns-6
     returns-7
     returns-8
-    returns-9
-    returns-10)
+    returns-9)

@@ -1,9 +1,9 @@
--- `Tables::after` marks a frame, and replaces one record and its frames' entries; numbers of no page and of no frame change nothing.
+-- `Tables::after` retires a frame, and replaces one record and its frames' entries; numbers of no page and of no frame change nothing.
 use Prim.Native.Nat.{_≤_}
 use mathlib.Core.Path.{_≡_}
 use native.Mathlib.Omega.{arith}
 use lib.Seq.{set-out}
-use lib.ListN.{length, length-map}
+use lib.ListN.{length, length-map, length-set}
 use borrow.Author.Tests.{lt-ltb, le-ltb}
 use borrow.Author.Needs.{needs}
 use Rattle.tables.specs.Changes.{after}
@@ -14,8 +14,8 @@ use Rattle.tables.proofs.Tables.after.Tie as tie
 cast-p : tie.Need-cast-p
 cast-p c = search needs
 
-mark-requires : tie.Need-mark-requires
-mark-requires c κs = search needs
+enter-requires : tie.Need-enter-requires
+enter-requires c κs = search needs
 
 mul-old : tie.Need-mul-old
 mul-old c = search needs
@@ -30,18 +30,21 @@ element-set-from-g : tie.Need-element-set-from-g
 element-set-from-g c = search needs
 
 vacate-requires : tie.Need-vacate-requires
-vacate-requires c κs = search needs
+vacate-requires c κs =
+    let t = c .before .before .before .before .before .before .before .args .t1 in
+    let l : length (t .register) ≡ 254 = search needs in
+    rw (c .before .before .before .enter .ensures, length-set) l
 
 occupy-requires : tie.Need-occupy-requires
 occupy-requires c κs =
     let t = c .before .before .before .before .before .before .before .before .before .args .t1 in
     let l : length (t .register) ≡ 254 = search needs in
-    rw (c .before .vacate .ensures, length-vacated) l
+    rw (c .before .vacate .ensures, length-vacated, c .before .before .before .before .before .enter .ensures, length-set) l
 
 returns : tie.Need-returns
 unfolding after
 returns c =
-    rw (c .occupy .ensures, c .before .before .vacate .ensures, c .before .before .before .before .before .before .mark .ensures, lt-ltb _ _ (c .before .before .before .before .before .if1 .taken))
+    rw (c .occupy .ensures, c .before .before .vacate .ensures, c .before .before .before .before .before .before .enter .ensures, lt-ltb _ _ (c .before .before .before .before .before .if1 .taken))
 
 returns-2 : tie.Need-returns-2
 unfolding after
@@ -49,14 +52,14 @@ returns-2 c =
     let t = c .before .before .before .before .before .args .t1 in
     let l : length (t .pages) ≡ 64 = simp length-map at (c .before .before .before .before .before .good .0 .1 .1 .1 .0 .1 .0 .1) in
     let h : length (t .pages) ≤ c .before .before .before .before .before .args .change .page = omega arith in
-    rw (set-out (t .pages) (c .before .before .before .before .before .args .change .page) _, c .before .mark .ensures, le-ltb _ _ (c .if1 .left))
+    rw (set-out (t .pages) (c .before .before .before .before .before .args .change .page) _, c .before .enter .ensures, le-ltb _ _ (c .if1 .left))
 
 pub after-spec : {M : Type 1} → statement M
 after-spec =
     tie.close
     (tie.spec
     cast-p
-    mark-requires
+    enter-requires
     mul-old
     element-copy-out-old
     mul-g

@@ -14,7 +14,7 @@ search-requires : tie.Need-search-requires
 search-requires c κs = search needs
 
 returns-2 : tie.Need-returns-2
-returns-2 c = told-free _ _ (rw (← c .before .before .retired-at .ensures, c .before .if1 .left) (c .search .ensures))
+returns-2 c = told-free _ _ (rw (← c .before .before .retired-at .ensures, c .before .if1 .left) (c .search .ensures .case))
 
 pub holder-spec : {M : Type 1} → statement M
 holder-spec = tie.close (tie.spec retired-at-requires returns search-requires returns-2)

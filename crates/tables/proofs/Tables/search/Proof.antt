@@ -5,9 +5,10 @@ use native.Mathlib.Omega.{arith}
 use lib.ListN.{length, length-map, drop}
 use borrow.Author.Tests.{eq-eqb, ne-eqb}
 use borrow.Author.Needs.{needs}
-use Rattle.tables.specs.Model.{pageAt, inUse, noPageRecord}
+use Rattle.tables.specs.Model.{pageAt, inUse, zeroPage}
 use Rattle.tables.proofs.Loops.{drop-more, drop-end, use-more}
 use Rattle.tables.specs.Search.{searched, inCopies, inPages}
+use Rattle.tables.proofs.HolderLaws.{tells-it}
 use Rattle.tables.proofs.Tables.search.Statement.{statement}
 use Rattle.tables.proofs.Tables.search.Tie as tie
 
@@ -45,7 +46,7 @@ loop-holds c =
       c .in-use .ensures .0,
       c .in-use .ensures .1,
       search needs,
-      c .before .before .before .pages .inv .1 ∙ rw (drop-more (t .pages) i noPageRecord (omega arith)),
+      c .before .before .before .pages .inv .1 ∙ rw (drop-more (t .pages) i zeroPage (omega arith)),
     )
 
 mul-if2 : tie.Need-mul-if2 Inv-loop μ-loop Inv-pages μ-pages
@@ -99,7 +100,7 @@ unfolding inPages
 returns c =
     let t = c .before .before .args .t1 in
     let l : length (t .pages) ≡ 64 = simp length-map at (c .before .before .good .0 .1 .1 .1 .0 .1 .0 .1) in
-    sym (c .before .pages .inv .1 ∙ rw (drop-end (t .pages) (c .before .pages .i) (omega arith)))
+    tells-it (sym (c .before .pages .inv .1 ∙ rw (drop-end (t .pages) (c .before .pages .i) (omega arith))))
 
 returns-2 : tie.Need-returns-2 Inv-loop μ-loop Inv-pages μ-pages
 unfolding inCopies
@@ -109,7 +110,7 @@ returns-2 c =
     let j = c .before .before .loop .j in
     let g = pageAt t i in
     let v = c .before .before .loop .inv in
-    sym (v .4 ∙ rw (use-more g j (omega arith), eq-eqb _ _ (c .if2 .taken)))
+    tells-it (sym (v .4 ∙ rw (use-more g j (omega arith), eq-eqb _ _ (c .if2 .taken))))
 
 pub search-spec : {M : Type 1} → statement M
 search-spec =

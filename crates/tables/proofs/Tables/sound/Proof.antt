@@ -7,11 +7,11 @@ use native.Mathlib.Omega.{arith}
 use lib.ListN.{length, length-map, drop}
 use borrow.Author.Tests.{not-true, not-false, eq-eqb, le-leb, lt-leb}
 use borrow.Author.Needs.{needs}
-use Rattle.tables.specs.Model.{noPageRecord}
-use Rattle.tables.specs.Rules.{sound}
+use Rattle.tables.specs.Model.{zeroPage}
+use Rattle.tables.specs.Rules.{holders, alone, sizesRule, pagesRule, sound}
 use Rattle.tables.specs.PrivatePass.{scanPages, framesOfAll}
 use Rattle.tables.proofs.Loops.{drop-more, drop-end}
-use Rattle.tables.proofs.ScanLaws.{scan-rules-marked}
+use Rattle.tables.proofs.ScanLaws.{scan-rules}
 use Rattle.tables.proofs.Tables.sound.Statement.{statement}
 use Rattle.tables.proofs.Tables.sound.Tie as tie
 
@@ -25,11 +25,11 @@ abbrev μ-loop : tie.MeasureT-loop
 μ-loop self fast slow limit held₀ i₀ held i = 64 - i
 
 returns : tie.Need-returns Inv-loop μ-loop
-unfolding sound
+unfolding sound sizesRule
 returns c = sym (rw (lt-leb _ _ (c .if1 .taken)))
 
 returns-2 : tie.Need-returns-2 Inv-loop μ-loop
-unfolding sound
+unfolding sound sizesRule
 returns-2 c = sym (rw (le-leb _ _ (c .before .if1 .left), lt-leb _ _ (c .if2 .taken)))
 
 add-limit : tie.Need-add-limit Inv-loop μ-loop
@@ -51,18 +51,17 @@ page-ok-requires : tie.Need-page-ok-requires Inv-loop μ-loop
 page-ok-requires c κs = search needs
 
 returns-3 : tie.Need-returns-3 Inv-loop μ-loop
-unfolding sound scanPages
+unfolding sound sizesRule pagesRule alone holders scanPages
 returns-3 c =
     let t = c .before .before .before .before .before .before .before .before .before .args .t1 in
     let l : length (t .pages) ≡ 64 = simp length-map at (c .before .before .before .before .before .before .before .before .before .good .0 .1 .1 .1 .0 .1 .0 .1) in
     let r : length (t .register) ≡ 254 = search needs in
-    let m : length (t .retired) ≡ 254 = search needs in
     let v = c .before .before .before .before .before .before .loop in
     let e = sym (c .before .page-ok .ensures) ∙ not-true _ (c .if3 .taken) in
-    let z : scanPages (t .shared .p + t .shared .s) (t .register) 0 (t .pages) ≡ false = v .inv .4 ∙ rw (drop-more (t .pages) (v .i) noPageRecord (omega arith), e) in
+    let z : scanPages (t .shared .p + t .shared .s) (t .register) 0 (t .pages) ≡ false = v .inv .4 ∙ rw (drop-more (t .pages) (v .i) zeroPage (omega arith), e) in
     sym
     (rw (le-leb _ _ (c .before .before .before .before .before .before .before .before .if1 .left), le-leb _ _ (c .before .before .before .before .before .before .before .if2 .left), eq-eqb _ _ l)
-    (sym (scan-rules-marked (t .shared .p + t .shared .s) (v .inv .2) (t .pages) (t .register) l r (t .retired) m) ∙ rw z))
+    (sym (scan-rules (t .shared .p + t .shared .s) (v .inv .2) (t .pages) (t .register) l r) ∙ rw z))
 
 frames-of-requires : tie.Need-frames-of-requires Inv-loop μ-loop
 frames-of-requires c κs = search needs
@@ -82,7 +81,7 @@ loop-again c =
     let t = c .before .before .before .before .before .before .before .before .before .before .args .t1 in
     let l : length (t .pages) ≡ 64 = simp length-map at (c .before .before .before .before .before .before .before .before .before .before .good .0 .1 .1 .1 .0 .1 .0 .1) in
     let v = c .before .before .before .before .before .before .before .loop in
-    let m = drop-more (t .pages) (v .i) noPageRecord (omega arith) in
+    let m = drop-more (t .pages) (v .i) zeroPage (omega arith) in
     let e = sym (c .before .before .page-ok .ensures) ∙ not-false _ (c .before .if3 .left) in (
       search needs,
       v .inv .1,
@@ -92,24 +91,23 @@ loop-again c =
       v .inv .5 ∙ rw (m, c .frames-of .ensures .0) (sym (add-assoc _ _ _)),
     )
 
-frames-ok-requires : tie.Need-frames-ok-requires Inv-loop μ-loop
-frames-ok-requires c κs = search needs
+others-ok-requires : tie.Need-others-ok-requires Inv-loop μ-loop
+others-ok-requires c κs = search needs
 
 returns-4 : tie.Need-returns-4 Inv-loop μ-loop
-unfolding sound scanPages framesOfAll
+unfolding sound sizesRule pagesRule alone holders scanPages framesOfAll
 returns-4 c =
-    let t = c .before .before .before .before .before .before .before .before .before .args .t1 in
-    let l : length (t .pages) ≡ 64 = simp length-map at (c .before .before .before .before .before .before .before .before .before .good .0 .1 .1 .1 .0 .1 .0 .1) in
+    let t = c .before .before .before .before .before .before .before .args .t1 in
+    let l : length (t .pages) ≡ 64 = simp length-map at (c .before .before .before .before .before .before .before .good .0 .1 .1 .1 .0 .1 .0 .1) in
     let r : length (t .register) ≡ 254 = search needs in
-    let m : length (t .retired) ≡ 254 = search needs in
-    let v = c .before .before .before .before .before .before .loop in
+    let v = c .before .before .before .before .loop in
     let end = drop-end (t .pages) (v .i) (omega arith) in
     let z : scanPages (t .shared .p + t .shared .s) (t .register) 0 (t .pages) ≡ true = v .inv .4 ∙ rw end in
     let h : framesOfAll (t .pages) ≡ v .held = v .inv .5 ∙ rw end (add-zero _) in
-    c .frames-ok .ensures
+    c .others-ok .ensures
     ∙ sym
-    (rw (le-leb _ _ (c .before .before .before .before .before .before .before .before .if1 .left), le-leb _ _ (c .before .before .before .before .before .before .before .if2 .left), eq-eqb _ _ l)
-    (sym (scan-rules-marked (t .shared .p + t .shared .s) (v .inv .2) (t .pages) (t .register) l r (t .retired) m) ∙ rw (z, h)))
+    (rw (le-leb _ _ (c .before .before .before .before .before .before .if1 .left), le-leb _ _ (c .before .before .before .before .before .if2 .left), eq-eqb _ _ l)
+    (sym (scan-rules (t .shared .p + t .shared .s) (v .inv .2) (t .pages) (t .register) l r) ∙ rw (z, h)))
 
 pub sound-spec : {M : Type 1} → statement M
 sound-spec =
@@ -131,5 +129,5 @@ sound-spec =
     add-i
     loop-less
     loop-again
-    frames-ok-requires
+    others-ok-requires
     returns-4)

@@ -7,7 +7,7 @@ use lib.ListN.{length, drop}
 use borrow.Author.Needs.{needs}
 use Rattle.tables.proofs.Loops.{drop-more, drop-end}
 use Rattle.tables.specs.Keep.{staysRecent}
-use Rattle.tables.specs.Model.{noCopyEntry}
+use Rattle.tables.specs.Model.{zeroCopy}
 use Rattle.tables.specs.Lists.{all}
 use Rattle.tables.proofs.record.all_stay_recent.Statement.{statement}
 use Rattle.tables.proofs.record.all_stay_recent.Tie as tie
@@ -39,7 +39,7 @@ loop-again c =
     let copies = c .before .before .before .before .before .args .t1 in
     let j = c .before .before .before .before .loop .j in
     let n : length copies ≡ 8 = search needs in
-    (search needs, c .before .before .before .before .loop .inv .1 ∙ rw (drop-more copies j noCopyEntry (omega arith)) (sym (and-assoc (c .before .before .before .before .loop .ok) _ _)))
+    (search needs, c .before .before .before .before .loop .inv .1 ∙ rw (drop-more copies j zeroCopy (omega arith)) (sym (and-assoc (c .before .before .before .before .loop .ok) _ _)))
 
 returns : tie.Need-returns Inv-loop μ-loop
 unfolding all

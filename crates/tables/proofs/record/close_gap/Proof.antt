@@ -8,7 +8,7 @@ use borrow.Author.Needs.{needs}
 use Rattle.tables.proofs.GapLaws.{gap-length, gap-before, gap-after, gap-last, gap-out}
 use Rattle.tables.proofs.Filling.{filled, fill-start, fill-more, fill-rest, fill-end}
 use Rattle.tables.specs.Changes.{closeGap}
-use Rattle.tables.specs.Model.{noCopyEntry}
+use Rattle.tables.specs.Model.{zeroCopy}
 use Rattle.tables.proofs.record.close_gap.Statement.{statement}
 use Rattle.tables.proofs.record.close_gap.Tie as tie
 
@@ -64,9 +64,9 @@ loop-again c =
     let m : length (closeGap (a .copies) (a .k)) ≡ length (a .copies) = gap-length _ _ in (
       search needs,
       search needs,
-      rw (i .2, fill-rest (closeGap (a .copies) (a .k)) (a .copies) j (j + 1) noCopyEntry (omega arith) (omega arith))
-          (fill-more _ _ _ noCopyEntry _ m (omega arith)
-          (gap-after (a .copies) (a .k) j noCopyEntry (i .0) (omega arith) ∙ rw add-one)),
+      rw (i .2, fill-rest (closeGap (a .copies) (a .k)) (a .copies) j (j + 1) zeroCopy (omega arith) (omega arith))
+          (fill-more _ _ _ zeroCopy _ m (omega arith)
+          (gap-after (a .copies) (a .k) j zeroCopy (i .0) (omega arith) ∙ rw add-one)),
     )
 
 fresh-copy-requires : tie.Need-fresh-copy-requires Inv-loop μ-loop
@@ -83,8 +83,8 @@ returns-2 c =
     let m : length (closeGap (a .copies) (a .k)) ≡ length (a .copies) = gap-length _ _ in
     let e : c .before .before .loop .j ≡ 7 = omega arith in
     rw (i .2, e)
-    (fill-more _ _ 7 noCopyEntry _ m (omega arith)
-    (gap-last (a .copies) (a .k) 7 noCopyEntry (omega arith) (omega arith) ∙ sym (c .fresh-copy .ensures))
+    (fill-more _ _ 7 zeroCopy _ m (omega arith)
+    (gap-last (a .copies) (a .k) 7 zeroCopy (omega arith) (omega arith) ∙ sym (c .fresh-copy .ensures))
     ∙ fill-end _ _ 8 (m ∙ n) n)
 
 pub close-gap-spec : {M : Type 1} → statement M

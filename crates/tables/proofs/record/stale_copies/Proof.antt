@@ -7,7 +7,7 @@ use lib.ListN.{List·getD-map, length, length-map}
 use borrow.Author.Needs.{needs}
 use Rattle.tables.proofs.Filling.{filled, fill-more, fill-rest, fill-end}
 use Rattle.tables.specs.Changes.{staleCopy}
-use Rattle.tables.specs.Model.{noCopyEntry}
+use Rattle.tables.specs.Model.{zeroCopy}
 use Rattle.tables.proofs.record.stale_copies.Statement.{statement}
 use Rattle.tables.proofs.record.stale_copies.Tie as tie
 
@@ -46,8 +46,8 @@ loop-again c =
     let n : length cs ≡ 8 = search needs in
     let m : length (map staleCopy cs) ≡ 8 = length-map cs staleCopy ∙ n in (
       search needs,
-      rw (c .before .before .before .loop .inv .1, fill-rest (map staleCopy cs) cs j j noCopyEntry (omega arith) (omega arith))
-          (fill-more _ _ _ noCopyEntry _ (length-map cs staleCopy) (omega arith) (List·getD-map staleCopy cs j noCopyEntry)),
+      rw (c .before .before .before .loop .inv .1, fill-rest (map staleCopy cs) cs j j zeroCopy (omega arith) (omega arith))
+          (fill-more _ _ _ zeroCopy _ (length-map cs staleCopy) (omega arith) (List·getD-map staleCopy cs j zeroCopy)),
     )
 
 returns : tie.Need-returns Inv-loop μ-loop

@@ -6,7 +6,7 @@ use native.Mathlib.Omega.{arith}
 use lib.ListN.{length, getD, take, drop}
 use borrow.Author.Tests.{not-true, not-false}
 use borrow.Author.Needs.{needs}
-use Rattle.tables.specs.Model.{noCopyEntry}
+use Rattle.tables.specs.Model.{zeroCopy}
 use Rattle.tables.specs.Rules.{copyRule}
 use Rattle.tables.specs.Register.{entry}
 use Rattle.tables.specs.PrivatePass.{names, scanCopies}
@@ -38,8 +38,8 @@ returns c =
     let a = c .before .before .before .before .before .args in
     let v = c .before .before .before .before .loop in
     let m : length (a .t3) ≡ 8 = search needs in
-    let e : copyRule (a .limit) (a .n) (getD (a .t3) (v .j) noCopyEntry) ≡ false = sym (c .before .copy-ok .ensures) ∙ not-true _ (c .if1 .taken) in
-    sym (v .inv .2 ∙ rw (first-more (a .n) (a .t3) (v .j) noCopyEntry (omega arith) (omega arith), e))
+    let e : copyRule (a .limit) (a .n) (getD (a .t3) (v .j) zeroCopy) ≡ false = sym (c .before .copy-ok .ensures) ∙ not-true _ (c .if1 .taken) in
+    sym (v .inv .2 ∙ rw (first-more (a .n) (a .t3) (v .j) zeroCopy (omega arith) (omega arith), e))
 
 cast-entry : tie.Need-cast-entry Inv-loop μ-loop
 cast-entry c = search needs
@@ -55,12 +55,12 @@ unfolding scanCopies
 returns-2 c =
     let a = c .before .before .before .before .before .before .before .before .args in
     let v = c .before .before .before .before .before .before .before .loop in
-    let d = getD (a .t3) (v .j) noCopyEntry in
+    let d = getD (a .t3) (v .j) zeroCopy in
     let m : length (a .t3) ≡ 8 = search needs in
     let e : copyRule (a .limit) (a .n) d ≡ true = sym (c .before .before .before .before .copy-ok .ensures) ∙ not-false _ (c .before .before .before .if1 .left) in
     let u : names (a .register .now) (d .frame) (entry (a .p) (v .j)) ≡ false =
     rw (c .before .before .entry .ensures) at (sym (c .before .names .ensures) ∙ not-true _ (c .if2 .taken)) in
-    sym (v .inv .2 ∙ rw (first-more (a .n) (a .t3) (v .j) noCopyEntry (omega arith) (omega arith), e, u))
+    sym (v .inv .2 ∙ rw (first-more (a .n) (a .t3) (v .j) zeroCopy (omega arith) (omega arith), e, u))
 
 add-j : tie.Need-add-j Inv-loop μ-loop
 add-j c = search needs
@@ -73,12 +73,12 @@ unfolding scanCopies
 loop-again c =
     let a = c .before .before .before .before .before .before .before .before .before .args in
     let v = c .before .before .before .before .before .before .before .before .loop in
-    let d = getD (a .t3) (v .j) noCopyEntry in
+    let d = getD (a .t3) (v .j) zeroCopy in
     let m : length (a .t3) ≡ 8 = search needs in
     let e : copyRule (a .limit) (a .n) d ≡ true = sym (c .before .before .before .before .before .copy-ok .ensures) ∙ not-false _ (c .before .before .before .before .if1 .left) in
     let u : names (a .register .now) (d .frame) (entry (a .p) (v .j)) ≡ true =
     rw (c .before .before .before .entry .ensures) at (sym (c .before .before .names .ensures) ∙ not-false _ (c .before .if2 .left)) in
-    (search needs, refl, v .inv .2 ∙ rw (first-more (a .n) (a .t3) (v .j) noCopyEntry (omega arith) (omega arith), e, u))
+    (search needs, refl, v .inv .2 ∙ rw (first-more (a .n) (a .t3) (v .j) zeroCopy (omega arith) (omega arith), e, u))
 
 returns-3 : tie.Need-returns-3 Inv-loop μ-loop
 unfolding scanCopies

@@ -4,7 +4,7 @@ use native.Mathlib.Omega.{arith}
 use lib.ListN.{length}
 use borrow.Author.Tests.{lt-ltb, le-ltb}
 use borrow.Author.Needs.{needs}
-use Rattle.tables.specs.Model.{noHolder}
+use Rattle.tables.specs.Model.{freeEntry}
 use Rattle.tables.proofs.ListLaws.{any-default}
 use Rattle.tables.proofs.rules.names.Statement.{statement}
 use Rattle.tables.proofs.rules.names.Tie as tie
@@ -19,7 +19,7 @@ returns : tie.Need-returns
 returns c =
     let a = c .before .before .args in
     let n : length (a .register .now) ≡ 254 = c .before .before .pre in
-    sym (rw (lt-ltb _ _ (c .before .if1 .taken), any-default (a .register .now) (a .frame) noHolder 0 (omega arith)))
+    sym (rw (lt-ltb _ _ (c .before .if1 .taken), any-default (a .register .now) (a .frame) freeEntry 0 (omega arith)))
 
 returns-2 : tie.Need-returns-2
 returns-2 c = sym (rw (le-ltb _ _ (c .if1 .left)))

@@ -7,7 +7,7 @@ use borrow.Author.Tests.{eq-eqb, ne-eqb}
 use borrow.Author.Needs.{needs}
 use Rattle.tables.specs.Model.{inUse}
 use Rattle.tables.specs.Rules.{absentRule, pageRule}
-use Rattle.tables.specs.PrivatePass.{namesAll}
+use Rattle.tables.specs.PrivatePass.{entriesAre}
 use Rattle.tables.proofs.ListLaws.{and-true}
 use Rattle.tables.proofs.rules.page_ok.Statement.{statement}
 use Rattle.tables.proofs.rules.page_ok.Tie as tie
@@ -16,14 +16,14 @@ absent-ok-requires : tie.Need-absent-ok-requires
 absent-ok-requires c κs = search needs
 
 returns : tie.Need-returns
-unfolding pageRule namesAll
+unfolding pageRule entriesAre
 returns c =
     let a = c .before .before .before .args in
     let g = a .g in
     let l : length (g .rights) ≡ 16 = search needs in
     let m : length (g .copies) ≡ 8 = simp length-map at (c .before .before .before .good .1 .1 .0 .1 .1 .1 .0 .1 .0 .1) in
-    let z : namesAll (a .register .now) (a .p) 0 (inUse g) ≡ true =
-    ap (λ (n : ℕ). namesAll (a .register .now) (a .p) 0 (take n (g .copies))) (c .before .if1 .taken) in
+    let z : entriesAre (a .register .now) (a .p) 0 (inUse g) ≡ true =
+    ap (λ (n : ℕ). entriesAre (a .register .now) (a .p) 0 (take n (g .copies))) (c .before .if1 .taken) in
     sym (rw (eq-eqb _ _ l, eq-eqb _ _ m, eq-eqb _ _ (c .before .if1 .taken), z, and-true (absentRule g)) (sym (c .absent-ok .ensures)))
 
 standing-ok-requires : tie.Need-standing-ok-requires

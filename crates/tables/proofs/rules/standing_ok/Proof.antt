@@ -8,7 +8,7 @@ use borrow.Author.Needs.{needs}
 use Rattle.tables.specs.Lists.{all, count}
 use Rattle.tables.specs.Model.{inUse}
 use Rattle.tables.specs.Rules.{isFresh, isRecent, copyRule, standingRule}
-use Rattle.tables.specs.PrivatePass.{namesAll}
+use Rattle.tables.specs.PrivatePass.{entriesAre}
 use Rattle.tables.proofs.PassLaws.{scan-copies, scan-fails, scan-passes}
 use Rattle.tables.proofs.rules.standing_ok.Statement.{statement}
 use Rattle.tables.proofs.rules.standing_ok.Tie as tie
@@ -45,7 +45,7 @@ returns-4 c =
     sym (scan-copies (a .limit) (g .n) (a .register .now) (a .p) 0 false (inUse g)) ∙ sym (c .before .copies-ok .ensures) ∙ not-true _ (c .if4 .taken) in
     sym
     (rw (le-leb _ _ (c .before .before .before .before .before .if1 .left), r, le-leb _ _ (c .before .before .if3 .left))
-    (scan-fails (all (copyRule (a .limit) (g .n)) (inUse g)) (namesAll (a .register .now) (a .p) 0 (inUse g)) (leb 1 (count isRecent (inUse g))) (all isFresh (drop (g .n) (g .copies))) k))
+    (scan-fails (all (copyRule (a .limit) (g .n)) (inUse g)) (entriesAre (a .register .now) (a .p) 0 (inUse g)) (leb 1 (count isRecent (inUse g))) (all isFresh (drop (g .n) (g .copies))) k))
 
 cast-unused-ok : tie.Need-cast-unused-ok
 cast-unused-ok c = search needs
@@ -64,7 +64,7 @@ returns-5 c =
     c .unused-ok .ensures
     ∙ sym
     (rw (le-leb _ _ (c .before .before .before .before .before .before .if1 .left), r, le-leb _ _ (c .before .before .before .if3 .left))
-    (scan-passes (all (copyRule (a .limit) (g .n)) (inUse g)) (namesAll (a .register .now) (a .p) 0 (inUse g)) (leb 1 (count isRecent (inUse g))) (all isFresh (drop (g .n) (g .copies))) k))
+    (scan-passes (all (copyRule (a .limit) (g .n)) (inUse g)) (entriesAre (a .register .now) (a .p) 0 (inUse g)) (leb 1 (count isRecent (inUse g))) (all isFresh (drop (g .n) (g .copies))) k))
 
 pub standing-ok-spec : {M : Type 1} → statement M
 standing-ok-spec =

@@ -8,7 +8,7 @@ use borrow.Author.Tests.{not-true, not-false}
 use borrow.Author.Needs.{needs}
 use Rattle.tables.proofs.Loops.{drop-more, drop-end}
 use Rattle.tables.specs.Rules.{isFresh}
-use Rattle.tables.specs.Model.{noCopyEntry}
+use Rattle.tables.specs.Model.{zeroCopy}
 use Rattle.tables.specs.Lists.{all}
 use Rattle.tables.proofs.rules.unused_ok.Statement.{statement}
 use Rattle.tables.proofs.rules.unused_ok.Tie as tie
@@ -37,8 +37,8 @@ returns c =
     let copies = c .before .before .before .before .before .args .t1 in
     let j = c .before .before .before .before .loop .j in
     let n : length copies ≡ 8 = search needs in
-    let e : isFresh (getD copies j noCopyEntry) ≡ false = sym (c .before .is-fresh .ensures) ∙ not-true _ (c .if1 .taken) in
-    sym (c .before .before .before .before .loop .inv ∙ rw (drop-more copies j noCopyEntry (omega arith), e))
+    let e : isFresh (getD copies j zeroCopy) ≡ false = sym (c .before .is-fresh .ensures) ∙ not-true _ (c .if1 .taken) in
+    sym (c .before .before .before .before .loop .inv ∙ rw (drop-more copies j zeroCopy (omega arith), e))
 
 add-j : tie.Need-add-j Inv-loop μ-loop
 add-j c = search needs
@@ -52,8 +52,8 @@ loop-again c =
     let copies = c .before .before .before .before .before .args .t1 in
     let j = c .before .before .before .before .loop .j in
     let n : length copies ≡ 8 = search needs in
-    let e : isFresh (getD copies j noCopyEntry) ≡ true = sym (c .before .is-fresh .ensures) ∙ not-false _ (c .if1 .left) in
-    c .before .before .before .before .loop .inv ∙ rw (drop-more copies j noCopyEntry (omega arith), e)
+    let e : isFresh (getD copies j zeroCopy) ≡ true = sym (c .before .is-fresh .ensures) ∙ not-false _ (c .if1 .left) in
+    c .before .before .before .before .loop .inv ∙ rw (drop-more copies j zeroCopy (omega arith), e)
 
 returns-2 : tie.Need-returns-2 Inv-loop μ-loop
 unfolding all

@@ -1,0 +1,5 @@
+pub mod Between
+pub mod Kept
+pub mod Calls
+pub mod Lent
+pub mod Witness

@@ -1,0 +1,16 @@
+-- `editing`: the one decide-on, with no work.
+use borrow.Author.Needs.{needs}
+use Rattle.steps.proofs.decisions.editing.Statement.{statement}
+use Rattle.steps.proofs.decisions.editing.Tie as tie
+
+no-work-requires : tie.Need-no-work-requires
+no-work-requires c κs = search needs
+
+verdict-of-requires : tie.Need-verdict-of-requires
+verdict-of-requires c κs = search needs
+
+returns : tie.Need-returns
+returns c = rw (← c .before .no-work .ensures) (c .verdict-of .ensures)
+
+pub editing-spec : {M : Type 1} → statement M
+editing-spec = tie.close (tie.spec no-work-requires verdict-of-requires returns)

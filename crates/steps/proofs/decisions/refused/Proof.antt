@@ -1,0 +1,16 @@
+-- `refused`: the one decide-on, with no work.
+use borrow.Author.Needs.{needs}
+use Rattle.steps.proofs.decisions.refused.Statement.{statement}
+use Rattle.steps.proofs.decisions.refused.Tie as tie
+
+no-work-requires : tie.Need-no-work-requires
+no-work-requires c κs = search needs
+
+verdict-of-requires : tie.Need-verdict-of-requires
+verdict-of-requires c κs = search needs
+
+returns : tie.Need-returns
+returns c = rw (← c .before .no-work .ensures) (c .verdict-of .ensures)
+
+pub refused-spec : {M : Type 1} → statement M
+refused-spec = tie.close (tie.spec no-work-requires verdict-of-requires returns)
