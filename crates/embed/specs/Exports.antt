@@ -138,7 +138,8 @@ pub record RepliesLent (w : Part) (b : List ℕ) (l : Lent) (n : List ℕ) (b′
       l′ ≡ lent (w .final .fast) (w .final .slow) (over (joinedReplies (length (l .out)) (w .turns)) (l .out))
   pub tally-out : n′ ≡ withTally n (tally (w .turns) (tallyOf n))
 
--- ---- the contracts of the three functions that change a unit, each as one definition, which the theorems of callers cite too
+-- ---- the contracts of the three functions that change a unit, each as one definition, which the theorems of callers
+-- cite too
 
 -- what a caller keeps from one call to the next: the bytes of the tables, and both stores
 pub record Kept : Type 0 where
@@ -156,7 +157,8 @@ stateIn k = lentState (k .tables) (k .fast) (k .slow)
 -- `reel_answer` on k, with a message and a buffer: what it leaves of k and of the buffer, and the number that it gives
 abbrev pub AnswerPromised : Kept → List ℕ → List ℕ → Kept → List ℕ → ℕ → Type 0
 AnswerPromised k message out k′ out′ r =
-    AnswerLent (stateIn k) (answer (length out) (stateIn k) (sentAlone message)) (k .tables) (lent (k .fast) (k .slow) out)
+    AnswerLent (stateIn k) (answer (length out) (stateIn k) (sentAlone message)) (k .tables)
+    (lent (k .fast) (k .slow) out)
     (k′ .tables) (lent (k′ .fast) (k′ .slow) out′) r
 
 -- `reel_run` on k, with a file, a buffer and a tally: what it leaves of k, of the buffer and of the tally

@@ -142,6 +142,7 @@ servedAll keep room end v (x ∷ xs) =
     (servedAll keep room end (servedOne keep room v (passed end (v .at) x) (answer room (v .state) x)) xs)
 
 -- what `serve` leaves, from v on
-pub record ServeEnded (keep : Bool) (file : List ℕ) (v : Serving) (s′ : State) (out′ : List ℕ) (r : Filled) : Type 0 where
+pub record ServeEnded (keep : Bool) (file : List ℕ) (v : Serving) (s′ : State) (out′ : List ℕ)
+    (r : Filled) : Type 0 where
   pub all : serving (r .at) (r .used) s′ out′ (r .tally) (r .moved)
       ≡ servedAll keep (length (v .buffer)) (length file) v (messagesOf (drop (v .at) file))

@@ -34,7 +34,8 @@ sentAlone l = sentBy l (nextAt l 0)
 
 -- What `answer` leaves of a message on state s that comes to o: the state s′, and the reply at the front of the buffer.
 -- Where the tables did not move they are the same (`unmoved`), and whoever holds them elsewhere need not put them back.
-pub record Replied (s : State) (o : Outcome Result) (out : List ℕ) (s′ : State) (out′ : List ℕ) (r : Answered) : Type 0 where
+pub record Replied (s : State) (o : Outcome Result) (out : List ℕ) (s′ : State) (out′ : List ℕ)
+    (r : Answered) : Type 0 where
   pub number-told : r .number ≡ numberOf o
   pub len-told : r .len ≡ length (replyIn (length out) o)
   pub laid-told : r .laid ≡ laidBy o
@@ -43,7 +44,8 @@ pub record Replied (s : State) (o : Outcome Result) (out : List ℕ) (s′ : Sta
   pub moved-told : r .moved ≡ movedBy o
 
 -- what `run` leaves of a run w from state s, with a tally n and a reply buffer: the state s′, the buffer and the tally
-pub record RunEnded (s : State) (w : Run) (n : Tally) (out : List ℕ) (s′ : State) (out′ : List ℕ) (r : Ran) : Type 0 where
+pub record RunEnded (s : State) (w : Run) (n : Tally) (out : List ℕ) (s′ : State) (out′ : List ℕ)
+    (r : Ran) : Type 0 where
   pub state-out : s′ ≡ w .final
   pub buffer-out : out′ ≡ buffer (length out) (w .turns) out
   pub tally-out : r .tally ≡ tally (w .turns) n
@@ -51,7 +53,8 @@ pub record RunEnded (s : State) (w : Run) (n : Tally) (out : List ℕ) (s′ : S
 
 -- what `fill` leaves of a part w of a run from state s, with a tally n and a reply buffer: the place reached, the bytes
 -- used, the state s′, the replies at the front of the buffer, one behind the other, and the tally
-pub record PartEnded (s : State) (w : Part) (n : Tally) (out : List ℕ) (s′ : State) (out′ : List ℕ) (r : Filled) : Type 0 where
+pub record PartEnded (s : State) (w : Part) (n : Tally) (out : List ℕ) (s′ : State) (out′ : List ℕ)
+    (r : Filled) : Type 0 where
   pub place-told : r .at ≡ w .place
   pub used-told : r .used ≡ length (joinedReplies (length out) (w .turns))
   pub state-out : s′ ≡ w .final
@@ -59,7 +62,8 @@ pub record PartEnded (s : State) (w : Part) (n : Tally) (out : List ℕ) (s′ :
   pub tally-out : r .tally ≡ tally (w .turns) n
   pub moved-told : r .moved ≡ movedIn (w .turns)
 
--- ---- parts of a run, one after the other: "One reply buffer serves the whole run and is emptied by the caller between turns"
+-- ---- parts of a run, one after the other: "One reply buffer serves the whole run and is emptied by the caller between
+-- turns"
 
 -- a call of `fill`: the buffer that was lent, what it gave, and the stores and the buffer that it left
 pub record FillCall : Type 0 where

@@ -89,7 +89,8 @@ pub fn answer(
     out: &mut [u8],
 ) -> Answered
     ensures { λ r. ⌜ Replied (stateOf tables (now (fast .entry)) (now (slow .entry)))
-        (answer (length (now (out .entry))) (stateOf tables (now (fast .entry)) (now (slow .entry))) (sentAlone (now (message .entry))))
+        (answer (length (now (out .entry))) (stateOf tables (now (fast .entry)) (now (slow .entry)))
+        (sentAlone (now (message .entry))))
         (now (out .entry)) (stateOf (r .tables) (now (fast .exit)) (now (slow .exit))) (now (out .exit)) r ⌝ }
 {
     let next = message_at(message, 0);
@@ -243,7 +244,8 @@ pub fn run(
     tally: Tally,
 ) -> Ran
     ensures { λ r. ⌜ RunEnded (stateOf tables (now (fast .entry)) (now (slow .entry)))
-        (run (length (now (out .entry))) (now (file .entry)) (stateOf tables (now (fast .entry)) (now (slow .entry)))) tally
+        (run (length (now (out .entry))) (now (file .entry)) (stateOf tables (now (fast .entry)) (now (slow .entry))))
+        tally
         (now (out .entry)) (stateOf (r .tables) (now (fast .exit)) (now (slow .exit))) (now (out .exit)) r ⌝ }
 {
     let done = serve(tables, fast, slow, file, 0, out, tally, false);
@@ -269,7 +271,8 @@ pub fn fill(
     tally: Tally,
 ) -> Filled
     ensures { λ r. ⌜ PartEnded (stateOf tables (now (fast .entry)) (now (slow .entry)))
-        (partFrom (length (now (out .entry))) (now (file .entry)) at (stateOf tables (now (fast .entry)) (now (slow .entry)))) tally
+        (partFrom (length (now (out .entry))) (now (file .entry)) at
+        (stateOf tables (now (fast .entry)) (now (slow .entry)))) tally
         (now (out .entry)) (stateOf (r .tables) (now (fast .exit)) (now (slow .exit))) (now (out .exit)) r ⌝ }
 {
     serve(tables, fast, slow, file, at, out, tally, true)

@@ -25,7 +25,8 @@ pub record Lengths (least most : ℕ) : Type 0 where
 -- the message with four arguments, as many of them as there are
 abbrev pub laidMessage : ℕ → ℕ → ℕ → List ℕ → List ℕ → List ℕ
 laidMessage kind least most arguments bs =
-    take (4 + singles least most) (0 ∷ (2 + singles least most + length (tail least most bs)) ∷ 1 ∷ kind ∷ arguments) ++ tail least most bs
+    take (4 + singles least most) (0 ∷ (2 + singles least most + length (tail least most bs)) ∷ 1 ∷ kind ∷ arguments)
+    ++ tail least most bs
 
 -- room for it
 pub record MessageRoom (least most : ℕ) (bs out : List ℕ) : Type 0 where
@@ -54,5 +55,7 @@ pub record Within (at : Call) : Type 0 where
 -- the arguments of a call at these places; what its kind does not name goes to place 0
 abbrev pub atPlaces : Call → Call → List ℕ
 atPlaces c at =
-    set (set (set (set (set (set (set (set (replicate 5 0) (at .station) (c .station)) (at .page) (c .page)) (at .other) (c .other))
-    (at .right) (c .right)) (at .offset) (c .offset)) (at .count) (c .count)) (at .copy) (c .copy)) (at .frame) (c .frame)
+    set (set (set (set (set
+    (set (set (set (replicate 5 0) (at .station) (c .station)) (at .page) (c .page)) (at .other) (c .other))
+    (at .right) (c .right)) (at .offset) (c .offset)) (at .count) (c .count)) (at .copy) (c .copy)) (at .frame)
+    (c .frame)

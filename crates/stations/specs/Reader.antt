@@ -19,7 +19,8 @@ use Rattle.messages.specs.Run.{Sent, cut, whole}
 use Rattle.stations.specs.declared.Reading.{Reading}
 use Rattle.stations.specs.declared.Reading.the-variants.{Refused, Reply}
 
--- ---- a reply m: the L bytes after its length. Document 01: "A reply is L, version 1, the number (0 accepted), bytes laid in two bytes
+-- ---- a reply m: the L bytes after its length. Document 01: "A reply is L, version 1, the number (0 accepted), bytes
+-- laid in two bytes
 -- big-endian, then the bytes of a read or look."
 
 abbrev pub numberIn : List ℕ → ℕ

@@ -61,8 +61,10 @@ fn lay_message(
     out: &mut [u8],
 ) -> usize
     requires { ⌜ MessageRoom least most (now bytes) (now out) ⌝ }
-    ensures { λ r. ⌜ r ≡ length (laidMessage kind least most (first ∷ second ∷ third ∷ fourth ∷ []) (now (bytes .entry))) ⌝ }
-    ensures { λ _. ⌜ now (out .exit) ≡ over (laidMessage kind least most (first ∷ second ∷ third ∷ fourth ∷ []) (now (bytes .entry))) (now (out .entry)) ⌝ }
+    ensures { λ r. ⌜ r ≡ length
+        (laidMessage kind least most (first ∷ second ∷ third ∷ fourth ∷ []) (now (bytes .entry))) ⌝ }
+    ensures { λ _. ⌜ now (out .exit) ≡ over
+        (laidMessage kind least most (first ∷ second ∷ third ∷ fourth ∷ []) (now (bytes .entry))) (now (out .entry)) ⌝ }
 {
     let count = count_of(least, most);
     let tail = tail_of(least, most, bytes);
@@ -84,7 +86,8 @@ pub fn write_kind(
     bytes: &[u8],
     out: &mut [u8],
 ) -> Written
-    ensures { λ r. ⌜ Wrote (writtenAs (length (now (out .entry))) kind (first ∷ second ∷ third ∷ fourth ∷ []) (now (bytes .entry)))
+    ensures { λ r. ⌜ Wrote
+        (writtenAs (length (now (out .entry))) kind (first ∷ second ∷ third ∷ fourth ∷ []) (now (bytes .entry)))
         (now (out .entry)) (now (out .exit)) r ⌝ }
 {
     if out.len() < MESSAGE_SIZE {
@@ -141,7 +144,8 @@ fn at_places(call: Call, at: Call) -> [u8; 5]
 
 // Writes a call, with the bytes of a write. What its kind does not name plays no part.
 pub fn write_call(call: Call, bytes: &[u8], out: &mut [u8]) -> Written
-    ensures { λ r. ⌜ Wrote (written (length (now (out .entry))) call (now (bytes .entry))) (now (out .entry)) (now (out .exit)) r ⌝ }
+    ensures { λ r. ⌜ Wrote (written (length (now (out .entry))) call (now (bytes .entry))) (now (out .entry))
+        (now (out .exit)) r ⌝ }
 {
     let kind = call.kind;
     let number = number_of(kind);

@@ -27,4 +27,5 @@ spanOutside size c = has offset (c .kind) && badSpan (c .offset) (cond (has byte
 -- the number of a call with so many frames, and 0 where none of the three holds
 abbrev pub outside : ℕ → ℕ → Call → ℕ
 outside frames size c =
-    cond (nameOutside c) outOfRange (cond (frameOutside frames c) outOfRange (cond (spanOutside size c) outOfRange accepted))
+    cond (nameOutside c) outOfRange
+    (cond (frameOutside frames c) outOfRange (cond (spanOutside size c) outOfRange accepted))

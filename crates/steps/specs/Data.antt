@@ -29,5 +29,6 @@ many least most n = leb least n && leb n most
 unfoldable pub formed : Data → List ℕ → Bool
 formed Empty d = eqb (length d) 0
 formed Bytes d = many 1 64 (length d)
-formed Copies d = many 1 8 (getD d 0 0) && (eqb (length d) (1 + 3 * getD d 0 0) && eachIs (getD d 0 0) 3 copyMarked (drop 1 d))
+formed Copies d =
+    many 1 8 (getD d 0 0) && (eqb (length d) (1 + 3 * getD d 0 0) && eachIs (getD d 0 0) 3 copyMarked (drop 1 d))
 formed Holder d = eqb (length d) 3

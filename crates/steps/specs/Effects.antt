@@ -92,7 +92,8 @@ laidInto g (Lays l f) = laidFrames g l ++ clearedFrames f
 -- how many bytes it lays into them
 abbrev pub bytesLaid : Page → Work → List ℕ → List ℕ → ℕ
 bytesLaid g (Shows s) bs st = 0
-bytesLaid g (Lays l f) bs st = length (laidFrames g l) * length (laidBytes l bs st) + length (clearedFrames f) * length zeros
+bytesLaid g (Lays l f) bs st =
+    length (laidFrames g l) * length (laidBytes l bs st) + length (clearedFrames f) * length zeros
 
 -- the joined stores after it
 abbrev pub stored : Page → Work → List ℕ → List ℕ → List ℕ
@@ -169,7 +170,8 @@ readCall station page offset count = callOf Read (station ∷ page ∷ offset �
 -- frames counted on from P."
 abbrev pub framePlace : ℕ → ℕ → ℕ → ℕ → Place
 framePlace p f offset len =
-    cond (ltb f p) (record { slow = false; start = 64 * f + offset; len = len }) (record { slow = true; start = 64 * (f - p) + offset; len = len })
+    cond (ltb f p) (record { slow = false; start = 64 * f + offset; len = len })
+    (record { slow = true; start = 64 * (f - p) + offset; len = len })
 
 abbrev pub noPlace : Place
 noPlace = record { slow = false; start = 0; len = 0 }

@@ -77,8 +77,8 @@ isRetire k = eqb (kindNumber k) (kindNumber Retire)
 -- the kinds in the order of their numbers
 unfoldable pub kinds : List Kind
 kinds =
-    Create ∷ DeletePage ∷ Grant ∷ Read ∷ Write ∷ MakeCopy ∷ DeleteCopy ∷ SetCurrent ∷ RemoveCurrent ∷ LookPage ∷ LookFrame
-    ∷ Retire ∷ []
+    Create ∷ DeletePage ∷ Grant ∷ Read ∷ Write ∷ MakeCopy ∷ DeleteCopy ∷ SetCurrent ∷ RemoveCurrent ∷ LookPage
+    ∷ LookFrame ∷ Retire ∷ []
 
 -- 3: the kind is none of those above
 abbrev pub isUnknown : ℕ → Bool

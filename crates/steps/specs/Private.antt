@@ -38,7 +38,8 @@ pub record Room (fast slow : List ℕ) (p f : ℕ) : Type 0 where
 -- so does the frame of each copy of page g that is one of `those`
 abbrev pub RoomEach : (Copy → Bool) → List ℕ → List ℕ → ℕ → Page → Type 0
 RoomEach those fast slow p g =
-    (i : ℕ) → i < length (inUse g) → those (getD (g .copies) i zeroCopy) ≡ true → Room fast slow p (getD (g .copies) i zeroCopy .frame)
+    (i : ℕ) → i < length (inUse g) → those (getD (g .copies) i zeroCopy) ≡ true
+    → Room fast slow p (getD (g .copies) i zeroCopy .frame)
 
 -- a place lies within its store
 abbrev pub PlaceIn : Place → List ℕ → List ℕ → Type 0

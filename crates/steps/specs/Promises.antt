@@ -85,7 +85,8 @@ decisionWith number moved laid len p before becomes retires work =
 -- seen at a glance to leave them as they are.
 abbrev pub decisionOn : ℕ → Page → Outcome Plan → Decision
 decisionOn p g o =
-    decisionWith (numberOf o) (moves g (editOf o) (retiresOf o)) (laidOf o) (lenOf o) p g (changed g (editOf o)) (retiresOf o) (workOf o)
+    decisionWith (numberOf o) (moves g (editOf o) (retiresOf o)) (laidOf o) (lenOf o) p g (changed g (editOf o))
+    (retiresOf o) (workOf o)
 
 -- the decision of a call c on tables t that comes to o
 abbrev pub decisionOf : Tables → Call → Outcome Plan → Decision
@@ -159,7 +160,8 @@ carried d bs l =
 -- ---- a call on tables and stores
 
 -- what `step` leaves of a call on state s that comes to o: the state s′, and the data at the front of the buffer
-pub record Stepped (s : State) (o : Outcome Result) (out : List ℕ) (s′ : State) (out′ : List ℕ) (r : Done) : Type 0 where
+pub record Stepped (s : State) (o : Outcome Result) (out : List ℕ) (s′ : State) (out′ : List ℕ)
+    (r : Done) : Type 0 where
   pub number-told : r .number ≡ numberOf o
   pub laid-told : r .laid ≡ laidBy o
   pub len-told : r .len ≡ length (dataOf o)

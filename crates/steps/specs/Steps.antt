@@ -147,7 +147,8 @@ lacksCopy g k = cond (absent g) noPage (cond (leb (g .n) k) noCopy accepted)
 -- make copy, of copy c to frame f: "all 64 bytes are copied; the new copy is not CURRENT, and MOST RECENT if the source
 -- is. From a null copy: 64 zeros, the new copy is recent, the null copy goes."
 abbrev pub copying : Copy → ℕ → Outcome Plan
-copying c f = cond (isNull c) (laying (Placed f) 64 (Zeros f)) (laying (Added f (c .recent)) 64 (Duplicate (c .frame) f))
+copying c f =
+    cond (isNull c) (laying (Placed f) 64 (Zeros f)) (laying (Added f (c .recent)) 64 (Duplicate (c .frame) f))
 
 -- A call c on what it looks at; a write has `size` bytes. The numbers are tested in the order that the papers give for
 -- each kind, behind 7. Document 02, request [2], of both deletes: "a frame that is freed .. is filled with 64 zeros,
@@ -186,7 +187,8 @@ module _ (v : View) (c : Call) (size : ℕ) where
       (clearing (Removed (c .copy)) (copyAt g (c .copy) .frame)))
   -- 9, 12, 17, 16. "Already current: accepted, no change."
   perform SetCurrent =
-      guarded (lacksCopy g (c .copy)) (test (isNull (copyAt g (c .copy))) noFrame (test (not (copyAt g (c .copy) .recent)) stale
+      guarded (lacksCopy g (c .copy))
+      (test (isNull (copyAt g (c .copy))) noFrame (test (not (copyAt g (c .copy) .recent)) stale
       (editing (Marked (c .copy) true))))
   -- 9, 12. "Not current, or null: accepted, no change."
   perform RemoveCurrent = guarded (lacksCopy g (c .copy)) (editing (Marked (c .copy) false))

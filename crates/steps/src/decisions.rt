@@ -1,4 +1,4 @@
-// What a call comes to, decision_on from the tables, the call and the number of a write's bytes: no store is needed.
+// What a call comes to, decided from the tables, the call and the number of a write's bytes: no store is needed.
 use crate::ACCEPTED;
 use crate::BROKEN_TABLES;
 use crate::Call;
@@ -270,7 +270,7 @@ fn ruled(number: u8, d: Decision) -> Decision
     )
 }
 
-// The page whose record a call is decision_on on.
+// The page whose record a call is decided on.
 fn page_for(call: Call) -> u8
     ensures { λ r. ⌜ r ≡ pageFor call ⌝ }
 {
@@ -335,7 +335,7 @@ pub fn decide_any(
     ruled(number, d)
 }
 
-// The tables with what was decision_on put into them, where it moves them. A caller that sees `moved` false can spare
+// The tables with what was decided put into them, where it moves them. A caller that sees `moved` false can spare
 // the call. Small, so that it is part of its caller.
 pub fn settle(tables: Tables, d: Decision) -> Tables
     ensures { λ r. ⌜ r ≡ settled tables d ⌝ }

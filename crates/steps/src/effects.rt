@@ -1,4 +1,4 @@
-// What was decision_on, carried out on the two lent stores and the reply; a call on any tables and stores; a read as a
+// What was decided, carried out on the two lent stores and the reply; a call on any tables and stores; a read as a
 // part of a store.
 use crate::Call;
 use crate::Decision;
@@ -86,7 +86,8 @@ fn show_in<'a>(page: Page, show: Show, len: usize, fast: &'a [u8], slow: &'a [u8
     requires { ⌜ WholeFrames (now fast) ⌝ }
     requires { ⌜ 64 ≤ length (now out) ⌝ }
     requires { ⌜ showWithin len (framesIn (now fast) (now slow)) show ≡ true ⌝ }
-    ensures { λ _. ⌜ now (out .exit) ≡ over (shownOf page show len (now (fast .entry) ++ now (slow .entry))) (now (out .entry)) ⌝ }
+    ensures { λ _. ⌜ now (out .exit) ≡ over (shownOf page show len (now (fast .entry) ++ now (slow .entry)))
+        (now (out .entry)) ⌝ }
 {
     match show {
         Show::Frame { frame, offset } => {
@@ -103,7 +104,8 @@ fn show_in<'a>(page: Page, show: Show, len: usize, fast: &'a [u8], slow: &'a [u8
 fn lay_in(page: Page, lay: Lay, bytes: &[u8], fast: &mut [u8], slow: &mut [u8])
     requires { ⌜ WholeFrames (now fast) ⌝ }
     requires { ⌜ layWithin page (framesIn (now fast) (now slow)) (length (now bytes)) lay ≡ true ⌝ }
-    ensures { λ _. ⌜ now (fast .exit) ++ now (slow .exit) ≡ laidIn page lay (now (bytes .entry)) (now (fast .entry) ++ now (slow .entry)) ⌝ }
+    ensures { λ _. ⌜ now (fast .exit) ++ now (slow .exit) ≡ laidIn page lay (now (bytes .entry))
+        (now (fast .entry) ++ now (slow .entry)) ⌝ }
 {
     let p = fast.len() / 64;
     match lay {
@@ -129,7 +131,7 @@ fn clear_in(frame: u8, fast: &mut [u8], slow: &mut [u8])
     }
 }
 
-// Shows or lays what was decision_on. Where that does not lie within what is lent, nothing is done: a decision on
+// Shows or lays what was decided. Where that does not lie within what is lent, nothing is done: a decision on
 // tables that the stores fit always does.
 pub fn carry(d: Decision, bytes: &[u8], fast: &mut [u8], slow: &mut [u8], out: &mut [u8])
     ensures { λ _. ⌜ lent (now (fast .exit)) (now (slow .exit)) (now (out .exit))
@@ -249,8 +251,10 @@ pub fn read<'a>(
     offset: u8,
     count: u8,
 ) -> &'a [u8]
-    ensures { λ r. ⌜ ReadPart (step (stateOf tables (now (fast .entry)) (now (slow .entry))) (readCall station page offset count) [])
-        (readPlace tables (length (now (fast .entry))) (length (now (slow .entry))) (readCall station page offset count))
+    ensures { λ r. ⌜ ReadPart
+        (step (stateOf tables (now (fast .entry)) (now (slow .entry))) (readCall station page offset count) [])
+        (readPlace tables (length (now (fast .entry))) (length (now (slow .entry)))
+        (readCall station page offset count))
         (ptr (fast .entry)) (ptr (slow .entry)) (ptr r) (now r) ⌝ }
 {
     let place = read_place(tables, fast.len(), slow.len(), station, page, offset, count);

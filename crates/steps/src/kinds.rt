@@ -22,7 +22,22 @@ fn row(
     copy: u8,
     frame: u8,
 ) -> Form
-    ensures { λ r. ⌜ r ≡ record { least = least; most = most; tells = tells; call = record { kind = kind; station = station; page = page; other = other; right = right; offset = offset; count = count; copy = copy; frame = frame } } ⌝ }
+    ensures { λ r. ⌜ r ≡ record {
+      least = least;
+      most = most;
+      tells = tells;
+      call = record {
+        kind = kind;
+        station = station;
+        page = page;
+        other = other;
+        right = right;
+        offset = offset;
+        count = count;
+        copy = copy;
+        frame = frame;
+      };
+    } ⌝ }
 {
     Form {
         least,

@@ -1,5 +1,5 @@
 // The steps of document 01. `decide` decides a call from the tables alone; `carry` does on the two lent stores and the
-// reply what was decision_on, and `settle` puts the change into the tables.
+// reply what was decided, and `settle` puts the change into the tables.
 mod access;
 mod copies;
 mod decisions;

@@ -66,7 +66,8 @@ fn load(fast: &[u8], slow: &[u8], p: usize, frame: usize) -> [u8; 64]
 fn lay_frame(fast: &mut [u8], slow: &mut [u8], p: usize, frame: usize, offset: usize, src: &[u8])
     requires { ⌜ Room (now fast) (now slow) p frame ⌝ }
     requires { ⌜ offset + length (now src) ≤ 64 ⌝ }
-    ensures { λ _. ⌜ now (fast .exit) ++ now (slow .exit) ≡ lay (now (fast .entry) ++ now (slow .entry)) frame offset (now (src .entry)) ⌝ }
+    ensures { λ _. ⌜ now (fast .exit) ++ now (slow .exit) ≡ lay (now (fast .entry) ++ now (slow .entry)) frame offset
+        (now (src .entry)) ⌝ }
 {
     if frame < p {
         put(fast, 64 * frame + offset, src);
@@ -165,7 +166,8 @@ fn lay_copy(
 )
     requires { ⌜ (chosen which c ≡ true → Room (now fast) (now slow) p (c .frame)) ⌝ }
     requires { ⌜ offset + length (now src) ≤ 64 ⌝ }
-    ensures { λ _. ⌜ now (fast .exit) ++ now (slow .exit) ≡ layEach (chosen which) (now (fast .entry) ++ now (slow .entry)) (c ∷ []) offset (now (src .entry)) ⌝ }
+    ensures { λ _. ⌜ now (fast .exit) ++ now (slow .exit) ≡ layEach (chosen which)
+        (now (fast .entry) ++ now (slow .entry)) (c ∷ []) offset (now (src .entry)) ⌝ }
 {
     if is_chosen(c, which) {
         let f = c.frame as usize;
@@ -185,7 +187,8 @@ pub(crate) fn lay_each(
 )
     requires { ⌜ RoomEach (chosen which) (now fast) (now slow) p page ⌝ }
     requires { ⌜ offset + length (now src) ≤ 64 ⌝ }
-    ensures { λ _. ⌜ now (fast .exit) ++ now (slow .exit) ≡ layEach (chosen which) (now (fast .entry) ++ now (slow .entry)) (inUse page) offset (now (src .entry)) ⌝ }
+    ensures { λ _. ⌜ now (fast .exit) ++ now (slow .exit) ≡ layEach (chosen which)
+        (now (fast .entry) ++ now (slow .entry)) (inUse page) offset (now (src .entry)) ⌝ }
 {
     let n = page.in_use();
     let mut j: usize = 0;
@@ -199,7 +202,8 @@ pub(crate) fn lay_each(
 // Sets the frame of each copy of the page that has one to zeros, in one pass.
 pub(crate) fn clear_page(fast: &mut [u8], slow: &mut [u8], p: usize, page: Page)
     requires { ⌜ RoomEach isPlaced (now fast) (now slow) p page ⌝ }
-    ensures { λ _. ⌜ now (fast .exit) ++ now (slow .exit) ≡ layEach isPlaced (now (fast .entry) ++ now (slow .entry)) (inUse page) 0 zeros ⌝ }
+    ensures { λ _. ⌜ now (fast .exit) ++ now (slow .exit) ≡ layEach isPlaced (now (fast .entry) ++ now (slow .entry))
+        (inUse page) 0 zeros ⌝ }
 {
     let zeros = [0u8; 64];
     lay_each(fast, slow, p, page, Which::Placed, 0, &zeros);

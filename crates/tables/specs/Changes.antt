@@ -73,7 +73,8 @@ changed g (Added frame recent) = withCopy g (newCopy frame recent)
 -- step 7, with the gap closed
 changed g (Removed k) = withCopies g (g .n - 1) (closeGap (g .copies) k)
 -- steps 8 and 9: CURRENT set or removed
-changed g (Marked k current) = withCopies g (g .n) (set (g .copies) k (markedCopy (getD (g .copies) k zeroCopy) current))
+changed g (Marked k current) =
+    withCopies g (g .n) (set (g .copies) k (markedCopy (getD (g .copies) k zeroCopy) current))
 
 -- a change of the tables: page p gets the record g, and frame f is retired; 255 for none
 abbrev pub changeTo : ℕ → Page → ℕ → Change

@@ -89,8 +89,9 @@ retired = 20
 -- The rows that a message can be turned back with, in the papers' order: 19 is for making tables alone.
 abbrev pub table : List ℕ
 table =
-    cutShort ∷ foreignVersion ∷ unknownKind ∷ wrongLength ∷ brokenTables ∷ misfitStore ∷ outOfRange ∷ pageStands ∷ noPage ∷
-    noRight ∷ nothingCurrent ∷ noCopy ∷ frameHeld ∷ eightCopies ∷ lastRecent ∷ stale ∷ noFrame ∷ shortBuffer ∷ retired ∷ []
+    cutShort ∷ foreignVersion ∷ unknownKind ∷ wrongLength ∷ brokenTables ∷ misfitStore ∷ outOfRange ∷ pageStands
+    ∷ noPage ∷ noRight ∷ nothingCurrent ∷ noCopy ∷ frameHeld ∷ eightCopies ∷ lastRecent ∷ stale ∷ noFrame ∷ shortBuffer
+    ∷ retired ∷ []
 
 -- all rows
 abbrev pub rows : List ℕ

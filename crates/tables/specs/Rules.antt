@@ -51,7 +51,8 @@ atMost k r = leb r k
 unfoldable pub standingRule : ℕ → Page → Bool
 standingRule limit g =
     leb (g .owner) 15 && (all (atMost 2) (g .rights) && (leb (g .n) 8
-    && (all (copyRule limit (g .n)) (inUse g) && (all isFresh (drop (g .n) (g .copies)) && leb 1 (count isRecent (inUse g))))))
+    && (all (copyRule limit (g .n)) (inUse g)
+    && (all isFresh (drop (g .n) (g .copies)) && leb 1 (count isRecent (inUse g))))))
 
 -- "absent pages are as in fresh tables"
 unfoldable pub absentRule : Page → Bool

@@ -188,7 +188,8 @@ impl Page {
     }
 
     fn marked(mut self, copy: u8, current: bool) -> Page
-        ensures { λ r. ⌜ r ≡ withCopies self (self .n) (set (self .copies) copy (markedCopy (getD (self .copies) copy zeroCopy) current)) ⌝ }
+        ensures { λ r. ⌜ r ≡ withCopies self (self .n)
+            (set (self .copies) copy (markedCopy (getD (self .copies) copy zeroCopy) current)) ⌝ }
     {
         let k = copy as usize;
         if k < 8 {

@@ -15,6 +15,10 @@ use Rattle.tables.specs.Rules.{uses, holders, standingRule, absentRule, pageRul
 use Rattle.tables.specs.Search.{inCopies, inPages}
 use Rattle.tables.specs.Register.{registerRule, vacated, occupied}
 use Rattle.tables.specs.Changes.{changeTo, withRetired, after}
+use Rattle.steps.specs.declared.Kind.{Kind}
+use Rattle.steps.specs.declared.Kind.the-variants.{LookPage, LookFrame, Retire}
+use Rattle.steps.specs.declared.Call.{Call}
+use Rattle.steps.specs.Calls.{outside}
 use Rattle.steps.specs.Kinds.{names, kinds, code, among, argument, callOf}
 use Rattle.steps.specs.Steps.{numberOf}
 use Rattle.steps.specs.Effects.{State, joined}
@@ -81,6 +85,28 @@ widest-replies = refl
 pub widest-stores : joined (runOn state₀ (fileOf widest) .final) ≡ flatten (replicate 8 sixtyFour)
 unfolding runOn flatten
 widest-stores = refl
+
+-- ---- 7 asks for what a kind names, and for nothing else
+
+-- a call that a caller filled itself, with everything too large but what a look at frame 3, or at page 5, names
+abbrev pub overfull : Kind → ℕ → ℕ → Call
+overfull k p f =
+    record {
+      kind = k;
+      station = 200;
+      page = p;
+      other = 99;
+      right = 9;
+      offset = 200;
+      count = 0;
+      copy = 9;
+      frame = f;
+    }
+
+pub only-named : map (outside 8 0) (overfull LookFrame 77 3 ∷ overfull LookPage 5 99 ∷ overfull Retire 77 7 ∷ [])
+    ≡ (0 ∷ 0 ∷ 0 ∷ [])
+unfolding names code among
+only-named = refl
 
 -- ---- 5 and 6 among the others
 

@@ -59,7 +59,8 @@ pub record Obeys (b : Loan) (r : Answered) (a : Loan) : Type 0 where
 abbrev pub OneMessage : Type 0
 OneMessage =
     (t : Tables) (fast slow message out fast′ slow′ out′ : List ℕ) (n n′ : Tally) (r : Answered) → n .laid ≤ 4294967295
-    → Replied (stateOf t fast slow) (answer (length out) (stateOf t fast slow) (sentAlone message)) out (stateOf (r .tables) fast′ slow′) out′ r
+    → Replied (stateOf t fast slow) (answer (length out) (stateOf t fast slow) (sentAlone message)) out
+    (stateOf (r .tables) fast′ slow′) out′ r
     → n′ ≡ counted n (not (eqb (r .number) accepted)) (r .laid)
     → Obeys (record { state = stateOf t fast slow; out = out; tally = n }) r
     (record { state = stateOf (r .tables) fast′ slow′; out = out′; tally = n′ })
@@ -95,4 +96,5 @@ pub record RunObeys (room : ℕ) (s : State) (w : Run) (rs : List (List ℕ)) : 
 pub record Demand1 : Type 0 where
   pub message : OneMessage
   -- of any file, on any tables and stores
-  pub runs : (room : ℕ) (file : List ℕ) (s : State) → RunObeys room s (run room file s) (replies room (run room file s .turns))
+  pub runs : (room : ℕ) (file : List ℕ) (s : State) → RunObeys room s (run room file s)
+      (replies room (run room file s .turns))

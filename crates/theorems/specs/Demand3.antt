@@ -59,7 +59,8 @@ flatAnswers f [] es = []
 flatAnswers f (x ∷ xs) [] = []
 flatAnswers f (x ∷ xs) (e ∷ es) = cond e [] (answersOf (reaction f x)) ++ flatAnswers (flatAfter f x e) xs es
 
--- ---- "the run's replies to those same messages": those of the kinds that the flat memory answers, 1 to 5, and not answered 11
+-- ---- "the run's replies to those same messages": those of the kinds that the flat memory answers, 1 to 5, and not
+-- answered 11
 
 abbrev pub answered : Parsed → Bool
 answered (Refused n) = false
@@ -72,7 +73,8 @@ taken r = record { number = numberIn r; bytes = drop 6 r }
 unfoldable pub runAnswers : ℕ → List Turn → List Answer
 runAnswers room [] = []
 runAnswers room (t ∷ ts) =
-    cond (not (eleven room t) && answered (asked (t .sent))) (taken (replyIn room (t .outcome)) ∷ []) [] ++ runAnswers room ts
+    cond (not (eleven room t) && answered (asked (t .sent))) (taken (replyIn room (t .outcome)) ∷ []) []
+    ++ runAnswers room ts
 
 -- ---- number 11 exactly where the flat memory would accept and nothing is current
 
@@ -87,7 +89,8 @@ due f s (Asked c) bs = accepts (react f c bs) && lacks (s .tables) c
 -- where 11 is due, turn by turn, beside the flat memory at that point
 unfoldable pub dues : ℕ → Flat → List Turn → List Bool
 dues room f [] = []
-dues room f (t ∷ ts) = due f (t .found) (asked (t .sent)) (bytesOf (t .sent)) ∷ dues room (flatAfter f (t .sent) (eleven room t)) ts
+dues room f (t ∷ ts) =
+    due f (t .found) (asked (t .sent)) (bytesOf (t .sent)) ∷ dues room (flatAfter f (t .sent) (eleven room t)) ts
 
 -- ---- at the end: the same pages, owners and rights, and every MOST RECENT copy holds its page's flat bytes
 
@@ -133,5 +136,7 @@ Agrees p s room file r = AgreesOn p s room (messagesOf file) r
 -- the reply buffer's
 abbrev pub Demand3 : Type 0
 Demand3 =
-    (p s : ℕ) (fast slow out file : List ℕ) → p ≤ 127 → s ≤ 127 → length fast ≡ 64 * p → length slow ≡ 64 * s → 70 ≤ length out
-    → Agrees p s (length out) file (run (length out) file (record { tables = freshTables p s; fast = fast; slow = slow }))
+    (p s : ℕ) (fast slow out file : List ℕ) → p ≤ 127 → s ≤ 127 → length fast ≡ 64 * p → length slow ≡ 64 * s
+    → 70 ≤ length out
+    → Agrees p s (length out) file
+    (run (length out) file (record { tables = freshTables p s; fast = fast; slow = slow }))

@@ -62,7 +62,11 @@ farRest k c bs =
 -- zeros."
 abbrev pub creating : Flat → Call → Slot → Reaction
 creating f c gone =
-    yes (set f (c .page) (here (record { owner = c .station; rights = set (replicate 16 0) (c .station) 2; bytes = replicate 64 0 }))) []
+    yes (set f (c .page) (here (record {
+      owner = c .station;
+      rights = set (replicate 16 0) (c .station) 2;
+      bytes = replicate 64 0;
+    }))) []
 creating f c (here b) = no 8
 
 -- "9: the other four kinds, page absent."

@@ -16,7 +16,8 @@ use Rattle.messages.specs.Promises.{FillCall, FillCalls, emptied, reached, stat
 use Rattle.theorems.specs.Flat.{none, Answer}
 use Rattle.theorems.specs.Demand3.{flatAnswers, answered, Agrees}
 
--- ---- a reply among the bytes that the caller took, as its own L tells it from the next: m are the bytes after that length
+-- ---- a reply among the bytes that the caller took, as its own L tells it from the next: m are the bytes after that
+-- length
 
 -- its number: the reply's fourth byte
 abbrev pub numberHeld : Sent → ℕ
@@ -35,7 +36,8 @@ answerHeld (whole m) = record { number = getD m 1 0; bytes = drop 4 m }
 unfoldable pub answersHeld : List Sent → List Sent → List Answer
 answersHeld [] rs = []
 answersHeld (x ∷ xs) [] = []
-answersHeld (x ∷ xs) (r ∷ rs) = cond (not (elevenHeld r) && answered (asked x)) (answerHeld r ∷ []) [] ++ answersHeld xs rs
+answersHeld (x ∷ xs) (r ∷ rs) =
+    cond (not (elevenHeld r) && answered (asked x)) (answerHeld r ∷ []) [] ++ answersHeld xs rs
 
 -- ---- the demand
 
@@ -45,7 +47,8 @@ pub record Held (p s : ℕ) (file : List ℕ) (s₀ : State) (n : Tally) (ks : L
   -- a reply's own L tells it from the next, as a message's does
   pub replies-apart : messagesOf (emptied ks) ≡ map (λ (l : List ℕ). whole (drop 2 l)) (replies 70 (r .turns))
   -- the two lists, by what the caller holds alone
-  pub answers-held : flatAnswers none (messagesOf file) (map elevenHeld (messagesOf (emptied ks))) ≡ answersHeld (messagesOf file) (messagesOf (emptied ks))
+  pub answers-held : flatAnswers none (messagesOf file) (map elevenHeld (messagesOf (emptied ks)))
+      ≡ answersHeld (messagesOf file) (messagesOf (emptied ks))
   pub state-held : stateLeft s₀ ks ≡ r .final
   pub tally-held : tallyLeft n ks ≡ tally (r .turns) n
   pub agrees : Agrees p s 70 file r
@@ -54,11 +57,13 @@ pub record Held (p s : ℕ) (file : List ℕ) (s₀ : State) (n : Tally) (ks : L
 -- end
 abbrev pub Demand3Held : Type 0
 Demand3Held =
-    (p s : ℕ) (fast slow file : List ℕ) (n : Tally) (ks : List FillCall) → p ≤ 127 → s ≤ 127 → length fast ≡ 64 * p → length slow ≡ 64 * s
+    (p s : ℕ) (fast slow file : List ℕ) (n : Tally) (ks : List FillCall) → p ≤ 127 → s ≤ 127 → length fast ≡ 64 * p
+    → length slow ≡ 64 * s
     → let s₀ = stateOf (freshTables p s) fast slow in
     FillCalls file 0 s₀ n ks → length file ≤ reached 0 ks → Held p s file s₀ n ks (run 70 file s₀)
 
 -- as many calls as the file has bytes come to its end
 abbrev pub CallsEnough : Type 0
 CallsEnough =
-    (file : List ℕ) (s₀ : State) (n : Tally) (ks : List FillCall) → FillCalls file 0 s₀ n ks → length file ≤ length ks → length file ≤ reached 0 ks
+    (file : List ℕ) (s₀ : State) (n : Tally) (ks : List FillCall) → FillCalls file 0 s₀ n ks → length file ≤ length ks
+    → length file ≤ reached 0 ks

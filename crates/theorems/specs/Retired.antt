@@ -41,7 +41,8 @@ abbrev pub NeverAgain : ℕ → List Turn → State → Type 0
 NeverAgain f [] end = retiredAt (end .tables) f ≡ true → isHeld (end .tables) f ≡ false
 NeverAgain f (t ∷ ts) end =
     (retiredAt (t .found .tables) f ≡ true
-    → (everHeld (t ∷ ts) f ≡ false) × (isHeld (end .tables) f ≡ false) × (block (joined end) f ≡ block (joined (t .found)) f))
+    → (everHeld (t ∷ ts) f ≡ false) × (isHeld (end .tables) f ≡ false)
+    × (block (joined end) f ≡ block (joined (t .found)) f))
     × NeverAgain f ts end
 
 -- a frame retired more, and else the same; the tables move where it was not retired already
@@ -65,8 +66,10 @@ pub record KeepsRetired (s : State) (r : Run) : Type 0 where
 
 pub record RetiredFrames : Type 0 where
   -- each frame of sound tables is one of the three, and not two of them
-  pub one-of-three : (t : Tables) → sound t ≡ true → (f : ℕ) → f < frames t → bit (free t f) + bit (isHeld t f) + bit (retiredAt t f) ≡ 1
+  pub one-of-three : (t : Tables) → sound t ≡ true → (f : ℕ) → f < frames t
+      → bit (free t f) + bit (isHeld t f) + bit (retiredAt t f) ≡ 1
   -- of any file, with a reply buffer of any length
   pub runs : (room : ℕ) (file : List ℕ) (s : State) → KeepsRetired s (run room file s)
   -- a retire that is accepted, also of a frame already retired, retires the frame and does nothing else
-  pub retire-alone : (s : State) (c : Call) (bs : List ℕ) (r : Result) → isRetire (c .kind) ≡ true → step s c bs ≡ accept r → r ≡ onlyRetired s (c .frame)
+  pub retire-alone : (s : State) (c : Call) (bs : List ℕ) (r : Result) → isRetire (c .kind) ≡ true
+      → step s c bs ≡ accept r → r ≡ onlyRetired s (c .frame)

@@ -19,7 +19,8 @@ use Rattle.steps.specs.Effects.{State, Result, carriedOut, step}
 abbrev pub stepSearched : State → Call → List ℕ → Outcome Result
 stepSearched s c bs =
     mapped (carriedOut s c bs)
-    (guarded (rulesNumber (s .tables) (length (s .fast)) (length (s .slow))) (decideOn (viewBy holderOf (s .tables) c) c (length bs)))
+    (guarded (rulesNumber (s .tables) (length (s .fast)) (length (s .slow)))
+    (decideOn (viewBy holderOf (s .tables) c) c (length bs)))
 
 pub record AsSearched : Type 0 where
   -- a frame number past the last frame is no frame: 255 would ask for null copies

@@ -118,7 +118,8 @@ replyAt l = replyOf l (nextAt l 0)
 -- "for one kind no two different replies that it accepts read alike": with the same number, bytes laid and data
 abbrev pub RepliesDiffer : ReplyReader → Type 0
 RepliesDiffer reads =
-    (kind : ℕ) (l l′ : List ℕ) (number laid start len start′ len′ : ℕ) → ((i : ℕ) → getD l i 0 < 256) → ((i : ℕ) → getD l′ i 0 < 256)
+    (kind : ℕ) (l l′ : List ℕ) (number laid start len start′ len′ : ℕ) → ((i : ℕ) → getD l i 0 < 256)
+    → ((i : ℕ) → getD l′ i 0 < 256)
     → reads kind l ≡ Reply number laid start len → reads kind l′ ≡ Reply number laid start′ len′
     → part l start len ≡ part l′ start′ len′
     → replyAt l ≡ replyAt l′

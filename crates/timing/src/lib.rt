@@ -31,7 +31,8 @@ fn answers(
     mut tally: Tally,
 ) -> Left
     ensures { λ r. ⌜ AnswersEnded
-        (run (length (now (out .entry))) (now (file .entry)) (stateOf tables (now (fast .entry)) (now (slow .entry)))) tally
+        (run (length (now (out .entry))) (now (file .entry)) (stateOf tables (now (fast .entry)) (now (slow .entry))))
+        tally
         (now (out .entry)) (stateOf (r .tables) (now (fast .exit)) (now (slow .exit))) (now (out .exit)) r ⌝ }
 {
     let mut at = 0;
@@ -65,7 +66,8 @@ pub extern "C" fn reel_answers(
     out: &mut [u8],
 ) -> u32
     ensures { λ r. ⌜ AnsweredAll
-        (run (length (now (out .entry))) (now (file .entry)) (lentState (now (tables .entry)) (now (fast .entry)) (now (slow .entry))))
+        (run (length (now (out .entry))) (now (file .entry))
+        (lentState (now (tables .entry)) (now (fast .entry)) (now (slow .entry))))
         (now (tables .entry)) (lent (now (fast .entry)) (now (slow .entry)) (now (out .entry)))
         (now (tables .exit)) (lent (now (fast .exit)) (now (slow .exit)) (now (out .exit))) r ⌝ }
 {

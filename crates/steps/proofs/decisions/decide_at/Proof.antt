@@ -1,5 +1,5 @@
 -- `decide_at` meets its contract: a walk of its MIR, by hand. The field `shared` is read behind the reference, which then goes on to `page_at`
--- and to `Tables::registered`; `decision-on` has what is found.
+-- and to `Tables::registered`; `decision_on` has what is found.
 use mathlib.Core.Path.{_≡_, refl}
 use Prim.Native.Nat.{ℕ, _<_, _^_}
 use native.Mathlib.Nat.{lt-of-lt-of-le}

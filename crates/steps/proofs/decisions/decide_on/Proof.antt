@@ -1,4 +1,4 @@
--- `decide-on`: 7, and then the step.
+-- `decide_on`: 7, and then the step.
 use Rattle.steps.specs.Steps.{decideOn}
 use Rattle.steps.proofs.RangeLaws.{write-short}
 use mathlib.Core.Path.{sym, _∙_}

@@ -1,4 +1,4 @@
--- `decision-on`: the decision of the decide_on.
+-- `decision_on`: the decision of the verdict.
 use mathlib.Core.Path.{_∙_}
 use Rattle.steps.specs.Private.{decisionFor}
 use Rattle.steps.specs.Steps.{decideOn, viewing}

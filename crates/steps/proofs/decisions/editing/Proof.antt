@@ -1,4 +1,4 @@
--- `editing`: the one decide-on, with no work.
+-- `editing`: the one verdict, with no work.
 use borrow.Author.Needs.{needs}
 use Rattle.steps.proofs.decisions.editing.Statement.{statement}
 use Rattle.steps.proofs.decisions.editing.Tie as tie

@@ -1,4 +1,4 @@
--- `refused`: the one decide-on, with no work.
+-- `refused`: the one verdict, with no work.
 use borrow.Author.Needs.{needs}
 use Rattle.steps.proofs.decisions.refused.Statement.{statement}
 use Rattle.steps.proofs.decisions.refused.Tie as tie

@@ -1,4 +1,4 @@
--- `retiring`: the one decide-on, with no work.
+-- `retiring`: the one verdict, with no work.
 use borrow.Author.Needs.{needs}
 use Rattle.steps.proofs.decisions.retiring.Statement.{statement}
 use Rattle.steps.proofs.decisions.retiring.Tie as tie
