@@ -155,7 +155,8 @@ static void reader_refuses(void) {
   expect(reel_read_reply(REEL_KIND_CREATE, accepted, 5) == REEL_CUT_SHORT, "a byte is missing");
   expect(reel_read_reply(REEL_KIND_CREATE, foreign, sizeof foreign) == REEL_FOREIGN_VERSION, "version 2");
   expect(reel_read_reply(13, accepted, sizeof accepted) == REEL_UNKNOWN_KIND, "kind 13");
-  expect(reel_read_reply(REEL_KIND_READ, accepted, sizeof accepted) == REEL_WRONG_LENGTH, "an accepted read without data");
+  expect(reel_read_reply(REEL_KIND_READ, accepted, sizeof accepted) == REEL_WRONG_LENGTH,
+         "an accepted read without data");
   expect(reel_read_reply(REEL_KIND_RETIRE, data, sizeof data) == REEL_WRONG_LENGTH, "an accepted retire with data");
   expect(reel_read_reply(REEL_KIND_RETIRE, unlisted, sizeof unlisted) == REEL_WRONG_LENGTH, "number 21");
 
@@ -163,7 +164,8 @@ static void reader_refuses(void) {
   expect(reel_reply_refused(told) == REEL_CUT_SHORT && !reel_reply_accepted(told), "the reply is cut short");
   told = reel_read_reply(REEL_KIND_CREATE, refused, sizeof refused);
   expect(reel_reply_refused(told) == REEL_ACCEPTED, "the reply is read");
-  expect(reel_reply_number(told) == REEL_CUT_SHORT && !reel_reply_accepted(told), "it says that the message was cut short");
+  expect(reel_reply_number(told) == REEL_CUT_SHORT && !reel_reply_accepted(told),
+         "it says that the message was cut short");
   printf("reader: each refusal with its number, told apart from a reply that carries it\n");
 }
 

@@ -81,8 +81,8 @@ static void run(struct unit u, const uint8_t *file, size_t length) {
 }
 
 static size_t part(struct unit u, const uint8_t *file, size_t length, size_t at, size_t *used) {
-  return reel_replies(u.tables, u.tables_len, u.fast, u.fast_len, u.slow, u.slow_len, file, length, at, u.out, u.out_len,
-                      u.tally, REEL_TALLY_SIZE, used);
+  return reel_replies(u.tables, u.tables_len, u.fast, u.fast_len, u.slow, u.slow_len, file, length, at, u.out,
+                      u.out_len, u.tally, REEL_TALLY_SIZE, used);
 }
 
 static unsigned rules(struct unit u) { return reel_rules(u.tables, u.tables_len, u.fast_len, u.slow_len); }
@@ -97,7 +97,8 @@ static int untouched(const uint8_t *p, size_t length) {
 }
 
 static void expect_tally(struct unit u) {
-  expect(u.tally[REEL_TALLY_MESSAGES] == MESSAGES && u.tally[REEL_TALLY_REFUSALS] == 0 && u.tally[REEL_TALLY_LAID] == LAID,
+  expect(u.tally[REEL_TALLY_MESSAGES] == MESSAGES && u.tally[REEL_TALLY_REFUSALS] == 0 &&
+             u.tally[REEL_TALLY_LAID] == LAID,
          "the tally");
 }
 
@@ -183,7 +184,8 @@ static int zeros(const uint8_t *frame) {
   return 1;
 }
 
-/* What is deleted is gone from the stores: each frame that becomes free is filled with zeros, and 64 bytes are laid for it. */
+/* What is deleted is gone from the stores: each frame that becomes free is filled with zeros, and 64 bytes are laid for
+   it. */
 static void deleted(void) {
   static const uint8_t make_copy[] = {0, 5, 1, REEL_KIND_MAKE_COPY, 5, 0, 5}; /* page 5, copy 0, to frame 5 */
   static const uint8_t delete_copy[] = {0, 4, 1, REEL_KIND_DELETE_COPY, 5, 0};
@@ -195,12 +197,14 @@ static void deleted(void) {
   uint32_t given;
   run(u, calls, sizeof calls);
 
-  expect(answer(u, delete_copy, sizeof delete_copy) == REEL_LAST_RECENT + 256 * REEL_REPLY_HEAD, "the only copy is not deleted");
+  expect(answer(u, delete_copy, sizeof delete_copy) == REEL_LAST_RECENT + 256 * REEL_REPLY_HEAD,
+         "the only copy is not deleted");
   expect(frame0[0] == 0x41 && frame0[1] == 0x37, "a refused delete leaves its bytes");
 
   expect(reel_answer_number(answer(u, make_copy, sizeof make_copy)) == REEL_ACCEPTED, "a copy on frame 5");
   given = answer(u, delete_copy, sizeof delete_copy);
-  expect(reel_answer_number(given) == REEL_ACCEPTED && reel_answer_laid(given) == REEL_FRAME_SIZE, "delete copy: 64 laid");
+  expect(reel_answer_number(given) == REEL_ACCEPTED && reel_answer_laid(given) == REEL_FRAME_SIZE,
+         "delete copy: 64 laid");
   expect(u.out[4] == 0 && u.out[5] == REEL_FRAME_SIZE, "delete copy: 64 in the reply");
   expect(zeros(frame0), "delete copy: zeros on frame 0");
   expect(frame5[0] == 0x41 && frame5[1] == 0x37, "delete copy: the other copy keeps its bytes");
@@ -208,7 +212,8 @@ static void deleted(void) {
   expect(reel_answer_number(answer(u, by_another, sizeof by_another)) == REEL_NO_RIGHT, "delete page: the owner alone");
   expect(frame5[0] == 0x41, "a refused delete leaves its bytes");
   given = answer(u, by_owner, sizeof by_owner);
-  expect(reel_answer_number(given) == REEL_ACCEPTED && reel_answer_laid(given) == REEL_FRAME_SIZE, "delete page: 64 laid");
+  expect(reel_answer_number(given) == REEL_ACCEPTED && reel_answer_laid(given) == REEL_FRAME_SIZE,
+         "delete page: 64 laid");
   expect(zeros(frame5), "delete page: zeros on frame 5");
 
   /* Frames that no copy ever had hold what the caller lent; a page without a frame has nothing to clear. */
@@ -275,13 +280,15 @@ static unsigned entry(struct unit u, unsigned frame) {
   return p[0] + 256u * p[1];
 }
 
-/* The register names the copy on a frame. Where it names another the tables are broken, and every byte remains as it was. */
+/* The register names the copy on a frame. Where it names another the tables are broken, and every byte remains as it
+   was. */
 static void wrong_register(void) {
   static const uint8_t look[] = {0, 3, 1, REEL_KIND_LOOK_FRAME, 0};
   struct unit u = fresh_unit(REEL_REPLY_SIZE), before = fresh_unit(REEL_REPLY_SIZE);
   run(u, calls, sizeof calls);
   expect(entry(u, 0) == REEL_MOST_COPIES * 5 + 0, "page 5, copy 0 is on frame 0");
-  expect(entry(u, 1) == REEL_FREE_ENTRY && entry(u, REEL_REGISTER_ENTRIES - 1) == REEL_FREE_ENTRY, "no other frame is held");
+  expect(entry(u, 1) == REEL_FREE_ENTRY && entry(u, REEL_REGISTER_ENTRIES - 1) == REEL_FREE_ENTRY,
+         "no other frame is held");
 
   u.tables[REEL_TABLES_REGISTER]++;
   expect(entry(u, 0) == REEL_MOST_COPIES * 5 + 1, "copy 1 is named");
@@ -334,8 +341,10 @@ static void retired(void) {
   int i;
   run(u, calls, sizeof calls);
   memcpy(before, u.tables, u.tables_len);
-  expect(reel_answer_number(answer(u, retire_none, sizeof retire_none)) == REEL_OUT_OF_RANGE, "the unit has no frame 8");
-  expect(reel_answer_number(answer(u, retire_held, sizeof retire_held)) == REEL_FRAME_HELD, "frame 0, which page 5 is on");
+  expect(reel_answer_number(answer(u, retire_none, sizeof retire_none)) == REEL_OUT_OF_RANGE,
+         "the unit has no frame 8");
+  expect(reel_answer_number(answer(u, retire_held, sizeof retire_held)) == REEL_FRAME_HELD,
+         "frame 0, which page 5 is on");
   expect(memcmp(u.tables, before, u.tables_len) == 0, "a refused retire leaves the tables as they were");
 
   /* The second time it is accepted too, and changes nothing. */

@@ -8,8 +8,8 @@
  *   tables  REEL_TABLES_SIZE bytes, made by reel_fresh and then kept by the caller
  *   fast    REEL_FRAME_SIZE * P bytes, frames 0 to P - 1; P and S as given to reel_fresh
  *   slow    REEL_FRAME_SIZE * S bytes, frames P to P + S - 1
- *   out     REEL_REPLY_SIZE bytes or more, for reel_write REEL_MESSAGE_SIZE or more; what no reply or message takes remains
- *           as it was
+ *   out     REEL_REPLY_SIZE bytes or more, for reel_write REEL_MESSAGE_SIZE or more; what no reply or message takes
+ *           remains as it was
  *   tally   REEL_TALLY_SIZE numbers: messages, refusals, bytes laid; each stops at 4294967295
  *   used    one size_t, without a length beside it; it is only written
  *
@@ -17,8 +17,8 @@
  * REEL_BROKEN_TABLES, stores of another length REEL_MISFIT_STORE, a shorter out REEL_SHORT_BUFFER. A tally of another
  * length is left alone. Only these are the caller's duty, and are not tested:
  *
- *   - Each pointer leads to as many elements as its length says (used to one), is aligned for its type, and is not null, also
- *     where the length is 0: there it is the address of anything, such as of a byte that is not used.
+ *   - Each pointer leads to as many elements as its length says (used to one), is aligned for its type, and is not
+ *     null, also where the length is 0: there it is the address of anything, such as of a byte that is not used.
  *   - A buffer that is not const overlaps none of the others. Const ones may overlap each other.
  *   - During a call nobody else writes a buffer of it, or reads one that is not const.
  *
@@ -64,7 +64,7 @@ uint32_t reel_version(void);
 #define REEL_TABLES_P 0           /* the number of fast frames */
 #define REEL_TABLES_S 1           /* the number of slow frames */
 #define REEL_TABLES_PAGES 2       /* the records of the 64 pages, one after the other */
-#define REEL_TABLES_REGISTER 2690 /* the register: a register entry for each frame number 0 to 253, one after the other */
+#define REEL_TABLES_REGISTER 2690 /* the register: an entry for each frame number 0 to 253, one after the other */
 
 #define REEL_PAGE_SIZE 42   /* a page's record: */
 #define REEL_PAGE_RIGHTS 0  /* a right for each station: 0 none, 1 read, 2 read and write */
@@ -81,7 +81,7 @@ uint32_t reel_version(void);
 
 /*
  * The register says for each frame which copy is on it, as the copy entries of the pages have it. A frame's register
- * entry is REEL_MOST_COPIES * page + copy, or REEL_FREE_ENTRY where no copy is on it, so also from frame P + S on, or
+ * entry is REEL_MOST_COPIES * page + copy, or REEL_FREE_ENTRY where the frame is free and from frame P + S on, or
  * REEL_RETIRED_ENTRY where the frame is retired. Its low byte comes first. Where one of the 254 register entries is
  * another, the tables are broken.
  */
@@ -99,7 +99,7 @@ uint32_t reel_version(void);
 /* ---- messages and replies */
 
 #define REEL_MESSAGE_VERSION 1 /* the third byte of messages and replies */
-#define REEL_MESSAGE_SIZE 71   /* the longest message that is accepted, with its two bytes of length; the writer's least buffer */
+#define REEL_MESSAGE_SIZE 71   /* the longest accepted message, with its bytes of length; the writer's least buffer */
 #define REEL_REPLY_SIZE 70     /* the longest reply, and the least reply buffer */
 #define REEL_REPLY_HEAD 6      /* length, version, number and bytes laid; the data of a read or look come after */
 
@@ -119,8 +119,8 @@ enum reel_kind {
   REEL_KIND_RETIRE = 12         /* frame */
 };
 
-/* The data of a look at a frame are three bytes: 1, page, copy where a copy is on it; 0, 255, 255 where it is free; 2, 255, 255
-   where it is retired. */
+/* The data of a look at a frame are three bytes: 1, page, copy where a copy is on it; 0, 255, 255 where it is free;
+   2, 255, 255 where it is retired. */
 
 /* Why a message is turned back. Versions to come may add numbers. */
 enum reel_number {
@@ -182,8 +182,8 @@ static inline size_t reel_whole_length(const uint8_t *two) { return 2 + 256 * (s
 
 /*
  * How many of the bytes that are left the first message or reply takes, of any kind and version: its whole length, or
- * all of them where they are fewer than two or than that length, as the kernel takes them for one that is cut short. So
- * a walk that goes on by it while bytes are left comes to an end, and never passes theirs. It is 0 where none are left.
+ * all of them where they are fewer than two or than that length, as the kernel takes them for one that is cut short; 0
+ * where none are left. So a walk that advances by reel_next until no byte is left ends, and stays within the bytes.
  */
 static inline size_t reel_next(const uint8_t *bytes, size_t left) {
   return left < 2 || left < reel_whole_length(bytes) ? left : reel_whole_length(bytes);
@@ -207,7 +207,7 @@ uint8_t reel_fresh(uint8_t p, uint8_t s, uint8_t *tables, size_t tables_len);
 
 /*
  * Tests tables and the lengths of their stores, as after power-up: REEL_ACCEPTED, REEL_BROKEN_TABLES or
- * REEL_MISFIT_STORE. Where it is REEL_ACCEPTED every function below leaves it so.
+ * REEL_MISFIT_STORE. Once it answers REEL_ACCEPTED, no function below changes that.
  */
 uint8_t reel_rules(const uint8_t *tables, size_t tables_len, size_t fast_len, size_t slow_len);
 
@@ -244,8 +244,8 @@ size_t reel_replies(uint8_t *tables, size_t tables_len, uint8_t *fast, size_t fa
  * where the read would be refused. They may be read there until tables or stores are changed. Functions below take the
  * place apart.
  */
-uint32_t reel_read(const uint8_t *tables, size_t tables_len, size_t fast_len, size_t slow_len, uint8_t station, uint8_t page,
-                   uint8_t offset, uint8_t count);
+uint32_t reel_read(const uint8_t *tables, size_t tables_len, size_t fast_len, size_t slow_len, uint8_t station,
+                   uint8_t page, uint8_t offset, uint8_t count);
 
 /*
  * Writes the message of a call at the head of out: its kind, and its arguments in the order of enum reel_kind.
@@ -253,10 +253,10 @@ uint32_t reel_read(const uint8_t *tables, size_t tables_len, size_t fast_len, si
  * message; functions below take it apart, and others have the arguments by name. The number is REEL_ACCEPTED, or the
  * first that applies of
  *
- *   REEL_SHORT_BUFFER    out_len is below REEL_MESSAGE_SIZE, however short the message
+ *   REEL_SHORT_BUFFER  out_len is below REEL_MESSAGE_SIZE, however short the message
  *   REEL_UNKNOWN_KIND  kind not 1 to 12
- *   REEL_OUT_OF_RANGE  as for a message, but with frames up to 253 in range, as the writer does not know the unit; also a
- *                      write of no byte or of more than 64
+ *   REEL_OUT_OF_RANGE  as for a message, but with frames up to 253 in range, as the writer does not know the unit; also
+ *                      a write of no byte or of more than 64
  *
  * and then the length is 0 and nothing is written.
  */
@@ -272,8 +272,8 @@ uint32_t reel_write(uint8_t kind, uint8_t first, uint8_t second, uint8_t third, 
  *   REEL_CUT_SHORT        as for a message, also no byte at all
  *   REEL_FOREIGN_VERSION  as for a message
  *   REEL_UNKNOWN_KIND     kind not 1 to 12
- *   REEL_WRONG_LENGTH     a length that the kind, the number or the n of a look at a page does not have; a number that is not
- *                         in enum reel_number; a refusal with bytes laid; a CURRENT or MOST RECENT above 1
+ *   REEL_WRONG_LENGTH     a length that the kind, the number or the n of a look at a page does not have; a number that
+ *                         is not in enum reel_number; a refusal with bytes laid; a CURRENT or MOST RECENT above 1
  *
  * and then all else is 0.
  */
@@ -296,16 +296,16 @@ static inline unsigned reel_answer_laid(uint32_t answer) { return answer >> 16; 
 
 /* ---- a place of reel_read, taken apart */
 
-/* How many bytes; 0 where the read would be refused. */
+/* How many bytes the read has; 0 where it would be refused. */
 static inline size_t reel_read_length(uint32_t place) { return place & 255; }
 
-/* Whether they stand in the slow store. */
+/* Whether the bytes of the read stand in the slow store. */
 static inline int reel_read_slow(uint32_t place) { return (place >> 8 & 255) != 0; }
 
-/* At which offset of that store. */
+/* At which offset of their store the bytes of the read begin. */
 static inline size_t reel_read_offset(uint32_t place) { return place >> 16; }
 
-/* The first of them, in the stores that the place was asked for. */
+/* A pointer to the first byte of the read, in the stores that the place was asked for. */
 static inline const uint8_t *reel_read_bytes(uint32_t place, const uint8_t *fast, const uint8_t *slow) {
   return (reel_read_slow(place) ? slow : fast) + reel_read_offset(place);
 }
@@ -389,8 +389,10 @@ static inline size_t reel_reply_start(uint64_t told) { return told >> 32 & 255; 
 /* How many bytes of data there are. */
 static inline size_t reel_reply_length(uint64_t told) { return told >> 40; }
 
-/* The first of them, in the bytes that were read. */
-static inline const uint8_t *reel_reply_data(uint64_t told, const uint8_t *reply) { return reply + reel_reply_start(told); }
+/* A pointer to the first byte of data, in the bytes that were read. */
+static inline const uint8_t *reel_reply_data(uint64_t told, const uint8_t *reply) {
+  return reply + reel_reply_start(told);
+}
 
 #ifdef __cplusplus
 }

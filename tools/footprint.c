@@ -47,12 +47,13 @@ static size_t message(const struct call *c) {
 static void move(uint8_t kind, uint8_t count, uint8_t a, uint8_t b, uint8_t c) {
   struct call call = {"", kind, {a, b, c, 0}, count};
   size_t length = message(&call);
-  reel_run(full.tables, sizeof full.tables, full.fast, sizeof full.fast, full.slow, sizeof full.slow, second, length, full.out,
-           sizeof full.out, full.tally, REEL_TALLY_SIZE);
+  reel_run(full.tables, sizeof full.tables, full.fast, sizeof full.fast, full.slow, sizeof full.slow, second, length,
+           full.out, sizeof full.out, full.tally, REEL_TALLY_SIZE);
 }
 
-/* 64 pages on all frames but the last one, every copy CURRENT but the last page's last, which a write makes stale: the last page
-   has n copies, the first `deep` ones have eight, and the others share what is left; without a frame, a page has its null copy. */
+/* 64 pages on all frames but the last one, every copy CURRENT but the last page's last, which a write makes stale: the
+   last page has n copies, the first `deep` ones have eight, and the others share what is left; without a frame, a page
+   has its null copy. */
 static void fill(int n, int deep) {
   int left = FRAMES - 1 - n - 8 * deep, others = REEL_PAGES - 1 - deep, frame = 0, p, i;
   memset(&full, 0, sizeof full);
@@ -68,7 +69,8 @@ static void fill(int n, int deep) {
     }
     move(REEL_KIND_CREATE, 2, 3, (uint8_t)p, 0);
     for (i = 0; i < copies; i++) move(REEL_KIND_MAKE_COPY, 3, (uint8_t)p, 0, (uint8_t)frame++);
-    for (i = 0; i < (p == LAST && n > 1 ? n - 1 : copies); i++) move(REEL_KIND_SET_CURRENT, 2, (uint8_t)p, (uint8_t)i, 0);
+    for (i = 0; i < (p == LAST && n > 1 ? n - 1 : copies); i++)
+      move(REEL_KIND_SET_CURRENT, 2, (uint8_t)p, (uint8_t)i, 0);
   }
   if (frame != FRAMES - 1 || full.tally[REEL_TALLY_REFUSALS] != 0) {
     printf("the tables are not full: %d frames, %u refusals\n", frame, (unsigned)full.tally[REEL_TALLY_REFUSALS]);
@@ -90,8 +92,8 @@ static void by_answer(int n, int deep, const char *name, size_t length) {
 static void by_replies(int n, int deep, const char *name, size_t length) {
   size_t used;
   unit = full;
-  reel_replies(unit.tables, sizeof unit.tables, unit.fast, sizeof unit.fast, unit.slow, sizeof unit.slow, file, GRANT + length,
-               0, unit.out, sizeof unit.out, unit.tally, REEL_TALLY_SIZE, &used);
+  reel_replies(unit.tables, sizeof unit.tables, unit.fast, sizeof unit.fast, unit.slow, sizeof unit.slow, file,
+               GRANT + length, 0, unit.out, sizeof unit.out, unit.tally, REEL_TALLY_SIZE, &used);
   report(n, deep, name, reel_word(unit.out[used > REEL_REPLY_HEAD ? REEL_REPLY_HEAD + 3 : 3]));
 }
 

@@ -192,8 +192,8 @@ impl Work {
 
     fn sides(&self) -> Sides {
         Sides {
-            last: self.unit(kernel::SLIP),
-            kept: self.unit(kernel::SLIP * self.counts.messages),
+            last: self.unit(kernel::LEAST_BUFFER),
+            kept: self.unit(kernel::LEAST_BUFFER * self.counts.messages),
             parts: self.unit(PART),
             searching: self.start.searching(),
             registered: self.start.clone(),
@@ -568,7 +568,7 @@ fn retired_frames() {
     let (alone, retired) = (Work::retires(), Work::retired());
     for work in [&alone, &retired] {
         work.check();
-        Exchange::of(work.unit(kernel::SLIP), work.file.clone()).check();
+        Exchange::of(work.unit(kernel::LEAST_BUFFER), work.file.clone()).check();
     }
     row_of_three("retire of a free frame alone", alone.added(1_000, sides));
     row_of_three(

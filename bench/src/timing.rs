@@ -1,4 +1,4 @@
-//! The two functions of `libtiming.a`, which are there for the benchmark alone.
+//! The two functions of `libtiming.a` that are there for the benchmark alone.
 
 use kernel::Unit;
 

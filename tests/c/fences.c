@@ -8,10 +8,10 @@
  * Messages and sizes follow from a seed.
  */
 #define _DEFAULT_SOURCE
+#include "test.h"
+
 #include <reel.h>
 
-#include <stdio.h>
-#include <stdlib.h>
 #include <string.h>
 #include <sys/mman.h>
 
@@ -30,24 +30,11 @@ struct unit {
   size_t fast_len, slow_len;
 };
 
-static uint32_t seed = 7;
 static int behind;    /* whether the fence stands behind the buffers, or before them */
 static uint32_t frames; /* so many frames may be named */
 static unsigned freed;  /* so many frames were seen freed */
 static unsigned again;  /* so many messages were written again */
 static unsigned marked; /* so many frames were seen retired */
-
-static uint32_t any(uint32_t below) {
-  seed = seed * 1664525u + 1013904223u;
-  return (uint32_t)(((uint64_t)(seed >> 8) * below) >> 24);
-}
-
-static void expect(int holds, const char *what) {
-  if (!holds) {
-    printf("FAILED: %s\n", what);
-    exit(1);
-  }
-}
 
 static struct block fenced(size_t least) {
   struct block b;
@@ -131,19 +118,22 @@ static void read_alike(struct unit u, struct block lent, const uint8_t *m, uint3
   }
 }
 
-/* Writes a call of this kind into so many bytes: past the message, or anywhere if it is refused, they remain as they were. */
+/* Writes a call of this kind into so many bytes: past the message, or anywhere if it is refused, they remain as they
+   were. */
 static uint32_t write_into(uint8_t *out, size_t room, uint8_t kind, const uint8_t arguments[4], const uint8_t *bytes,
                            size_t count) {
   uint32_t written;
   size_t i;
   memset(out, FILLER, room);
   written = reel_write(kind, arguments[0], arguments[1], arguments[2], arguments[3], bytes, count, out, room);
-  expect(reel_written_number(written) == REEL_ACCEPTED || reel_written_length(written) == 0, "a call that is not written");
+  expect(reel_written_number(written) == REEL_ACCEPTED || reel_written_length(written) == 0,
+         "a call that is not written");
   for (i = reel_written_length(written); i < room; i++) expect(out[i] == FILLER, "bytes past a message");
   return written;
 }
 
-/* A message that is not refused 1 to 4, written again, has the same bytes; what the writer refuses the kernel refuses too. */
+/* A message that is not refused 1 to 4, written again, has the same bytes; what the writer refuses the kernel refuses
+   too. */
 static void written_alike(struct unit u, struct block lent, const uint8_t *m, size_t size, uint32_t answered) {
   unsigned number = reel_answer_number(answered);
   size_t end = m[3] == REEL_KIND_WRITE ? 7 : size; /* of the arguments; a write's bytes follow */
@@ -171,7 +161,8 @@ static void told_alike(struct unit u, struct block lent, uint8_t kind, uint32_t 
   expect(reel_reply_refused(told) == REEL_ACCEPTED, "a reply is read");
   expect(reel_reply_number(told) == reel_answer_number(answered), "the number that a reply carries");
   expect(reel_reply_laid(told) == reel_answer_laid(answered), "the bytes laid in a reply");
-  expect(reel_reply_length(told) == data && reel_reply_data(told, reply) == reply + REEL_REPLY_HEAD, "the data of a reply");
+  expect(reel_reply_length(told) == data && reel_reply_data(told, reply) == reply + REEL_REPLY_HEAD,
+         "the data of a reply");
   expect(reel_read_reply(kind, out, REEL_REPLY_SIZE) == told, "a reply with bytes after it");
   expect(reel_read_reply(kind, sealed(lent, out, length - 1), length - 1) == REEL_CUT_SHORT, "a reply cut short");
 }
@@ -243,17 +234,20 @@ static void not_on_retired(struct state before, uint8_t frame, uint32_t answered
 }
 
 static void same(struct unit one, struct unit other) {
-  expect(memcmp(part(one.tables, REEL_TABLES_SIZE), part(other.tables, REEL_TABLES_SIZE), REEL_TABLES_SIZE) == 0, "tables");
+  expect(memcmp(part(one.tables, REEL_TABLES_SIZE), part(other.tables, REEL_TABLES_SIZE), REEL_TABLES_SIZE) == 0,
+         "tables");
   expect(memcmp(part(one.fast, one.fast_len), part(other.fast, other.fast_len), one.fast_len) == 0, "the fast store");
   expect(memcmp(part(one.slow, one.slow_len), part(other.slow, other.slow_len), one.slow_len) == 0, "the slow store");
-  expect(memcmp(tally_of(one, REEL_TALLY_SIZE), tally_of(other, REEL_TALLY_SIZE), REEL_TALLY_SIZE * sizeof(uint32_t)) == 0,
+  expect(memcmp(tally_of(one, REEL_TALLY_SIZE), tally_of(other, REEL_TALLY_SIZE),
+                REEL_TALLY_SIZE * sizeof(uint32_t)) == 0,
          "the tally");
 }
 
 /* One file: a message a call, in one run, and in parts. */
 static void serve(struct unit one, struct unit whole, struct unit parts, struct block lent, uint8_t p, uint8_t s) {
   static uint8_t file[FILE_MOST], replies[REPLIES_MOST];
-  size_t length = 0, said = 0, at = 0, room = REEL_REPLY_SIZE + any(200), *used = (size_t *)part(parts.used, sizeof(size_t)), i;
+  size_t length = 0, said = 0, at = 0, room = REEL_REPLY_SIZE + any(200), i;
+  size_t *used = (size_t *)part(parts.used, sizeof(size_t));
   uint32_t *tally = tally_of(one, REEL_TALLY_SIZE);
   frames = (uint32_t)p + s;
   make_fresh(&one, p, s);
@@ -281,8 +275,8 @@ static void serve(struct unit one, struct unit whole, struct unit parts, struct 
   }
   sealed(lent, file, length);
   reel_run(part(whole.tables, REEL_TABLES_SIZE), REEL_TABLES_SIZE, part(whole.fast, whole.fast_len), whole.fast_len,
-           part(whole.slow, whole.slow_len), whole.slow_len, part(lent, length), length, part(whole.out, REEL_REPLY_SIZE),
-           REEL_REPLY_SIZE, tally_of(whole, REEL_TALLY_SIZE), REEL_TALLY_SIZE);
+           part(whole.slow, whole.slow_len), whole.slow_len, part(lent, length), length,
+           part(whole.out, REEL_REPLY_SIZE), REEL_REPLY_SIZE, tally_of(whole, REEL_TALLY_SIZE), REEL_TALLY_SIZE);
   same(one, whole);
   for (i = 0; at < length; i += *used) {
     at = reel_replies(part(parts.tables, REEL_TABLES_SIZE), REEL_TABLES_SIZE, part(parts.fast, parts.fast_len),
@@ -303,7 +297,8 @@ static void senseless_call(struct unit u, struct block lent) {
   for (i = 0; i < sizeof bytes; i++) bytes[i] = (uint8_t)(any(4) == 0 ? any(256) : any(2));
   for (i = 0; i < 4; i++) arguments[i] = (uint8_t)(any(4) == 0 ? any(256) : any(16));
   written = write_into(part(u.out, room), room, kind, arguments, sealed(lent, bytes, count), count);
-  expect((reel_written_number(written) == REEL_SHORT_BUFFER) == (room < REEL_MESSAGE_SIZE), "a short buffer for a message");
+  expect((reel_written_number(written) == REEL_SHORT_BUFFER) == (room < REEL_MESSAGE_SIZE),
+         "a short buffer for a message");
 
   bytes[0] = (uint8_t)(any(50) == 0);
   bytes[1] = (uint8_t)(any(2) == 0 ? 4 + any(8) : any(sizeof bytes));
@@ -321,8 +316,8 @@ static void senseless_call(struct unit u, struct block lent) {
 /* Buffers of any lengths with any bytes. */
 static void senseless(struct unit u, struct block lent) {
   uint8_t bytes[REEL_MESSAGE_SIZE];
-  size_t tables = any(4) == 0 ? any(PAGE) : REEL_TABLES_SIZE, fast = any(2 * PAGE), slow = any(2 * PAGE), room = any(200);
-  size_t size = message(bytes), tally = any(5), place = any(80), i;
+  size_t tables = any(4) == 0 ? any(PAGE) : REEL_TABLES_SIZE, fast = any(2 * PAGE), slow = any(2 * PAGE);
+  size_t room = any(200), size = message(bytes), tally = any(5), place = any(80), i;
   uint8_t *t = part(u.tables, tables), *f = part(u.fast, fast), *s = part(u.slow, slow), *out = part(u.out, room);
   const uint8_t *sent;
   if (any(4) == 0) size = any((uint32_t)size);
@@ -357,7 +352,7 @@ int main(void) {
   expect(freed > 1000, "deletes that free frames");
   expect(again > 10000, "messages that are calls");
   expect(marked > 20, "frames that are retired");
-  printf("%u messages three times, %u written again, %u frames freed, %u retired, %u senseless calls\n", 12u * MESSAGES, again,
-         freed, marked, 2u * 20000);
+  printf("%u messages three times, %u written again, %u frames freed, %u retired, %u senseless calls\n",
+         12u * MESSAGES, again, freed, marked, 2u * 20000);
   return 0;
 }

@@ -4,11 +4,11 @@
  * without interrupts. Compiled with that number of bytes as BELOW, and without a red zone for this file.
  */
 #define _GNU_SOURCE
+#include "test.h"
+
 #include <reel.h>
 
 #include <signal.h>
-#include <stdio.h>
-#include <stdlib.h>
 #include <string.h>
 #include <ucontext.h>
 
@@ -47,13 +47,6 @@ struct unit {
 };
 
 static volatile unsigned long interrupts;
-
-static void expect(int holds, const char *what) {
-  if (!holds) {
-    printf("FAILED: %s\n", what);
-    exit(1);
-  }
-}
 
 static void overwrite(int number, siginfo_t *info, void *context) {
   uint8_t *top = (uint8_t *)((ucontext_t *)context)->uc_mcontext.gregs[REG_RSP] - BELOW;

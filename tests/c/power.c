@@ -5,9 +5,7 @@
  * and after it. At some cuts the power is cut again in the first save after the start.
  */
 #include "../../examples/power.h"
-
-#include <stdio.h>
-#include <stdlib.h>
+#include "test.h"
 
 enum { STATE = POWER_SEAL - POWER_TABLES, SEAL = POWER_SLOT - POWER_SEAL, SAVE = POWER_SLOT + SEAL };
 enum { MEDIUM = 2 * POWER_SLOT, STRIDE = 211 };
@@ -47,20 +45,7 @@ enum { MESSAGES = 12 };
 static uint8_t medium[MEDIUM], states[MESSAGES + 1][STATE];
 static struct trace *recorded;
 static enum order order;
-static uint32_t seed = 7;
 static unsigned cuts, twice; /* so many cuts were tried, and so many of them after another */
-
-static uint32_t any(uint32_t below) {
-  seed = seed * 1664525u + 1013904223u;
-  return (uint32_t)(((uint64_t)(seed >> 8) * below) >> 24);
-}
-
-static void expect(int holds, const char *what) {
-  if (!holds) {
-    printf("FAILED: %s\n", what);
-    exit(1);
-  }
-}
 
 /* ---- the medium */
 

@@ -4,10 +4,10 @@
  * sound tables, on broken ones and with a store of a wrong length; with buffers for one reply, for some and for all.
  * The places that reel_replies gives are held against the lengths by which the walk goes on.
  */
+#include "test.h"
+
 #include <reel.h>
 
-#include <stdio.h>
-#include <stdlib.h>
 #include <string.h>
 
 enum { P = 5, S = 5, MOST = 4096, LAST_NUMBER = REEL_RETIRED, KINDS = REEL_KIND_RETIRE };
@@ -19,13 +19,6 @@ static unsigned numbers[MOST], messages;
 
 static uint8_t tables[REEL_TABLES_SIZE], fast[REEL_FRAME_SIZE * P], slow[REEL_FRAME_SIZE * S], out[2 * MOST];
 static unsigned seen[LAST_NUMBER + 1], walked, unread; /* replies by their number, all, and those of unknown kinds */
-
-static void expect(int holds, const char *what) {
-  if (!holds) {
-    printf("FAILED: %s\n", what);
-    exit(1);
-  }
-}
 
 /* One more message, of this version, kind and arguments, with `more` zeros behind them. */
 static void add(unsigned number, uint8_t version, uint8_t kind, const uint8_t *arguments, size_t count, size_t more) {
@@ -164,7 +157,7 @@ static void short_slip(void) {
   unsigned m = 0;
   made(REEL_ACCEPTED);
   expect(reel_replies(tables, sizeof tables, fast, sizeof fast, slow, sizeof slow, file, length, 0, out,
-                      REEL_REPLY_SIZE - 1, tally, REEL_TALLY_SIZE, &used) == length && used == 0, "a short slip");
+                      REEL_REPLY_SIZE - 1, tally, REEL_TALLY_SIZE, &used) == length && used == 0, "a short buffer");
   for (at = 0; at < length; at += reel_next(file + at, length - at)) m++;
   expect(m == messages && m == tally[REEL_TALLY_REFUSALS], "each message refused");
 }
@@ -217,7 +210,8 @@ int main(void) {
     for (i = 0; i < 3; i++)
       for (k = 0; k < 3; k++) walk(end, states[i], rooms[k]);
   for (n = 0; n <= LAST_NUMBER; n++)
-    expect((seen[n] > 0) == (n != REEL_SHORT_BUFFER && n != REEL_TOO_MANY_FRAMES), "every number that a reply can carry");
+    expect((seen[n] > 0) == (n != REEL_SHORT_BUFFER && n != REEL_TOO_MANY_FRAMES),
+           "every number that a reply can carry");
   expect(unread > 0, "replies to unknown kinds");
   short_slip();
   any_reply();

@@ -12,7 +12,7 @@ pub const FRAME: usize = 64;
 /// The most fast frames, and the most slow ones.
 pub const MOST_FRAMES: u8 = 127;
 /// The shortest reply buffer that serves.
-pub const SLIP: usize = 70;
+pub const LEAST_BUFFER: usize = 70;
 /// The shortest buffer that `write` lays a message into: the length of the longest one.
 pub const MESSAGE: usize = 71;
 
@@ -351,7 +351,7 @@ impl Unit {
             tables,
             fast,
             slow,
-            out: vec![0; SLIP],
+            out: vec![0; LEAST_BUFFER],
             tally: [0; 3],
         }
     }

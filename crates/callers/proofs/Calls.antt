@@ -10,7 +10,7 @@ use lib.Seq.{take-at}
 use lib.Dec.{ltb}
 use borrow.Author.Tests.{ltb-true, ltb-false, lt-ltb}
 use Rattle.tables.specs.Lists.{all}
-use Rattle.tables.specs.Numbers.{accepted, table}
+use Rattle.tables.specs.Numbers.{accepted, messageNumbers}
 use Rattle.tables.proofs.ListLaws.{all-listed}
 use Rattle.steps.specs.Stores.{over}
 use Rattle.steps.specs.Steps.{Outcome, numberOf}
@@ -41,7 +41,7 @@ module _ (size : ℕ) (s : State) (x : Sent) (r : ℕ)
   unfolding all
   number-low =
       let n : ℕ = numberOf (answer size s x) in
-      ltb-true n 256 (all-listed (λ (m : ℕ). ltb m 256) (accepted ∷ table) n refl (answer-allowed size s x))
+      ltb-true n 256 (all-listed (λ (m : ℕ). ltb m 256) (accepted ∷ messageNumbers) n refl (answer-allowed size s x))
 
   pub told-number : r % 256 ≡ numberOf (answer size s x)
   told-number = omega (arith, e, number-low)

@@ -29,7 +29,7 @@ use Rattle.messages.proofs.JoinLaws.{same-joined, joined-both, tally-both, end-
 use Rattle.theorems.specs.Flat.{none}
 use Rattle.theorems.specs.Demand1.{refusalIn}
 use Rattle.theorems.specs.Demand3.{flatAnswers}
-use Rattle.theorems.specs.Held.{elevenHeld, answersHeld}
+use Rattle.theorems.specs.Caller.{elevenTaken, answersTaken}
 use Rattle.theorems.specs.Clean.{Blank, NoneHeld}
 use Rattle.theorems.specs.Retired.{threeNumbers, everRetired}
 use Rattle.theorems.proofs.Whole.{demand3-on}
@@ -42,7 +42,7 @@ use Rattle.embed.specs.Exports.{freshInto, tallyOf, withTally, packed, leftIn, 
 use Rattle.callers.specs.Calls.{AnswerCall, RepliesCall, Called, answered, replied, Meets, room, leftOf, Calls}
 use Rattle.callers.specs.Calls.{keptAfter, messagesBy, turnsBy, messagesThrough, turnsThrough, toldOf, taken}
 use Rattle.callers.specs.Calls.{countedOn, EachHad}
-use Rattle.callers.specs.Lent.{runFresh, Upheld, AllHold, KeptIs, DemandsLent, takenThrough, FileHeld, OnFile}
+use Rattle.callers.specs.Lent.{runFresh, Upheld, AllHold, KeptIs, DemandsLent, takenThrough, FileTaken, OnFile}
 use Rattle.callers.specs.Lent.{placeReached, tallyReached, FileReplied, RepliesEnough, InFull, front, fileOf}
 use Rattle.callers.specs.Lent.{FileAnswered, numberTold, MessageLent}
 use Rattle.callers.proofs.Kept.{Sane, Leaves, Freshly, freshly, fresh-leaves, put-own, put-twice}
@@ -75,7 +75,7 @@ module _ (p s : ℕ) (fast slow : List ℕ) (hp : p ≤ 127) (hs : s ≤ 127) (l
         obeys = record { starts = next-found 70 xs s₀; turns = turns-obey 70 xs s₀ };
         agrees = demand3-on 70 p s fast slow xs hp hs lp ls (omega arith);
         cleared = λ f low end. messages-clean 70 f xs s₀ low end;
-        retired-told = λ f.
+        retired-exactly = λ f.
             messages-retired 70 f xs s₀ ∙ ap (λ (b : Bool). b || everRetired (turnsOf 70 s₀ xs) f) (none-retired p s f);
         never-again = λ f. never-again 70 f xs s₀ (fresh-sound p s hp hs);
       }
@@ -101,9 +101,9 @@ module _ (p s : ℕ) (fast slow : List ℕ) (hp : p ≤ 127) (hs : s ≤ 127) (l
 kept-is : (k : Kept) (r : Run) → Sane k → stateIn k ≡ r .final → KeptIs k r
 kept-is k r sane e =
     record {
-      tables-held = sane .bytes ∙ ap (λ (s : State). tablesBytes (s .tables)) e;
-      fast-held = ap (λ (s : State). s .fast) e;
-      slow-held = ap (λ (s : State). s .slow) e;
+      tables-are = sane .bytes ∙ ap (λ (s : State). tablesBytes (s .tables)) e;
+      fast-is = ap (λ (s : State). s .fast) e;
+      slow-is = ap (λ (s : State). s .slow) e;
     }
 
 -- ---- any calls
@@ -147,16 +147,16 @@ module _ (p s : ℕ) (b fast slow : List ℕ) (answered-0 : freshInto p s b .num
       }
 
   -- all replies taken
-  file-held : (cs : List Called) (file : List ℕ) → Came cs (messagesOf file)
+  file-taken : (cs : List Called) (file : List ℕ) → Came cs (messagesOf file)
       → takenThrough cs ≡ joinedReplies 70 (turnsThrough k₀ cs)
-      → FileHeld file (takenThrough cs) (keptAfter k₀ cs) (runFresh p s fast slow (messagesOf file))
-  file-held cs file c took =
+      → FileTaken file (takenThrough cs) (keptAfter k₀ cs) (runFresh p s fast slow (messagesOf file))
+  file-taken cs file c took =
       let xs : List Sent = messagesOf file in
       let e : takenThrough cs ≡ joinedReplies 70 (turnsOf 70 f₀ xs) = took ∙ ap (joinedReplies 70) (c .turns-are) in
       record {
-        replies-held = e;
-        answers-held =
-            subst (λ (l : List ℕ). flatAnswers none xs (map elevenHeld (messagesOf l)) ≡ answersHeld xs (messagesOf l))
+        replies-taken = e;
+        answers-taken =
+            subst (λ (l : List ℕ). flatAnswers none xs (map elevenTaken (messagesOf l)) ≡ answersTaken xs (messagesOf l))
             (sym e) (held-answers p s f₀ (stateIn (keptAfter k₀ cs)) xs (c .holds .0 .agrees));
         kept-is = c .keeps;
       }
@@ -267,7 +267,7 @@ file-replied p s b fast slow e lp ls file n cs calls on h =
     let q = replies-through file 0 k n cs ok calls on in
     let t = through k (map replied cs) ok calls in
     let c = came p s b fast slow e lp ls (map replied cs) t (messagesOf file) (q .turns-are h) in (
-      file-held p s b fast slow e lp ls (map replied cs) file c (q .taken-is),
+      file-taken p s b fast slow e lp ls (map replied cs) file c (q .taken-is),
       q .tally-is ∙ ap (λ (ts : List Turn). countedOn ts n) (c .turns-are),
       c .holds,
     )
@@ -341,7 +341,7 @@ file-answered p s b fast slow e lp ls cs calls full =
     let q = answers-through k cs (t .each) full in
     let c = came p s b fast slow e lp ls (map answered cs) t (messagesOf (fileOf cs))
     (t .turns-are ∙ ap (turnsOf 70 (stateIn k)) (messages-are cs full)) in (
-      file-held p s b fast slow e lp ls (map answered cs) (fileOf cs) c (q .taken-is),
+      file-taken p s b fast slow e lp ls (map answered cs) (fileOf cs) c (q .taken-is),
       q .told-is ∙ ap (map (toldOf 70)) (c .turns-are),
       c .holds,
     )

@@ -2,4 +2,5 @@ pub mod Between
 pub mod Kept
 pub mod Calls
 pub mod Lent
+pub mod Read
 pub mod Witness

@@ -31,14 +31,14 @@ pub data Demand : Type 0 where
   obeys : Demand
   agrees : Demand
   cleared : Demand
-  retired-told : Demand
+  retired-exactly : Demand
   never-again : Demand
 
 abbrev pub place : Demand → ℕ
 place obeys = 0
 place agrees = 1
 place cleared = 2
-place retired-told = 3
+place retired-exactly = 3
 place never-again = 4
 
 module _ (xs : List Sent) (r : Run) where
@@ -46,7 +46,7 @@ module _ (xs : List Sent) (r : Run) where
   Demands obeys = RunObeys 70 start r (replies 70 (r .turns))
   Demands agrees = AgreesOn 1 1 70 xs r
   Demands cleared = Cleared start r
-  Demands retired-told = (f : ℕ) → retiredAt (r .final .tables) f ≡ everRetired (r .turns) f
+  Demands retired-exactly = (f : ℕ) → retiredAt (r .final .tables) f ≡ everRetired (r .turns) f
   Demands never-again = (f : ℕ) → NeverAgain f (r .turns) (r .final)
 
   -- they are what `Upheld` says
@@ -54,7 +54,7 @@ module _ (xs : List Sent) (r : Run) where
   demand-of u obeys = u .obeys
   demand-of u agrees = u .agrees
   demand-of u cleared = u .cleared
-  demand-of u retired-told = u .retired-told
+  demand-of u retired-exactly = u .retired-exactly
   demand-of u never-again = u .never-again
 
   pub of-demands : ((i : Demand) → Demands i) → Upheld 1 1 fastBytes slowBytes xs r
@@ -63,15 +63,15 @@ module _ (xs : List Sent) (r : Run) where
         obeys = k obeys;
         agrees = k agrees;
         cleared = k cleared;
-        retired-told = k retired-told;
+        retired-exactly = k retired-exactly;
         never-again = k never-again;
       }
 
-pub each : (X : Demand → Type 0) → X obeys → X agrees → X cleared → X retired-told → X never-again → (i : Demand) → X i
+pub each : (X : Demand → Type 0) → X obeys → X agrees → X cleared → X retired-exactly → X never-again → (i : Demand) → X i
 each X a b c d e obeys = a
 each X a b c d e agrees = b
 each X a b c d e cleared = c
-each X a b c d e retired-told = d
+each X a b c d e retired-exactly = d
 each X a b c d e never-again = e
 
 -- the create; the read that is refused; a look at page 5; a copy of page 5 made on frame 0
@@ -91,7 +91,7 @@ abbrev pub sent : Demand → List Sent
 sent obeys = create ∷ read ∷ []
 sent agrees = create ∷ []
 sent cleared = create ∷ []
-sent retired-told = create ∷ []
+sent retired-exactly = create ∷ []
 sent never-again = create ∷ look ∷ []
 
 -- a state with frame 1 retired, which holds zeros
@@ -112,7 +112,7 @@ wrong agrees = ending (first ∷ []) (with56 1 1 foreign freshPage fastBytes slo
 -- a byte changes on a free frame
 wrong cleared = ending (first ∷ []) (with56 1 1 (created 3) freshPage (set fastBytes 0 0) slowBytes)
 -- frame 0 is retired, and no message retired it
-wrong retired-told =
+wrong retired-exactly =
     ending (first ∷ []) (record { tables = withRetired (made .tables) 0; fast = fastBytes; slow = slowBytes })
 -- frame 1 was retired, and has other bytes at the end
 wrong never-again = ending (first ∷ looked ∷ []) made
@@ -164,12 +164,12 @@ never₁ : (s : State) → ((f : ℕ) → retiredAt (s .tables) f ≡ false) →
 never₁ s h f = (λ e. absurd (false≢true (sym (none-retired 1 1 f) ∙ e)), λ e. absurd (false≢true (sym (h f) ∙ e)))
 
 -- of frame 0 retired, which no copy has
-lone : (f : ℕ) → NeverAgain f (first ∷ []) (wrong retired-told .final)
+lone : (f : ℕ) → NeverAgain f (first ∷ []) (wrong retired-exactly .final)
 unfolding runOn
 lone f = (λ e. absurd (false≢true (sym (none-retired 1 1 f) ∙ e)), at f)
   where
     at : (g : ℕ) → eqb (getD (retiredEntry ∷ replicate 253 freeEntry) g freeEntry) retiredEntry ≡ true
-        → isHeld (wrong retired-told .final .tables) g ≡ false
+        → isHeld (wrong retired-exactly .final .tables) g ≡ false
     at zero e = refl
     at (suc g) e = absurd (false≢true (sym (ap (λ (x : ℕ). eqb x retiredEntry) (same-at 253 g freeEntry)) ∙ e))
 
@@ -211,8 +211,8 @@ alone cleared =
     })
     (λ c. true≢false (ap (λ (l : List ℕ). eqb (getD l 0 1) 0) (c 0 (omega arith) refl))) free-marks
     (never₁ (wrong cleared .final) free-marks)
-alone retired-told =
-    each (Row retired-told) (obeys₁ _)
+alone retired-exactly =
+    each (Row retired-exactly) (obeys₁ _)
     (record {
       messages = refl;
       answers = refl;
@@ -223,7 +223,7 @@ alone retired-told =
       slow-long = refl;
       pages = pages-of fastBytes (create ∷ []) refl .pages;
     })
-    (two-frames (ClearedAt (wrong retired-told)) (λ _. refl) (λ _. refl)) (λ m. true≢false (m 0)) lone
+    (two-frames (ClearedAt (wrong retired-exactly)) (λ _. refl) (λ _. refl)) (λ m. true≢false (m 0)) lone
 alone never-again =
     each (Row never-again)
     (record { starts = refl; turns = (took first _ retired₁ refl, (took looked _ made refl, tt)) })

@@ -55,20 +55,23 @@ Meets k (replied c) =
     RepliesPromised k (c .file) (c .at) (c .out) (c .tally) (c .left) (c .out′) (c .tally′) (c .used) (c .place)
 Meets k (ran c) = RunPromised k (c .file) (c .out) (c .tally) (c .left) (c .out′) (c .tally′)
 
--- its reply buffer as it was lent and as it is left; how long that is; what is left of the unit
+-- the reply buffer of a call as it was lent
 abbrev pub outLent : Called → List ℕ
 outLent (answered c) = c .out
 outLent (replied c) = c .out
 outLent (ran c) = c .out
 
+-- the reply buffer of a call as it is left
 abbrev pub outLeft : Called → List ℕ
 outLeft (answered c) = c .out′
 outLeft (replied c) = c .out′
 outLeft (ran c) = c .out′
 
+-- how long the reply buffer of a call is
 abbrev pub room : Called → ℕ
 room c = length (outLent c)
 
+-- what a call left of the unit
 abbrev pub leftOf : Called → Kept
 leftOf (answered c) = c .left
 leftOf (replied c) = c .left
@@ -96,11 +99,13 @@ messagesBy (ran c) = messagesOf (c .file)
 abbrev pub turnsBy : Kept → Called → List Turn
 turnsBy k c = turnsOf (room c) (stateIn k) (messagesBy c)
 
--- of all calls but those with a buffer below 70 bytes, which answer 18 to each message and change only the tally
+-- the messages of all calls but those with a buffer below 70 bytes, which answer 18 to each message and change only the
+-- tally
 abbrev pub messagesThrough : List Called → List Sent
 messagesThrough [] = []
 messagesThrough (c ∷ cs) = cond (ltb (room c) 70) [] (messagesBy c) ++ messagesThrough cs
 
+-- the turns of these messages
 abbrev pub turnsThrough : Kept → List Called → List Turn
 turnsThrough k [] = []
 turnsThrough k (c ∷ cs) = cond (ltb (room c) 70) [] (turnsBy k c) ++ turnsThrough (leftOf c) cs
@@ -114,14 +119,14 @@ toldOf room t = packed (numberOf (t .outcome)) (length (replyIn room (t .outcome
 abbrev pub lengthTold : ℕ → ℕ
 lengthTold r = r / 256 % 256
 
--- what it took out of its buffer: the replies; "the replies of a run are the list of these"
+-- the replies that the caller took out of the buffer of a call: "the replies of a run are the list of these"
 abbrev pub taken : Called → List ℕ
 taken (answered c) = take (lengthTold (c .told)) (c .out′)
 taken (replied c) = take (c .used) (c .out′)
 taken (ran c) = []
 
--- "A tally (messages, refusals, bytes laid) is brought up to date in place after each message"; numbers that are not
--- three are left alone
+-- "A tally (messages, refusals, bytes laid) is brought up to date in place after each message"; a tally that
+-- is not three numbers is left alone
 abbrev pub countedOn : List Turn → List ℕ → List ℕ
 countedOn ts n = withTally n (tally ts (tallyOf n))
 

@@ -16,7 +16,7 @@ use Rattle.messages.specs.Run.{Sent, Turn, messagesOf, turnsOf, endOf, Run, rep
 use Rattle.theorems.specs.Flat.{none}
 use Rattle.theorems.specs.Demand1.{allowed, refusalIn, RunObeys}
 use Rattle.theorems.specs.Demand3.{flatAnswers, AgreesOn}
-use Rattle.theorems.specs.Held.{elevenHeld, answersHeld}
+use Rattle.theorems.specs.Caller.{elevenTaken, answersTaken}
 use Rattle.theorems.specs.Clean.{Cleared, Blank, NoneHeld}
 use Rattle.theorems.specs.Retired.{threeNumbers, everRetired, NeverAgain}
 use Rattle.embed.specs.Bytes.{tablesBytes}
@@ -26,8 +26,8 @@ use Rattle.callers.specs.Calls.{messagesThrough, turnsThrough, toldOf, t
 
 -- ---- from `reel_fresh` on
 
--- Of whatever it answered 0 for, with stores of its P and S: "fresh tables of any P and S in range"; "The stores' bytes
--- may be anything".
+-- A statement X of every unit that `reel_fresh` made, with stores of the right lengths: "fresh tables of any P and S in
+-- range"; "The stores' bytes may be anything".
 abbrev pub FromFresh : (ℕ → ℕ → List ℕ → List ℕ → Kept → Type 0) → Type 0
 FromFresh X =
     (p s : ℕ) (b fast slow : List ℕ) → freshInto p s b .number ≡ accepted → length fast ≡ 64 * p → length slow ≡ 64 * s
@@ -49,35 +49,34 @@ module _ (p s : ℕ) (fast slow : List ℕ) where
     -- request [2]: "deleted records gone"
     pub cleared : Cleared (stateOf (freshTables p s) fast slow) r
     -- request [5]: the retired frames are those that a message retired, and none "takes a copy again"
-    pub retired-told : (f : ℕ) → retiredAt (r .final .tables) f ≡ everRetired (r .turns) f
+    pub retired-exactly : (f : ℕ) → retiredAt (r .final .tables) f ≡ everRetired (r .turns) f
     pub never-again : (f : ℕ) → NeverAgain f (r .turns) (r .final)
 
-  -- what is so of the bytes k whatever the messages were
+  -- what holds of the kept bytes k after any messages
   pub record InOrder (k : Kept) : Type 0 where
     -- `reel_rules` answers 0: every table rule holds, and the stores fit
     pub ruled : rulesNumber (tablesOf (k .tables)) (length (k .fast)) (length (k .slow)) ≡ accepted
     -- request [5]: "the three numbers add up to P+S"
     pub add-up : threeNumbers (tablesOf (k .tables)) ≡ p + s
-    -- request [2], of a card that began as zeros: each of its frames that no copy has is zeros, and if no copy is on
-    -- it, so is all of it
+    -- request [2], of a card that began as zeros: each of its frames that no copy has is zeros; where no copy is on the
+    -- card, all of the card is
     pub card-blank : slow ≡ replicate (64 * s) 0 → Blank (stateIn k)
     pub card-clean : slow ≡ replicate (64 * s) 0 → NoneHeld (tablesOf (k .tables)) → k .slow ≡ replicate (64 * s) 0
 
-  -- both, of turns and of the bytes that the caller has after them: what is demanded of the state at the end is so of
-  -- the state in the bytes
+  -- `Upheld` and `InOrder` together, of a run over the messages xs with the turns ts that ends in the state in k
   abbrev pub AllHold : List Sent → List Turn → Kept → Type 0
   AllHold xs ts k = Upheld xs (record { turns = ts; final = stateIn k }) × InOrder k
 
 -- every byte that the caller keeps is what the run r leaves
 pub record KeptIs (k : Kept) (r : Run) : Type 0 where
-  pub tables-held : k .tables ≡ tablesBytes (r .final .tables)
-  pub fast-held : k .fast ≡ r .final .fast
-  pub slow-held : k .slow ≡ r .final .slow
+  pub tables-are : k .tables ≡ tablesBytes (r .final .tables)
+  pub fast-is : k .fast ≡ r .final .fast
+  pub slow-is : k .slow ≡ r .final .slow
 
 -- ---- any calls, in any order
 
 -- of calls cs on what the caller kept, k, and the run r over their messages
-pub record CallsHeld (k : Kept) (cs : List Called) (r : Run) : Type 0 where
+pub record CallsHad (k : Kept) (cs : List Called) (r : Run) : Type 0 where
   pub each-had : EachHad k cs
   -- the turns of the calls, one call's behind the other's, are those of one run
   pub turns-joined : turnsThrough k cs ≡ r .turns
@@ -88,7 +87,7 @@ DemandsLent =
     FromFresh
     (λ p s fast slow k. (cs : List Called) → Calls k cs
     → let r = runFresh p s fast slow (messagesThrough cs) in
-    CallsHeld k cs r × AllHold p s fast slow (messagesThrough cs) (r .turns) (keptAfter k cs))
+    CallsHad k cs r × AllHold p s fast slow (messagesThrough cs) (r .turns) (keptAfter k cs))
 
 -- ---- a call file, all replies of which were taken
 
@@ -98,10 +97,10 @@ takenThrough (c ∷ cs) = taken c ++ takenThrough cs
 
 -- Of the bytes that a caller took and of what it keeps, after the run r over the file. A reply's own L tells it from
 -- the next, as a message's does; so the two lists of demand 3 are equal by what the caller took alone.
-pub record FileHeld (file bytes : List ℕ) (k : Kept) (r : Run) : Type 0 where
-  pub replies-held : bytes ≡ joinedReplies 70 (r .turns)
-  pub answers-held : flatAnswers none (messagesOf file) (map elevenHeld (messagesOf bytes))
-      ≡ answersHeld (messagesOf file) (messagesOf bytes)
+pub record FileTaken (file bytes : List ℕ) (k : Kept) (r : Run) : Type 0 where
+  pub replies-taken : bytes ≡ joinedReplies 70 (r .turns)
+  pub answers-taken : flatAnswers none (messagesOf file) (map elevenTaken (messagesOf bytes))
+      ≡ answersTaken (messagesOf file) (messagesOf bytes)
   pub kept-is : KeptIs k r
 
 -- by calls of `reel_replies`: each from the place on that the one before it told, with the tally that it left, and with
@@ -127,7 +126,7 @@ FileReplied =
     → length file ≤ placeReached 0 cs
     → let r = runFresh p s fast slow (messagesOf file) in
     let k′ = keptAfter k (map replied cs) in
-    FileHeld file (takenThrough (map replied cs)) k′ r
+    FileTaken file (takenThrough (map replied cs)) k′ r
     × (tallyReached n cs ≡ countedOn (r .turns) n)
     × AllHold p s fast slow (messagesOf file) (r .turns) k′)
 
@@ -159,7 +158,7 @@ FileAnswered =
     (λ p s fast slow k. (cs : List AnswerCall) → Calls k (map answered cs) → InFull cs
     → let r = runFresh p s fast slow (messagesOf (fileOf cs)) in
     let k′ = keptAfter k (map answered cs) in
-    FileHeld (fileOf cs) (takenThrough (map answered cs)) k′ r
+    FileTaken (fileOf cs) (takenThrough (map answered cs)) k′ r
     × (map (λ (c : AnswerCall). c .told) cs ≡ map (toldOf 70) (r .turns))
     × AllHold p s fast slow (messagesOf (fileOf cs)) (r .turns) k′)
 

@@ -1,3 +1,5 @@
 pub mod Calls
 pub mod Lent
+pub mod Read
 pub mod Witness
+pub mod WitnessRead

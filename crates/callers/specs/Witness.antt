@@ -23,36 +23,37 @@ use Rattle.messages.specs.Run.{answer, Turn, messagesOf, turnsOf, Run, buffer, 
 use Rattle.theorems.specs.Flat.{none, reactAs, reactTo, Answer}
 use Rattle.theorems.specs.Demand1.{allowed, refusalIn}
 use Rattle.theorems.specs.Demand3.{flatAfter, flatAnswers}
-use Rattle.theorems.specs.Held.{elevenHeld, answersHeld}
+use Rattle.theorems.specs.Caller.{elevenTaken, answersTaken}
 use Rattle.theorems.specs.Cases.{runOn}
 use Rattle.theorems.specs.Witness3.{But, file₃, fastBytes, slowBytes, start, made, first, answering}
 use Rattle.theorems.specs.Clean.{Blank, NoneHeld}
 use Rattle.theorems.specs.Retired.{threeNumbers}
-use Rattle.embed.specs.Bytes.{tablesBytes, pageBytes, tablesFrom, fromEach, pageFrom, marked, pageMarked}
+use Rattle.theorems.specs.Witness1.{buffer₇₀}
+use Rattle.embed.specs.Bytes.{tablesBytes, pageBytes, tablesFrom, fromEach, pageFrom, marksValid, pageMarksValid}
 use Rattle.embed.specs.Exports.{tablesOf, packed, Kept, kept, stateIn}
 use Rattle.callers.specs.Calls.{AnswerCall, RepliesCall, RunCall, answered, replied, outLent, outLeft, leftOf}
 use Rattle.callers.specs.Calls.{keptAfter, turnsThrough, toldOf, taken}
 use Rattle.callers.specs.Calls.{countedOn, AnswerHad, RepliesHad, RunHad, LeftAlone, EachHad}
-use Rattle.callers.specs.Lent.{InOrder, KeptIs, CallsHeld, FileHeld, numberTold, ObeysLent}
+use Rattle.callers.specs.Lent.{InOrder, KeptIs, CallsHad, FileTaken, numberTold, ObeysLent}
 
 -- ---- a call file
 
--- the fields of `FileHeld`, with those of `KeptIs`, and the tally
+-- the fields of `FileTaken`, with those of `KeptIs`, and the tally
 pub data Field : Type 0 where
-  replies-held : Field
-  answers-held : Field
-  tables-held : Field
-  fast-held : Field
-  slow-held : Field
-  tally-held : Field
+  replies-taken : Field
+  answers-taken : Field
+  tables-are : Field
+  fast-is : Field
+  slow-is : Field
+  tally-left : Field
 
 abbrev pub place : Field → ℕ
-place replies-held = 0
-place answers-held = 1
-place tables-held = 2
-place fast-held = 3
-place slow-held = 4
-place tally-held = 5
+place replies-taken = 0
+place answers-taken = 1
+place tables-are = 2
+place fast-is = 3
+place slow-is = 4
+place tally-left = 5
 
 -- what a caller has of the file: the bytes that it took, what it keeps, its tally; and the run over it
 pub record Holding : Type 0 where
@@ -66,45 +67,45 @@ naught = 0 ∷ 0 ∷ 0 ∷ []
 
 module _ (w : Holding) where
   abbrev pub Says : Field → Type 0
-  Says replies-held = w .bytes ≡ joinedReplies 70 (w .run .turns)
-  Says answers-held =
-      flatAnswers none (messagesOf file₃) (map elevenHeld (messagesOf (w .bytes)))
-      ≡ answersHeld (messagesOf file₃) (messagesOf (w .bytes))
-  Says tables-held = w .keeps .tables ≡ tablesBytes (w .run .final .tables)
-  Says fast-held = w .keeps .fast ≡ w .run .final .fast
-  Says slow-held = w .keeps .slow ≡ w .run .final .slow
-  Says tally-held = w .counted ≡ countedOn (w .run .turns) naught
+  Says replies-taken = w .bytes ≡ joinedReplies 70 (w .run .turns)
+  Says answers-taken =
+      flatAnswers none (messagesOf file₃) (map elevenTaken (messagesOf (w .bytes)))
+      ≡ answersTaken (messagesOf file₃) (messagesOf (w .bytes))
+  Says tables-are = w .keeps .tables ≡ tablesBytes (w .run .final .tables)
+  Says fast-is = w .keeps .fast ≡ w .run .final .fast
+  Says slow-is = w .keeps .slow ≡ w .run .final .slow
+  Says tally-left = w .counted ≡ countedOn (w .run .turns) naught
 
   -- they are what is said of a file
-  abbrev pub Held : Type 0
-  Held = FileHeld file₃ (w .bytes) (w .keeps) (w .run) × (w .counted ≡ countedOn (w .run .turns) naught)
+  abbrev pub FileCase : Type 0
+  FileCase = FileTaken file₃ (w .bytes) (w .keeps) (w .run) × (w .counted ≡ countedOn (w .run .turns) naught)
 
-  pub field-of : Held → (i : Field) → Says i
-  field-of h replies-held = h .0 .replies-held
-  field-of h answers-held = h .0 .answers-held
-  field-of h tables-held = h .0 .kept-is .tables-held
-  field-of h fast-held = h .0 .kept-is .fast-held
-  field-of h slow-held = h .0 .kept-is .slow-held
-  field-of h tally-held = h .1
+  pub field-of : FileCase → (i : Field) → Says i
+  field-of h replies-taken = h .0 .replies-taken
+  field-of h answers-taken = h .0 .answers-taken
+  field-of h tables-are = h .0 .kept-is .tables-are
+  field-of h fast-is = h .0 .kept-is .fast-is
+  field-of h slow-is = h .0 .kept-is .slow-is
+  field-of h tally-left = h .1
 
-  pub of-fields : ((i : Field) → Says i) → Held
+  pub of-fields : ((i : Field) → Says i) → FileCase
   of-fields k = (
     record {
-      replies-held = k replies-held;
-      answers-held = k answers-held;
-      kept-is = record { tables-held = k tables-held; fast-held = k fast-held; slow-held = k slow-held };
+      replies-taken = k replies-taken;
+      answers-taken = k answers-taken;
+      kept-is = record { tables-are = k tables-are; fast-is = k fast-is; slow-is = k slow-is };
     },
-    k tally-held,
+    k tally-left,
   )
 
-pub each : (X : Field → Type 0) → X replies-held → X answers-held → X tables-held → X fast-held → X slow-held
-    → X tally-held → (i : Field) → X i
-each X a b c d e f replies-held = a
-each X a b c d e f answers-held = b
-each X a b c d e f tables-held = c
-each X a b c d e f fast-held = d
-each X a b c d e f slow-held = e
-each X a b c d e f tally-held = f
+pub each : (X : Field → Type 0) → X replies-taken → X answers-taken → X tables-are → X fast-is → X slow-is
+    → X tally-left → (i : Field) → X i
+each X a b c d e f replies-taken = a
+each X a b c d e f answers-taken = b
+each X a b c d e f tables-are = c
+each X a b c d e f fast-is = d
+each X a b c d e f slow-is = e
+each X a b c d e f tally-left = f
 
 -- the replies to the create and to the read, which is answered n
 abbrev pub replies₃ : ℕ → List ℕ
@@ -121,46 +122,43 @@ keeping k = holding (replies₃ 10) k (2 ∷ 1 ∷ 0 ∷ []) (answering 10)
 
 abbrev pub wrong : Field → Holding
 -- a byte too many
-wrong replies-held = holding (replies₃ 10 ++ (0 ∷ [])) kept₃ (2 ∷ 1 ∷ 0 ∷ []) (answering 10)
+wrong replies-taken = holding (replies₃ 10 ++ (0 ∷ [])) kept₃ (2 ∷ 1 ∷ 0 ∷ []) (answering 10)
 -- another number
-wrong answers-held = holding (replies₃ 9) kept₃ (2 ∷ 1 ∷ 0 ∷ []) (answering 9)
+wrong answers-taken = holding (replies₃ 9) kept₃ (2 ∷ 1 ∷ 0 ∷ []) (answering 9)
 -- the tables as they were lent; a byte of a store that changed
-wrong tables-held = keeping (kept (tablesBytes (start .tables)) fastBytes slowBytes)
-wrong fast-held = keeping (kept (tablesBytes (made .tables)) (set fastBytes 0 0) slowBytes)
-wrong slow-held = keeping (kept (tablesBytes (made .tables)) fastBytes (set slowBytes 0 0))
+wrong tables-are = keeping (kept (tablesBytes (start .tables)) fastBytes slowBytes)
+wrong fast-is = keeping (kept (tablesBytes (made .tables)) (set fastBytes 0 0) slowBytes)
+wrong slow-is = keeping (kept (tablesBytes (made .tables)) fastBytes (set slowBytes 0 0))
 -- a refusal that is not counted
-wrong tally-held = holding (replies₃ 10) kept₃ (2 ∷ 0 ∷ 0 ∷ []) (answering 10)
+wrong tally-left = holding (replies₃ 10) kept₃ (2 ∷ 0 ∷ 0 ∷ []) (answering 10)
 
 -- field j of what is wrong in field i: ruled out by its own field, and by no other
 abbrev pub Row : Field → Field → Type 0
 Row i j = But (eqb (place i) (place j)) (Says (wrong i) j)
 
 pub alone : (i j : Field) → Row i j
-unfolding runOn flatten flatMap flatAnswers flatAfter answersHeld reactAs reactTo tablesBytes pageBytes tally upTo
-alone replies-held =
-    each (Row replies-held) (λ e. false≢true (ap (λ (l : List ℕ). eqb (length l) 12) e)) refl refl refl refl refl
-alone answers-held =
-    each (Row answers-held) refl
+unfolding runOn flatten flatMap flatAnswers flatAfter answersTaken reactAs reactTo tablesBytes pageBytes tally upTo
+alone replies-taken =
+    each (Row replies-taken) (λ e. false≢true (ap (λ (l : List ℕ). eqb (length l) 12) e)) refl refl refl refl refl
+alone answers-taken =
+    each (Row answers-taken) refl
     (λ e. false≢true (ap (λ (l : List Answer). eqb (getD (map (λ (x : Answer). x .number) l) 1 0) 9) e))
     refl refl refl refl
-alone tables-held =
-    each (Row tables-held) refl refl (λ e. false≢true (ap (λ (l : List ℕ). eqb (getD l 253 0) 1) e)) refl refl refl
-alone fast-held =
-    each (Row fast-held) refl refl refl (λ e. true≢false (ap (λ (l : List ℕ). eqb (getD l 0 1) 0) e)) refl refl
-alone slow-held =
-    each (Row slow-held) refl refl refl refl (λ e. true≢false (ap (λ (l : List ℕ). eqb (getD l 0 1) 0) e)) refl
-alone tally-held =
-    each (Row tally-held) refl refl refl refl refl (λ e. false≢true (ap (λ (l : List ℕ). eqb (getD l 1 0) 1) e))
+alone tables-are =
+    each (Row tables-are) refl refl (λ e. false≢true (ap (λ (l : List ℕ). eqb (getD l 253 0) 1) e)) refl refl refl
+alone fast-is =
+    each (Row fast-is) refl refl refl (λ e. true≢false (ap (λ (l : List ℕ). eqb (getD l 0 1) 0) e)) refl refl
+alone slow-is =
+    each (Row slow-is) refl refl refl refl (λ e. true≢false (ap (λ (l : List ℕ). eqb (getD l 0 1) 0) e)) refl
+alone tally-left =
+    each (Row tally-left) refl refl refl refl refl (λ e. false≢true (ap (λ (l : List ℕ). eqb (getD l 1 0) 1) e))
 
 -- ---- calls, by the turn of the create or by none: a field fails, and those beside it hold
 
 abbrev pub kept₁ : Kept
 kept₁ = kept (tablesBytes (start .tables)) fastBytes slowBytes
 
--- 70 bytes that were lent, and the same with the reply to the create at their front
-abbrev pub slip : List ℕ
-slip = replicate 70 0xAA
-
+-- the reply to the create, which stands at the front of 70 bytes that were lent (`buffer₇₀`)
 abbrev pub six : List ℕ
 six = 0 ∷ 4 ∷ 1 ∷ 0 ∷ 0 ∷ 0 ∷ []
 
@@ -173,7 +171,7 @@ repliesCall out′ n =
     record {
       file = 0 ∷ 4 ∷ 1 ∷ 1 ∷ 3 ∷ 5 ∷ [];
       at = 0;
-      out = slip;
+      out = buffer₇₀;
       tally = naught;
       left = kept₃;
       out′ = out′;
@@ -186,7 +184,7 @@ abbrev pub runCall : List ℕ → List ℕ → RunCall
 runCall out′ n =
     record {
       file = 0 ∷ 4 ∷ 1 ∷ 1 ∷ 3 ∷ 5 ∷ [];
-      out = slip;
+      out = buffer₇₀;
       tally = naught;
       left = kept₃;
       out′ = out′;
@@ -197,35 +195,35 @@ abbrev pub created₁ : List Turn
 created₁ = first ∷ []
 
 -- `AnswerHad`: bytes laid that are told and were not; another reply
-pub told-alone : let c = answerCall slip kept₃ (over six slip) (packed 0 6 64) in
+pub told-alone : let c = answerCall buffer₇₀ kept₃ (over six buffer₇₀) (packed 0 6 64) in
     (AnswerHad c created₁ → ⊥) × (taken (answered c) ≡ joinedReplies 70 created₁)
 unfolding flatten reply
 told-alone = (λ h. false≢true (ap (λ (l : List ℕ). eqb (getD l 0 0) 1536) (h .told-had)), refl)
 
-pub answer-alone : let c = answerCall slip kept₃ slip (packed 0 6 0) in
+pub answer-alone : let c = answerCall buffer₇₀ kept₃ buffer₇₀ (packed 0 6 0) in
     (AnswerHad c created₁ → ⊥) × (c .told ∷ [] ≡ map (toldOf 70) created₁)
 unfolding flatten reply
 answer-alone = (λ h. false≢true (ap (λ (l : List ℕ). eqb (getD l 0 0) 0) (h .replies-had)), refl)
 
 -- `RepliesHad`: another reply; a message that is not counted
-pub replies-alone : let c = repliesCall slip (1 ∷ 0 ∷ 0 ∷ []) in
+pub replies-alone : let c = repliesCall buffer₇₀ (1 ∷ 0 ∷ 0 ∷ []) in
     (RepliesHad c created₁ → ⊥) × (c .tally′ ≡ countedOn created₁ naught)
 unfolding flatten reply tally upTo
 replies-alone = (λ h. false≢true (ap (λ (l : List ℕ). eqb (getD l 0 0) 0) (h .replies-had)), refl)
 
-pub replies-tally-alone : let c = repliesCall (over six slip) naught in
+pub replies-tally-alone : let c = repliesCall (over six buffer₇₀) naught in
     (RepliesHad c created₁ → ⊥) × (taken (replied c) ≡ joinedReplies 70 created₁)
 unfolding flatten reply tally upTo
 replies-tally-alone = (λ h. false≢true (ap (λ (l : List ℕ). eqb (getD l 0 0) 1) (h .tally-had)), refl)
 
 -- `RunHad`: no reply left; a message that is not counted
-pub buffer-alone : let c = runCall slip (1 ∷ 0 ∷ 0 ∷ []) in
+pub buffer-alone : let c = runCall buffer₇₀ (1 ∷ 0 ∷ 0 ∷ []) in
     (RunHad c created₁ → ⊥) × (c .tally′ ≡ countedOn created₁ naught)
 unfolding buffer reply tally upTo
 buffer-alone = (λ h. false≢true (ap (λ (l : List ℕ). eqb (getD l 0 0) 0) (h .buffer-had)), refl)
 
-pub run-tally-alone : let c = runCall (over six slip) naught in
-    (RunHad c created₁ → ⊥) × (c .out′ ≡ buffer 70 created₁ slip)
+pub run-tally-alone : let c = runCall (over six buffer₇₀) naught in
+    (RunHad c created₁ → ⊥) × (c .out′ ≡ buffer 70 created₁ buffer₇₀)
 unfolding buffer reply tally upTo
 run-tally-alone = (λ h. false≢true (ap (λ (l : List ℕ). eqb (getD l 0 0) 1) (h .tally-had)), refl)
 
@@ -235,28 +233,28 @@ pub unit-alone : let k′ = kept (tablesBytes (start .tables)) slowBytes slowByt
     (LeftAlone kept₁ c → ⊥) × (outLeft c ≡ outLent c)
 unit-alone = (λ h. false≢true (ap (λ (k : Kept). eqb (getD (k .fast) 0 0) 0xEE) (h (omega arith) .0)), refl)
 
-pub slip-alone : let c = answered (answerCall (7 ∷ []) kept₁ (0 ∷ []) 18) in
+pub short-alone : let c = answered (answerCall (7 ∷ []) kept₁ (0 ∷ []) 18) in
     (LeftAlone kept₁ c → ⊥) × (leftOf c ≡ kept₁)
-slip-alone = (λ h. false≢true (ap (λ (l : List ℕ). eqb (getD l 0 0) 7) (h (omega arith) .1)), refl)
+short-alone = (λ h. false≢true (ap (λ (l : List ℕ). eqb (getD l 0 0) 7) (h (omega arith) .1)), refl)
 
--- `CallsHeld`: a short buffer that is answered 9 in place of 18; a turn that no call had. `KeptIs` has its own above.
+-- `CallsHad`: a short buffer that is answered 9 in place of 18; a turn that no call had. `KeptIs` has its own above.
 abbrev pub unmoved : List Turn → Run
 unmoved ts = record { turns = ts; final = start }
 
 pub each-alone : let cs = answered (answerCall [] kept₁ [] 9) ∷ [] in
-    (CallsHeld kept₁ cs (unmoved []) → ⊥) × (turnsThrough kept₁ cs ≡ []) × KeptIs (keptAfter kept₁ cs) (unmoved [])
+    (CallsHad kept₁ cs (unmoved []) → ⊥) × (turnsThrough kept₁ cs ≡ []) × KeptIs (keptAfter kept₁ cs) (unmoved [])
 unfolding turnsOf answer
 each-alone = (
   λ h. false≢true (ap (λ (l : List ℕ). eqb (getD l 0 0) 18) (h .each-had .0 .told-had)),
   refl,
-  record { tables-held = refl; fast-held = refl; slow-held = refl },
+  record { tables-are = refl; fast-is = refl; slow-is = refl },
 )
 
-pub joined-alone : (CallsHeld kept₁ [] (unmoved created₁) → ⊥) × EachHad kept₁ [] × KeptIs kept₁ (unmoved created₁)
+pub joined-alone : (CallsHad kept₁ [] (unmoved created₁) → ⊥) × EachHad kept₁ [] × KeptIs kept₁ (unmoved created₁)
 joined-alone = (
   λ h. true≢false (ap (λ (ts : List Turn). eqb (length ts) 0) (h .turns-joined)),
   tt,
-  record { tables-held = refl; fast-held = refl; slow-held = refl },
+  record { tables-are = refl; fast-is = refl; slow-is = refl },
 )
 
 -- ---- one message on any bytes
@@ -329,16 +327,16 @@ tried out k out′ r = record { out = out; keeps = k; out′ = out′; told = r 
 -- a read of an absent page is refused with 9, in six bytes
 abbrev pub wrongAnswer : Part → Tried
 -- a number that is for making tables
-wrongAnswer in-table = tried slip kept₁ (over (0 ∷ 4 ∷ 1 ∷ 19 ∷ 0 ∷ 0 ∷ []) slip) (packed 19 6 0)
+wrongAnswer in-table = tried buffer₇₀ kept₁ (over (0 ∷ 4 ∷ 1 ∷ 19 ∷ 0 ∷ 0 ∷ []) buffer₇₀) (packed 19 6 0)
 -- 9 where 18 comes first
 wrongAnswer short = tried [] kept₁ [] 9
 -- a byte of the fast store changed
 wrongAnswer unchanged =
-    tried slip (kept (tablesBytes (start .tables)) (set fastBytes 0 0) slowBytes)
-    (over (0 ∷ 4 ∷ 1 ∷ 9 ∷ 0 ∷ 0 ∷ []) slip) (packed 9 6 0)
+    tried buffer₇₀ (kept (tablesBytes (start .tables)) (set fastBytes 0 0) slowBytes)
+    (over (0 ∷ 4 ∷ 1 ∷ 9 ∷ 0 ∷ 0 ∷ []) buffer₇₀) (packed 9 6 0)
 -- bytes laid: told, or in the reply
-wrongAnswer told-fixed = tried slip kept₁ (over (0 ∷ 4 ∷ 1 ∷ 9 ∷ 0 ∷ 0 ∷ []) slip) (packed 9 6 64)
-wrongAnswer fixed = tried slip kept₁ (over (0 ∷ 4 ∷ 1 ∷ 9 ∷ 0 ∷ 64 ∷ []) slip) (packed 9 6 0)
+wrongAnswer told-fixed = tried buffer₇₀ kept₁ (over (0 ∷ 4 ∷ 1 ∷ 9 ∷ 0 ∷ 0 ∷ []) buffer₇₀) (packed 9 6 64)
+wrongAnswer fixed = tried buffer₇₀ kept₁ (over (0 ∷ 4 ∷ 1 ∷ 9 ∷ 0 ∷ 64 ∷ []) buffer₇₀) (packed 9 6 0)
 
 abbrev pub PartRow : Part → Part → Type 0
 PartRow i j = But (eqb (partPlace i) (partPlace j)) (Tells (wrongAnswer i) j)
@@ -346,7 +344,7 @@ PartRow i j = But (eqb (partPlace i) (partPlace j)) (Tells (wrongAnswer i) j)
 is-nine : 9 ≢ accepted
 is-nine e = omega arith
 
-roomy : {A : Type 0} → length slip < 70 → A
+roomy : {A : Type 0} → length buffer₇₀ < 70 → A
 roomy h = absurd (omega arith)
 
 pub part-alone : (i j : Part) → PartRow i j
@@ -442,7 +440,8 @@ not-zeros : {A : Type 0} → slowBytes ≡ replicate (64 * 1) 0 → A
 not-zeros e = absurd (false≢true (ap (λ (l : List ℕ). eqb (getD l 0 1) 0) e))
 
 pub order-alone : (i j : Order) → OrderRow i j
-unfolding runOn flatMap tablesBytes pageBytes tablesFrom fromEach pageFrom marked pageMarked eachIs countBelow free
+unfolding runOn flatMap tablesBytes pageBytes tablesFrom fromEach pageFrom marksValid pageMarksValid eachIs countBelow
+    free
 order-alone ruled = each-order (OrderRow ruled) (λ e. true≢false (ap (λ (n : ℕ). eqb n 5) e)) refl not-zeros not-zeros
 order-alone add-up = each-order (OrderRow add-up) refl (λ e. true≢false (ap (λ (n : ℕ). eqb n 3) e)) not-zeros not-zeros
 order-alone card-blank =

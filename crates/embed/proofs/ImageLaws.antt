@@ -1,7 +1,7 @@
 -- The forms of an entry, a page and the tables. Sound tables are read back from their bytes, and bytes that hold tables
 -- are those of the tables that are read from them.
 use Prim.Native.Nat.{ℕ, _<_}
-use mathlib.Core.Bool.{Bool, true}
+use mathlib.Core.Bool.{true}
 use mathlib.Core.Path.{_≡_, refl, sym, _∙_}
 use mathlib.Core.List.{List, [], append-nil}
 use native.Mathlib.Omega.{arith}
@@ -17,8 +17,8 @@ use Rattle.tables.specs.Rules.{shaped, pageRule, sound}
 use Rattle.tables.proofs.ListLaws.{and-true, and-left, and-right}
 use Rattle.tables.proofs.RuleLaws.{sound-of}
 use Rattle.tables.proofs.RegisterLaws.{register-fits}
-use Rattle.steps.specs.Data.{copyMarked}
-use Rattle.embed.specs.Bytes.{pageSize, tablesSize, copyBytes, pageBytes, tablesBytes, pageMarked, marked}
+use Rattle.steps.specs.Data.{copyMarksValid}
+use Rattle.embed.specs.Bytes.{pageSize, tablesSize, copyBytes, pageBytes, tablesBytes, pageMarksValid, marksValid}
 use Rattle.embed.specs.Bytes.{copyFrom, pageFrom, tablesFrom}
 use Rattle.embed.specs.Exports.{tablesSized, tablesIn}
 use Rattle.embed.proofs.Forms.{AreBytes, Form, some-bytes, a-byte, a-mark, a-number, a-row, each-anything}
@@ -26,7 +26,7 @@ use Rattle.embed.proofs.Forms.{and-then, a-struct}
 
 -- ---- an entry, a page, the tables
 
-pub copy-form : Form 3 copyBytes copyFrom copyMarked (λ (c : Copy). Unit {0})
+pub copy-form : Form 3 copyBytes copyFrom copyMarksValid (λ (c : Copy). Unit {0})
 copy-form =
     a-struct (and-then a-byte (and-then a-mark a-mark))
     (λ (c : Copy). (c .frame, (c .current, c .recent)))
@@ -39,8 +39,8 @@ pub record PageFormed (g : Page) : Type 0 where
   pub rights-long : length (g .rights) ≡ 16
   pub copies-long : length (g .copies) ≡ 8
 
-pub page-form : Form pageSize pageBytes pageFrom pageMarked PageFormed
-unfolding pageBytes pageFrom pageMarked
+pub page-form : Form pageSize pageBytes pageFrom pageMarksValid PageFormed
+unfolding pageBytes pageFrom pageMarksValid
 page-form =
     a-struct (and-then (some-bytes 16) (and-then (a-row copy-form 8 zeroCopy) (and-then a-byte a-byte)))
     (λ (g : Page). (g .rights, (g .copies, (g .owner, g .n))))
@@ -56,8 +56,8 @@ pub record Formed (t : Tables) : Type 0 where
   pub register-long : length (t .register) ≡ 254
   pub register-low : (f : ℕ) → f < 254 → getD (t .register) f freeEntry < 65536
 
-pub tables-form : Form tablesSize tablesBytes tablesFrom marked Formed
-unfolding tablesBytes tablesFrom marked
+pub tables-form : Form tablesSize tablesBytes tablesFrom marksValid Formed
+unfolding tablesBytes tablesFrom marksValid
 tables-form =
     a-struct
     (and-then a-byte (and-then a-byte (and-then (a-row page-form 64 zeroPage) (a-row a-number 254 freeEntry))))
@@ -93,17 +93,17 @@ pub from-bytes : (t : Tables) → sound t ≡ true → tablesFrom (tablesBytes t
 from-bytes t e = rw append-nil at (tables-form .back t (sound-formed t e) [])
 
 -- whose marks are right
-pub bytes-marked : (t : Tables) → sound t ≡ true → marked (tablesBytes t) ≡ true
+pub bytes-marked : (t : Tables) → sound t ≡ true → marksValid (tablesBytes t) ≡ true
 bytes-marked t e = rw append-nil at (tables-form .passed t (sound-formed t e) [])
 
 -- ---- bytes that hold tables
 
 -- they are as many as tables take
 pub in-sized : (b : List ℕ) → tablesIn b ≡ true → length b ≡ tablesSize
-in-sized b e = eqb-true (length b) tablesSize (and-left (tablesSized b) (marked b) e)
+in-sized b e = eqb-true (length b) tablesSize (and-left (tablesSized b) (marksValid b) e)
 
 -- tables that are put back unchanged are the bytes that they were
 pub tables-same : (b : List ℕ) → AreBytes b → tablesIn b ≡ true → tablesBytes (tablesFrom b) ≡ b
 tables-same b low e =
     let n = in-sized b e in
-    tables-form .same b low (omega arith) (and-right (tablesSized b) (marked b) e) ∙ take-all tablesSize b (omega arith)
+    tables-form .same b low (omega arith) (and-right (tablesSized b) (marksValid b) e) ∙ take-all tablesSize b (omega arith)

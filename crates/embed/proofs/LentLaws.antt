@@ -6,14 +6,11 @@ use mathlib.Core.Path.{_≡_, refl, sym, ap, _∙_}
 use lib.ListN.{length, drop}
 use borrow.Author.Tests.{eq-eqb}
 use Rattle.tables.specs.declared.Tables.{Tables}
-use Rattle.tables.specs.Model.{freshTables}
 use Rattle.tables.specs.Lists.{all}
-use Rattle.tables.specs.Numbers.{brokenTables}
-use Rattle.tables.specs.Rules.{sizesRule, sound}
+use Rattle.tables.specs.Rules.{sound}
 use Rattle.tables.proofs.ListLaws.{and-true, and-left, and-right, and-intro}
-use Rattle.steps.specs.declared.Call.{Call}
 use Rattle.steps.specs.Steps.{Outcome, refuse, accept}
-use Rattle.steps.specs.Effects.{State, Result, step, left}
+use Rattle.steps.specs.Effects.{State, Result, left}
 use Rattle.messages.specs.Replies.{replyIn, isRefusal}
 use Rattle.messages.specs.Run.{Sent, Turn, answer, turnOf, leftBy, turnsOf, endOf, messagesOf, run}
 use Rattle.messages.specs.Run.{full, served, stateAfter, partFrom}
@@ -53,16 +50,6 @@ pub left-in : (b fast slow : List ℕ) (o : Outcome Result) → AreBytes b
     → withTables b (left (lentState b fast slow) o .tables) ≡ leftIn b o
 left-in b fast slow (refuse n) low = put-back-same b low
 left-in b fast slow (accept r) low = refl
-
-no-tables-broken : sound noTables ≡ false
-unfolding sound sizesRule freshTables
-no-tables-broken = refl
-
--- a call on bytes that hold no tables is refused with 5
-pub lent-broken : (b fast slow : List ℕ) (c : Call) (bs : List ℕ) → tablesIn b ≡ false
-    → step (lentState b fast slow) c bs ≡ refuse brokenTables
-unfolding step
-lent-broken b fast slow c bs z = rw (z, no-tables-broken)
 
 -- ---- refused runs
 

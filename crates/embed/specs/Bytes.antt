@@ -9,7 +9,7 @@ use Rattle.tables.specs.declared.Copy.{Copy}
 use Rattle.tables.specs.declared.Page.{Page}
 use Rattle.tables.specs.declared.Tables.{Tables}
 use Rattle.tables.specs.Model.{sized}
-use Rattle.steps.specs.Data.{copyMarked, eachIs}
+use Rattle.steps.specs.Data.{copyMarksValid, eachIs}
 
 -- ---- sizes
 
@@ -73,9 +73,9 @@ tablesFrom b =
 
 -- ---- the marks
 
-unfoldable pub pageMarked : List ℕ → Bool
-pageMarked b = eachIs 8 3 copyMarked (drop 16 b)
+unfoldable pub pageMarksValid : List ℕ → Bool
+pageMarksValid b = eachIs 8 3 copyMarksValid (drop 16 b)
 
 -- whether both marks of each entry of every page are 0 or 1
-unfoldable pub marked : List ℕ → Bool
-marked b = eachIs 64 pageSize pageMarked (drop 2 b)
+unfoldable pub marksValid : List ℕ → Bool
+marksValid b = eachIs 64 pageSize pageMarksValid (drop 2 b)

@@ -9,10 +9,11 @@ use Rattle.tables.specs.declared.Tables.{Tables}
 use Rattle.tables.specs.Lists.{all}
 use Rattle.tables.specs.Numbers.{brokenTables}
 use Rattle.tables.specs.Model.{freshTables, made}
+use Rattle.steps.specs.declared.Call.{Call}
 use Rattle.steps.specs.declared.Place.{Place}
 use Rattle.steps.specs.Stores.{over}
 use Rattle.steps.specs.Steps.{Outcome, refuse, accept, numberOf}
-use Rattle.steps.specs.Effects.{State, Result, left, laidBy}
+use Rattle.steps.specs.Effects.{State, Result, left, laidBy, readPlace}
 use Rattle.steps.specs.Promises.{stateOf, Lent, lent}
 use Rattle.messages.specs.declared.Tally.{Tally}
 use Rattle.messages.specs.Replies.{replyIn, isRefusal}
@@ -21,7 +22,7 @@ use Rattle.messages.specs.Promises.{sentAlone}
 use Rattle.stations.specs.declared.Reading.{Reading}
 use Rattle.stations.specs.declared.Reading.the-variants.{Refused, Reply}
 use Rattle.stations.specs.Writer.{messageIn}
-use Rattle.embed.specs.Bytes.{tablesSize, tablesBytes, tablesFrom, marked}
+use Rattle.embed.specs.Bytes.{tablesSize, tablesBytes, tablesFrom, marksValid}
 
 -- ---- version
 
@@ -41,7 +42,7 @@ tablesSized b = eqb (length b) tablesSize
 
 -- whether they hold tables: each mark is 0 or 1
 abbrev pub tablesIn : List ℕ → Bool
-tablesIn b = tablesSized b && marked b
+tablesIn b = tablesSized b && marksValid b
 
 -- tables that break a rule: P is above 127
 abbrev pub noTables : Tables
@@ -55,13 +56,13 @@ tablesOf b = cond (tablesIn b) (tablesFrom b) noTables
 abbrev pub withTables : List ℕ → Tables → List ℕ
 withTables b t = cond (tablesIn b) (tablesBytes t) b
 
--- a number, and the bytes of tables
-pub record Numbered : Type 0 where
+-- what `reel_fresh` gives: its number, and the lent bytes as it leaves them
+pub record FreshResult : Type 0 where
   pub number : ℕ
   pub bytes : List ℕ
 
 -- fresh tables into lent bytes, whatever they held; bytes of another length are left alone
-abbrev pub freshInto : ℕ → ℕ → List ℕ → Numbered
+abbrev pub freshInto : ℕ → ℕ → List ℕ → FreshResult
 freshInto p s b =
     record {
       number = cond (tablesSized b) (made p s .number) brokenTables;
@@ -73,13 +74,13 @@ freshInto p s b =
 abbrev pub tallySized : List ℕ → Bool
 tallySized l = eqb (length l) 3
 
--- the tally in three lent numbers; others count for zeros
+-- the tally in three lent numbers; any other number of them counts as a tally of zeros
 abbrev pub tallyOf : List ℕ → Tally
 tallyOf l =
     cond (tallySized l) (record { messages = getD l 0 0; refusals = getD l 1 0; laid = getD l 2 0 })
     (record { messages = 0; refusals = 0; laid = 0 })
 
--- lent numbers with n put into them; others than three are left alone
+-- three lent numbers with the tally n put into them; any other number of them is left alone
 abbrev pub withTally : List ℕ → Tally → List ℕ
 withTally l n = cond (tallySized l) (n .messages ∷ n .refusals ∷ n .laid ∷ []) l
 
@@ -92,6 +93,10 @@ storeNumber slow = cond slow 1 0
 -- the length, the store and the offset in it, in one; 0 where a read is refused
 abbrev pub placeNumber : Place → ℕ
 placeNumber place = place .len + 256 * storeNumber (place .slow) + 65536 * place .start
+
+-- the number that `reel_read` gives of a read c on the tables in lent bytes, with stores of these lengths
+abbrev pub readNumber : List ℕ → ℕ → ℕ → Call → ℕ
+readNumber b fast slow c = placeNumber (readPlace (tablesOf b) fast slow c)
 
 -- ---- what a message and a run leave
 

@@ -13,10 +13,10 @@ ghost use mathlib.Core.List.{flatMap};
 ghost use Prim.Native.Nat.{_+_, _*_, _≤_};
 ghost use lib.ListN.{length, take, drop};
 ghost use lib.Seq.{sets};
-ghost use Rattle.steps.specs.Data.{copyMarked};
+ghost use Rattle.steps.specs.Data.{copyMarksValid};
 ghost use Rattle.embed.specs.Bytes.{pageSize, registerAt, tablesSize};
 ghost use Rattle.embed.specs.Bytes.{markByte, copyBytes, pageBytes, le16, tablesBytes};
-ghost use Rattle.embed.specs.Bytes.{fromEach, copyFrom, pageFrom, entryFrom, tablesFrom, pageMarked, marked};
+ghost use Rattle.embed.specs.Bytes.{fromEach, copyFrom, pageFrom, entryFrom, tablesFrom, pageMarksValid, marksValid};
 
 // How many bytes a page takes.
 const PAGE_SIZE: usize = 42;
@@ -63,7 +63,8 @@ fn copy_from(bytes: &[u8], at: usize) -> Copy
     }
 }
 
-// What a place holds before it is read over. All zeros would be set byte by byte, this by sixteen.
+// What an element holds until it is read from the bytes. The compiler sets it sixteen bytes at a time, zeros one by
+// one.
 fn no_copy() -> Copy {
     Copy {
         frame: NULL_FRAME,
@@ -142,35 +143,35 @@ pub(crate) fn tables_from(bytes: &[u8]) -> Tables
 
 // ---- the marks
 
-fn copy_marked(bytes: &[u8], at: usize) -> bool
+fn copy_marks_valid(bytes: &[u8], at: usize) -> bool
     requires { ⌜ at + 3 ≤ length (now bytes) ⌝ }
-    ensures { λ r. ⌜ r ≡ copyMarked (drop at (now (bytes .entry))) ⌝ }
+    ensures { λ r. ⌜ r ≡ copyMarksValid (drop at (now (bytes .entry))) ⌝ }
 {
     (bytes[at + 1] < 2) & (bytes[at + 2] < 2)
 }
 
 // No branch within a page: its sixteen marks are nearly always right.
-fn page_marked(bytes: &[u8], at: usize) -> bool
+fn page_marks_valid(bytes: &[u8], at: usize) -> bool
     requires { ⌜ at + pageSize ≤ length (now bytes) ⌝ }
-    ensures { λ r. ⌜ r ≡ pageMarked (drop at (now (bytes .entry))) ⌝ }
+    ensures { λ r. ⌜ r ≡ pageMarksValid (drop at (now (bytes .entry))) ⌝ }
 {
     let mut ok = true;
     let mut i: usize = 0;
     while i < 8 {
-        let c = copy_marked(bytes, at + 16 + 3 * i);
+        let c = copy_marks_valid(bytes, at + 16 + 3 * i);
         ok = ok & c;
         i += 1;
     }
     ok
 }
 
-pub(crate) fn marked(bytes: &[u8]) -> bool
+pub(crate) fn marks_valid(bytes: &[u8]) -> bool
     requires { ⌜ length (now bytes) ≡ tablesSize ⌝ }
-    ensures { λ r. ⌜ r ≡ marked (now (bytes .entry)) ⌝ }
+    ensures { λ r. ⌜ r ≡ marksValid (now (bytes .entry)) ⌝ }
 {
     let mut i: usize = 0;
     while i < 64 {
-        if !page_marked(bytes, 2 + PAGE_SIZE * i) {
+        if !page_marks_valid(bytes, 2 + PAGE_SIZE * i) {
             return false;
         }
         i += 1;

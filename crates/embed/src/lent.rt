@@ -1,6 +1,6 @@
 // What is lent: bytes of any length for the tables, numbers for a tally, and numbers packed into one.
 use crate::image::TABLES_SIZE;
-use crate::image::marked;
+use crate::image::marks_valid;
 use crate::image::put_tables;
 use crate::image::tables_from;
 use messages::Tally;
@@ -31,18 +31,18 @@ pub(crate) fn holds_tables(bytes: &[u8]) -> bool
     ensures { λ r. ⌜ r ≡ tablesIn (now (bytes .entry)) ⌝ }
 {
     if bytes.len() == TABLES_SIZE {
-        marked(bytes)
+        marks_valid(bytes)
     } else {
         false
     }
 }
 
 // The tables in lent bytes, where it is known whether they hold any.
-pub(crate) fn tables_held(held: bool, bytes: &[u8]) -> Tables
-    requires { ⌜ held ≡ tablesIn (now bytes) ⌝ }
+pub(crate) fn tables_where(holds: bool, bytes: &[u8]) -> Tables
+    requires { ⌜ holds ≡ tablesIn (now bytes) ⌝ }
     ensures { λ r. ⌜ r ≡ tablesOf (now (bytes .entry)) ⌝ }
 {
-    if held {
+    if holds {
         tables_from(bytes)
     } else {
         no_tables()
@@ -52,8 +52,8 @@ pub(crate) fn tables_held(held: bool, bytes: &[u8]) -> Tables
 pub fn tables_of(bytes: &[u8]) -> Tables
     ensures { λ r. ⌜ r ≡ tablesOf (now (bytes .entry)) ⌝ }
 {
-    let held = holds_tables(bytes);
-    tables_held(held, bytes)
+    let holds = holds_tables(bytes);
+    tables_where(holds, bytes)
 }
 
 // Lays tables into lent bytes where that is wanted.
@@ -69,8 +69,8 @@ pub(crate) fn put_where(wanted: bool, tables: Tables, bytes: &mut [u8])
 pub fn put_back(tables: Tables, bytes: &mut [u8])
     ensures { λ _. ⌜ now (bytes .exit) ≡ withTables (now (bytes .entry)) tables ⌝ }
 {
-    let held = holds_tables(&bytes[..]);
-    put_where(held, tables, bytes);
+    let holds = holds_tables(&bytes[..]);
+    put_where(holds, tables, bytes);
 }
 
 pub(crate) fn tally_of(numbers: &[u32]) -> Tally

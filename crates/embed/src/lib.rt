@@ -12,8 +12,8 @@ pub use lent::put_back;
 use lent::put_tally;
 use lent::put_where;
 use lent::reading_number;
-use lent::tables_held;
 pub use lent::tables_of;
+use lent::tables_where;
 use lent::tally_of;
 use messages::answer;
 use messages::fill;
@@ -27,11 +27,11 @@ use tables::Tables;
 ghost use mathlib.Core.Path.{_≡_};
 ghost use mathlib.Core.List.{[], _∷_};
 ghost use lib.ListN.{length};
-ghost use Rattle.steps.specs.Effects.{readCall, readPlace};
+ghost use Rattle.steps.specs.Effects.{readCall};
 ghost use Rattle.steps.specs.Steps.{rulesNumber};
 ghost use Rattle.stations.specs.Writer.{writtenAs};
 ghost use Rattle.stations.specs.Reader.{readReply};
-ghost use Rattle.embed.specs.Exports.{version, tablesOf, freshInto, placeNumber, kept};
+ghost use Rattle.embed.specs.Exports.{version, tablesOf, freshInto, readNumber, kept};
 ghost use Rattle.embed.specs.Exports.{AnswerPromised, RunPromised, RepliesPromised, WriteLent, readingNumber};
 
 // The version of what C and Rust see: these functions, and the tables as bytes.
@@ -84,8 +84,7 @@ pub extern "C" fn reel_read(
     offset: u8,
     count: u8,
 ) -> u32
-    ensures { λ r. ⌜ r ≡ placeNumber
-        (readPlace (tablesOf (now (tables .entry))) fast slow (readCall station page offset count)) ⌝ }
+    ensures { λ r. ⌜ r ≡ readNumber (now (tables .entry)) fast slow (readCall station page offset count) ⌝ }
 {
     let t = tables_of(tables);
     let place = read_place(t, fast, slow, station, page, offset, count);
@@ -106,10 +105,10 @@ pub extern "C" fn reel_answer(
         (now (message .entry)) (now (out .entry))
         (kept (now (tables .exit)) (now (fast .exit)) (now (slow .exit))) (now (out .exit)) r ⌝ }
 {
-    let held = holds_tables(&tables[..]);
-    let before = tables_held(held, &tables[..]);
+    let holds = holds_tables(&tables[..]);
+    let before = tables_where(holds, &tables[..]);
     let a = answer(before, fast, slow, message, out);
-    put_where(held & a.moved, a.tables, tables);
+    put_where(holds & a.moved, a.tables, tables);
     packed(a.number, a.len, a.laid)
 }
 
@@ -128,11 +127,11 @@ pub extern "C" fn reel_run(
         (now (file .entry)) (now (out .entry)) (now (tally .entry))
         (kept (now (tables .exit)) (now (fast .exit)) (now (slow .exit))) (now (out .exit)) (now (tally .exit)) ⌝ }
 {
-    let held = holds_tables(&tables[..]);
-    let before = tables_held(held, &tables[..]);
+    let holds = holds_tables(&tables[..]);
+    let before = tables_where(holds, &tables[..]);
     let counted = tally_of(&tally[..]);
     let ran = run(before, fast, slow, file, out, counted);
-    put_where(held & ran.moved, ran.tables, tables);
+    put_where(holds & ran.moved, ran.tables, tables);
     put_tally(ran.tally, tally);
 }
 
@@ -155,11 +154,11 @@ pub extern "C" fn reel_replies(
         (kept (now (tables .exit)) (now (fast .exit)) (now (slow .exit))) (now (out .exit)) (now (tally .exit))
         (now (used .exit)) r ⌝ }
 {
-    let held = holds_tables(&tables[..]);
-    let before = tables_held(held, &tables[..]);
+    let holds = holds_tables(&tables[..]);
+    let before = tables_where(holds, &tables[..]);
     let counted = tally_of(&tally[..]);
     let part = fill(before, fast, slow, file, at, out, counted);
-    put_where(held & part.moved, part.tables, tables);
+    put_where(holds & part.moved, part.tables, tables);
     put_tally(part.tally, tally);
     *used = part.used;
     part.at

@@ -1,5 +1,6 @@
--- The parts of a run, joined, are its replies. In order: how many bytes of replies a file brings, so that a buffer of that size takes them all;
--- what a part leaves of the file; the parts that a caller has, one after the other; that they come to the file's end.
+-- The parts of a run, joined, are its replies. In order: how many bytes of replies a file brings, so that a buffer of
+-- that size takes them all; what a part leaves of the file; the parts that a caller has, one after the other; that they
+-- come to the file's end.
 use Prim.Native.Nat.{ℕ, zero, suc, _+_, _-_, _*_, _/_, _%_, _≤_, _<_}
 use mathlib.Core.Path.{_≡_, refl, sym, ap, _∙_}
 use mathlib.Core.Bool.{Bool, true, false, cond}

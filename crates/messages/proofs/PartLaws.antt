@@ -1,5 +1,5 @@
--- What message after message leaves is the run and, where the replies are kept, a part of it; where no message moved the tables, they are
--- those that came in.
+-- What message after message leaves is the run and, where the replies are kept, a part of it; where no message moved
+-- the tables, they are those that came in.
 use Prim.Native.Nat.{ℕ, _+_, _-_, _≤_, zero-le}
 use mathlib.Core.Path.{_≡_, refl, sym, ap, _∙_}
 use mathlib.Core.Bool.{Bool, true, false, _||_, cond, or-false, or-assoc, true≢false}

@@ -1,5 +1,5 @@
--- The laws of replies, in order: six bytes at the front of a list; a reply is its heading and its data; the reply of a decision as the code
--- lays it, and what that comes to; the length of a reply, which is 70 at the most.
+-- The laws of replies, in order: six bytes at the front of a list; a reply is its heading and its data; the reply of a
+-- decision as the code lays it, and what that comes to; the length of a reply, which is 70 at the most.
 use Prim.Native.Nat.{ℕ, _+_, _≤_}
 use mathlib.Core.Path.{_≡_, refl, sym, ap, _∙_}
 use mathlib.Core.Bool.{Bool, true, false, cond}

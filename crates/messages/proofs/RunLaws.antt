@@ -1,5 +1,5 @@
--- The loop over a call file, in order: the reader's answer as the message that follows; the room for a reply; the loop's invariant, after a
--- message and at the end.
+-- The loop over a call file, in order: the reader's answer as the message that follows; the room for a reply; the
+-- loop's invariant, after a message and at the end.
 use Prim.Native.Nat.{ℕ, _+_, _-_, _≤_, _<_}
 use mathlib.Core.Path.{_≡_, refl, sym, ap, _∙_}
 use mathlib.Core.Bool.{Bool, true, false, not, _||_, cond}
@@ -120,8 +120,8 @@ put-rest out used b h =
 
 -- ---- the loop
 
--- where the loop stands at v, begun at v₀: the lengths are as at the start, `known` is the number of the rules, and the rest gives
--- what the whole does
+-- where the loop stands at v, begun at v₀: the lengths are as at the start, `known` is the number of the rules, and the
+-- rest gives what the whole does
 pub record Going (keep : Bool) (file : List ℕ) (v₀ : Serving) (known : ℕ) (v : Serving) : Type 0 where
   pub fast-long : length (v .state .fast) ≡ length (v₀ .state .fast)
   pub slow-long : length (v .state .slow) ≡ length (v₀ .state .slow)
@@ -166,39 +166,39 @@ same-serving ea eu es eo en em = cc
 
 module _ {keep : Bool} {file : List ℕ} {v₀ : Serving} {known : ℕ} {v : Serving} (q : Going keep file v₀ known v) where
   -- after a message, of which the reader says what follows: its reply laid into what is left of the buffer
-  pub going-on : (next : Next) (number laid few used′ : ℕ) (moved moved′ : Bool) (s′ : State) (slip′ out′ : List ℕ) (n′ : Tally)
+  pub going-on : (next : Next) (number laid few used′ : ℕ) (moved moved′ : Bool) (s′ : State) (tail′ out′ : List ℕ) (n′ : Tally)
       → let room = length (v₀ .buffer) in
       let rest = length (v .buffer) - v .used in
-      let slip = take rest (drop (v .used) (v .buffer)) in
+      let tail = take rest (drop (v .used) (v .buffer)) in
       Due file (v .at) (full room (v .used)) next → isEnd next ≡ false
-      → Served (v .state) (answer (length slip) (v .state) (sentBy file next)) slip number moved laid few s′ slip′
-      → out′ ≡ putMid (v .used) rest (v .buffer) slip′ → length slip′ ≡ length slip
-      → used′ ≡ ahead keep (v .used) (cond (ltb (length slip) 70) 0 (6 + few))
+      → Served (v .state) (answer (length tail) (v .state) (sentBy file next)) tail number moved laid few s′ tail′
+      → out′ ≡ putMid (v .used) rest (v .buffer) tail′ → length tail′ ≡ length tail
+      → used′ ≡ ahead keep (v .used) (cond (ltb (length tail) 70) 0 (6 + few))
       → n′ ≡ counted (v .tally) (not (eqb number 0)) laid
       → moved′ ≡ (v .moved || moved)
       → length (s′ .fast) ≡ length (v .state .fast) → length (s′ .slow) ≡ length (v .state .slow)
       → Going keep file v₀ known (serving (pastOf (length file) next) used′ s′ out′ n′ moved′)
-  going-on next number laid few used′ moved moved′ s′ slip′ out′ n′ d goes a eo lo eu en em lx ly =
+  going-on next number laid few used′ moved moved′ s′ tail′ out′ n′ d goes a eo lo eu en em lx ly =
       let room : ℕ = length (v₀ .buffer) in
       let rest : ℕ = length (v .buffer) - v .used in
-      let slip : List ℕ = take rest (drop (v .used) (v .buffer)) in
+      let tail : List ℕ = take rest (drop (v .used) (v .buffer)) in
       let x : Sent = sentBy file next in
       let cut : rest ≤ length (drop (v .used) (v .buffer)) = omega (arith, length-drop (v .used) (v .buffer)) in
-      let long : v .used + length slip ≡ room = omega (arith, length-take-le rest (drop (v .used) (v .buffer)) cut, q .inside, q .out-long) in
-      let same = same-room room (v .used) (d .roomy) (length slip) long in
-      let o₁ : Outcome Result = answer (length slip) (v .state) x in
+      let long : v .used + length tail ≡ room = omega (arith, length-take-le rest (drop (v .used) (v .buffer)) cut, q .inside, q .out-long) in
+      let same = same-room room (v .used) (d .roomy) (length tail) long in
+      let o₁ : Outcome Result = answer (length tail) (v .state) x in
       let o : Outcome Result = answer room (v .state) x in
-      let is : o₁ ≡ o = same-answer (length slip) room (v .state) x same in
-      let replies : replyIn (length slip) o₁ ≡ replyIn room o = same-reply (length slip) room o₁ o same is in
+      let is : o₁ ≡ o = same-answer (length tail) room (v .state) x same in
+      let replies : replyIn (length tail) o₁ ≡ replyIn room o = same-reply (length tail) room o₁ o same is in
       let f = follows file (v .at) next (d .found) goes in
       let eU : used′ ≡ ahead keep (v .used) (length (replyIn room o)) =
       eu
       ∙ ap (ahead keep (v .used))
-      (ap (λ (k : ℕ). cond (ltb (length slip) 70) 0 (6 + k)) (a .len-is) ∙ reply-length (length slip) o₁ ∙ ap (λ (l : List ℕ). length l) replies) in
+      (ap (λ (k : ℕ). cond (ltb (length tail) 70) 0 (6 + k)) (a .len-is) ∙ reply-length (length tail) o₁ ∙ ap (λ (l : List ℕ). length l) replies) in
       let eS : s′ ≡ left (v .state) o = a .state-out ∙ ap (left (v .state)) is in
       let eO : out′ ≡ splice (v .buffer) (v .used) (replyIn room o) =
       eo
-      ∙ ap (λ (l : List ℕ). putMid (v .used) rest (v .buffer) l) (a .reply-out ∙ ap (λ (r : List ℕ). over r slip) replies)
+      ∙ ap (λ (l : List ℕ). putMid (v .used) rest (v .buffer) l) (a .reply-out ∙ ap (λ (r : List ℕ). over r tail) replies)
       ∙ put-rest (v .buffer) (v .used) (replyIn room o) (omega (arith, q .inside, q .out-long)) in
       let eN : n′ ≡ counted (v .tally) (isRefusal o) (laidBy o) =
       en
@@ -211,7 +211,7 @@ module _ {keep : Bool} {file : List ℕ} {v₀ : Serving} {known : ℕ} {v : Ser
       record {
         fast-long = lx ∙ q .fast-long;
         slow-long = ly ∙ q .slow-long;
-        out-long = ap (λ (l : List ℕ). length l) eo ∙ same-len-mid (v .used) rest (v .buffer) slip′ lo ∙ q .out-long;
+        out-long = ap (λ (l : List ℕ). length l) eo ∙ same-len-mid (v .used) rest (v .buffer) tail′ lo ∙ q .out-long;
         rules = q .rules ∙ sym (rules-kept room (v .state) x) ∙ ap rulesOf (sym eS);
         inside = rw eU (ahead-inside keep (v .used) (length (replyIn room o)) room (reply-inside room (v .used) (d .roomy) (v .state) x));
         rest =

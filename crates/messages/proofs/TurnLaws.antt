@@ -1,6 +1,6 @@
--- One message, in order: no number of its own bytes is 0; it is turned back early, or it is a step; a refusal is told by its number; what
--- either leaves, as `answer` and `run` have it; the reader's answer as a message; the rules are kept; tables that did not move; a reply is
--- short.
+-- One message, in order: no number of its own bytes is 0; it is turned back early, or it is a step; a refusal is told
+-- by its number; what either leaves, as `answer` and `run` have it; the reader's answer as a message; the rules are
+-- kept; tables that did not move; a reply is short.
 use Prim.Native.Nat.{ℕ, _+_, _≤_, zero-le}
 use mathlib.Core.Path.{_≡_, refl, sym, ap, _∙_}
 use mathlib.Core.Bool.{Bool, true, false, not, cond}
@@ -27,7 +27,7 @@ use Rattle.messages.specs.Messages.{writeBytes}
 use Rattle.messages.specs.Replies.{reply, replyIn, isRefusal}
 use Rattle.messages.specs.Run.{Sent, asked, bytesOf, respond, answer, leftBy}
 use Rattle.messages.specs.Promises.{sentBy, Replied}
-use Rattle.messages.specs.Private.{bytesAt, askedAt, askedNumber, earlyNumber, callIn, repliedWith}
+use Rattle.messages.specs.Private.{messageBytes, askedAt, unlessKnown, early, repliedWith}
 use Rattle.messages.proofs.ParseLaws.{Known, bad, asked-known}
 use Rattle.messages.proofs.ReplyLaws.{part-long, carried-reply, reply-length}
 
@@ -46,32 +46,61 @@ asked-some x n e z = go (asked x) (asked-known x) e
     go (Asked c) k e = let w : _≡_ {A = ℕ} 0 1 = cc in omega arith
 
 module _ (room : ℕ) (s : State) (x : Sent) (known : ℕ) where
-  -- where there is an early number, the message is turned back with it
-  early-refused : ((known ≡ accepted → ⊥) → rulesOf s ≡ known) → (earlyNumber (asked x) known room ≡ accepted → ⊥)
-      → answer room s x ≡ refuse (earlyNumber (asked x) known room)
-  unfolding answer
-  early-refused rules = by (ltb room 70) (asked x)
+  -- no early number is 0
+  early-some : (n : ℕ) → early (asked x) known room ≡ Refused n → n ≡ accepted → ⊥
+  early-some n = by (ltb room 70) (asked x) refl
     where
-      by : (b : Bool) (m : Parsed) → (cond b shortBuffer (askedNumber m known) ≡ accepted → ⊥)
-          → test b shortBuffer (respond s m (bytesOf x)) ≡ refuse (cond b shortBuffer (askedNumber m known))
-      by true m some = refl
-      by false (Refused n) some = refl
-      by false (Asked c) some = step-unruled s c (bytesOf x) known (rules some) some
+      by : (b : Bool) (m : Parsed) → asked x ≡ m → cond b (Refused shortBuffer) (unlessKnown known m) ≡ Refused n
+          → n ≡ accepted → ⊥
+      by true m f e z = let w : shortBuffer ≡ n = cc in omega arith
+      by false (Refused k) f e z = let w : k ≡ n = cc in asked-some x k f (w ∙ z)
+      by false (Asked c) f e z = on (eqb known accepted) refl e
+        where
+          on : (b : Bool) → eqb known accepted ≡ b → cond b (Asked c) (Refused known) ≡ Refused n → ⊥
+          on true g h = let w : _≡_ {A = ℕ} 0 1 = cc in omega arith
+          on false g h = let w : known ≡ n = cc in eqb-false known accepted g (w ∙ z)
 
-  -- else it is a step
-  record Passed : Type 0 where
+  -- a message that is turned back early gets that number
+  early-refused : ((known ≡ accepted → ⊥) → rulesOf s ≡ known) → (n : ℕ) → early (asked x) known room ≡ Refused n
+      → answer room s x ≡ refuse n
+  unfolding answer
+  early-refused rules n = by (ltb room 70) (asked x)
+    where
+      by : (b : Bool) (m : Parsed) → cond b (Refused shortBuffer) (unlessKnown known m) ≡ Refused n
+          → test b shortBuffer (respond s m (bytesOf x)) ≡ refuse n
+      by true m e = let w : shortBuffer ≡ n = cc in ap refuse w
+      by false (Refused k) e = let w : k ≡ n = cc in ap refuse w
+      by false (Asked c) e = on (eqb known accepted) refl e
+        where
+          on : (b : Bool) → eqb known accepted ≡ b → cond b (Asked c) (Refused known) ≡ Refused n
+              → step s c (bytesOf x) ≡ refuse n
+          on true g h = let w : _≡_ {A = ℕ} 0 1 = cc in absurd (omega arith)
+          on false g h =
+              let some = eqb-false known accepted g in
+              let w : known ≡ n = cc in
+              step-unruled s c (bytesOf x) known (rules some) some ∙ ap refuse w
+
+  -- any other is a step
+  record Passed (c : Call) : Type 0 where
     roomy : 70 ≤ room
     unknown : known ≡ accepted
-    is-step : answer room s x ≡ step s (callIn (asked x)) (bytesOf x)
+    is-step : answer room s x ≡ step s c (bytesOf x)
 
-  passed : earlyNumber (asked x) known room ≡ accepted → Passed
+  passed : (c : Call) → early (asked x) known room ≡ Asked c → Passed c
   unfolding answer
-  passed = by (ltb room 70) refl (asked x) refl
+  passed c = by (ltb room 70) refl (asked x) refl
     where
-      by : (b : Bool) → ltb room 70 ≡ b → (m : Parsed) → asked x ≡ m → cond b shortBuffer (askedNumber m known) ≡ accepted → Passed
-      by true e m f h = absurd (omega arith)
-      by false e (Refused n) f h = absurd (asked-some x n f h)
-      by false e (Asked c) f h = record { roomy = ltb-false room 70 e; unknown = h; is-step = rw (e, f) }
+      by : (b : Bool) → ltb room 70 ≡ b → (m : Parsed) → asked x ≡ m
+          → cond b (Refused shortBuffer) (unlessKnown known m) ≡ Asked c → Passed c
+      by true e m f h = let w : _≡_ {A = ℕ} 0 1 = cc in absurd (omega arith)
+      by false e (Refused n) f h = let w : _≡_ {A = ℕ} 0 1 = cc in absurd (omega arith)
+      by false e (Asked c′) f h = on (eqb known accepted) refl h
+        where
+          on : (b : Bool) → eqb known accepted ≡ b → cond b (Asked c′) (Refused known) ≡ Asked c → Passed c
+          on true g h =
+              let w : c′ ≡ c = cc in
+              record { roomy = ltb-false room 70 e; unknown = eqb-true known accepted g; is-step = rw (e, f, w) }
+          on false g h = let w : _≡_ {A = ℕ} 0 1 = cc in absurd (omega arith)
 
 -- a refusal is told by its number
 pub answer-told : (room : ℕ) (s : State) (x : Sent) → isRefusal (answer room s x) ≡ not (eqb (numberOf (answer room s x)) 0)
@@ -90,7 +119,8 @@ answer-told room s x = by (ltb room 70) (asked x) refl
 
 -- ---- what a message leaves
 
--- on state s, a message that comes to o: its number, whether the tables moved, the bytes laid, the length of its data, the state and the buffer
+-- on state s, a message that comes to o: its number, whether the tables moved, the bytes laid, the length of its data,
+-- the state and the buffer
 pub record Served (s : State) (o : Outcome Result) (out : List ℕ) (number : ℕ) (moved : Bool) (laid len : ℕ) (s′ : State) (out′ : List ℕ) : Type 0 where
   pub number-is : number ≡ numberOf o
   pub moved-is : moved ≡ movedBy o
@@ -107,25 +137,33 @@ pub record Decided (s : State) (x : Sent) (out bs : List ℕ) (d : Decision) : T
       → lent fast′ slow′ out′ ≡ repliedWith d bs (lent (s .fast) (s .slow) out)
       → Served s (answer (length out) s x) out (d .number) (d .moved) (d .laid) (d .len) (stateOf t′ fast′ slow′) out′
 
--- the message that was parsed to m, with the early number n
-module _ (s : State) (x : Sent) (m : Parsed) (known n : ℕ) (out : List ℕ) (em : m ≡ asked x) (en : n ≡ earlyNumber m known (length out)) where
+-- the message that was parsed to m, of which p is left to ask for
+module _ (s : State) (x : Sent) (m p : Parsed) (known : ℕ) (out : List ℕ) (em : m ≡ asked x)
+    (ep : p ≡ early m known (length out)) where
+  is-early : p ≡ early (asked x) known (length out)
+  is-early = rw em at ep
+
   -- turned back early
-  pub served-early : (out′ : List ℕ) → ((known ≡ accepted → ⊥) → rulesOf s ≡ known) → (n ≡ accepted → ⊥)
-      → out′ ≡ over (replyIn (length out) (refuse n)) out → Served s (answer (length out) s x) out n false 0 0 s out′
-  served-early out′ rules some f =
-      let e : n ≡ earlyNumber (asked x) known (length out) = rw em at en in
-      let is : answer (length out) s x ≡ refuse n = early-refused (length out) s x known rules (λ z. some (e ∙ z)) ∙ ap refuse (sym e) in
+  pub served-early : (n : ℕ) (out′ : List ℕ) → p ≡ Refused n → ((known ≡ accepted → ⊥) → rulesOf s ≡ known)
+      → out′ ≡ over (replyIn (length out) (refuse n)) out
+      → Served s (answer (length out) s x) out n false 0 0 s out′
+  served-early n out′ e rules f =
+      let is = early-refused (length out) s x known rules n (sym is-early ∙ e) in
       rw is (record { number-is = refl; moved-is = refl; laid-is = refl; len-is = refl; state-out = refl; reply-out = f })
 
+  -- with a number that is not 0
+  pub some-number : (n : ℕ) → p ≡ Refused n → n ≡ accepted → ⊥
+  some-number n e = early-some (length out) s x known n (sym is-early ∙ e)
+
   -- decided on
-  pub decided : (bs : List ℕ) (d : Decision) → n ≡ accepted → bs ≡ bytesOf x
-      → (known ≡ accepted → d ≡ decisionOf (s .tables) (callIn m) (decideAny (s .tables) (length (s .fast)) (length (s .slow)) (callIn m) (length bs)))
+  pub decided : (c : Call) (bs : List ℕ) (d : Decision) → p ≡ Asked c → bs ≡ bytesOf x
+      → (known ≡ accepted
+      → d ≡ decisionOf (s .tables) c (decideAny (s .tables) (length (s .fast)) (length (s .slow)) c (length bs)))
       → Decided s x out bs d
-  decided bs d none eb q =
-      let c = callIn m in
+  decided c bs d e eb q =
+      let p = passed (length out) s x known c (sym is-early ∙ e) in
       let o = step s c bs in
-      let p = passed (length out) s x known (sym (rw em at en) ∙ none) in
-      let is : answer (length out) s x ≡ o = p .is-step ∙ rw (em, eb) in
+      let is : answer (length out) s x ≡ o = p .is-step ∙ rw eb in
       let k = carries s c bs (part out 6 64) d (omega (arith, part-long out (p .roomy))) (q (p .unknown)) in
       record {
         roomy = p .roomy;
@@ -145,6 +183,10 @@ module _ (s : State) (x : Sent) (m : Parsed) (known n : ℕ) (out : List ℕ) (e
             });
       }
 
+-- a decision that does not move the tables leaves them
+pub unsettled : (t : Tables) (d : Decision) → d .moved ≡ false → t ≡ settled t d
+unsettled t d e = rw e
+
 -- what `answer` promises
 pub replied : (s : State) (o : Outcome Result) (out out′ : List ℕ) (s′ : State) (len : ℕ) (moved : Bool) (r : Answered)
     → Served s o out (r .number) moved (r .laid) len s′ out′ → r .moved ≡ moved → r .len ≡ cond (ltb (length out) 70) 0 (6 + len)
@@ -161,18 +203,18 @@ replied s o out out′ s′ len moved r q m e =
 
 -- ---- the message that the reader yields, as the code comes to it
 
-pub asked-by : (l m : List ℕ) (next : Next) (p : Parsed) → m ≡ bytesAt l next → p ≡ askedAt next m → p ≡ asked (sentBy l next)
+pub asked-by : (l m : List ℕ) (next : Next) (p : Parsed) → m ≡ messageBytes l next → p ≡ askedAt next m → p ≡ asked (sentBy l next)
 asked-by l m next p f g = g ∙ rw f (by next)
   where
-    by : (x : Next) → askedAt x (bytesAt l x) ≡ asked (sentBy l x)
+    by : (x : Next) → askedAt x (messageBytes l x) ≡ asked (sentBy l x)
     by (Message start len next) = refl
     by Cut = refl
     by End = refl
 
-pub bytes-by : (l m : List ℕ) (next : Next) → m ≡ bytesAt l next → writeBytes m ≡ bytesOf (sentBy l next)
+pub bytes-by : (l m : List ℕ) (next : Next) → m ≡ messageBytes l next → writeBytes m ≡ bytesOf (sentBy l next)
 bytes-by l m next f = rw f (by next)
   where
-    by : (x : Next) → writeBytes (bytesAt l x) ≡ bytesOf (sentBy l x)
+    by : (x : Next) → writeBytes (messageBytes l x) ≡ bytesOf (sentBy l x)
     by (Message start len next) = refl
     by Cut = refl
     by End = refl

@@ -5,11 +5,9 @@ use mathlib.Core.Path.{_≡_}
 use mathlib.Core.Bool.{Bool, true, false, _||_, cond}
 use mathlib.Core.List.{List, [], _∷_, _++_}
 use lib.ListN.{length, drop}
-use lib.Dec.{ltb}
-use Rattle.tables.specs.Numbers.{cutShort, shortBuffer}
-use Rattle.steps.specs.declared.Call.{Call}
+use lib.Dec.{ltb, eqb}
+use Rattle.tables.specs.Numbers.{accepted, cutShort, shortBuffer}
 use Rattle.steps.specs.declared.Decision.{Decision}
-use Rattle.steps.specs.Kinds.{kindOf, callOf}
 use Rattle.steps.specs.Stores.{part, splice}
 use Rattle.steps.specs.Steps.{Outcome}
 use Rattle.steps.specs.Effects.{State, Result, left, movedBy, laidBy}
@@ -22,7 +20,7 @@ use Rattle.messages.specs.declared.Tally.{Tally}
 use Rattle.messages.specs.declared.Filled.{Filled}
 use Rattle.messages.specs.Replies.{be16, replyIn, counted, isRefusal}
 use Rattle.messages.specs.Messages.{parse, nextAt}
-use Rattle.messages.specs.Run.{Sent, cut, answer, messagesOf, full, passed}
+use Rattle.messages.specs.Run.{Sent, answer, messagesOf, full, passed}
 
 -- ---- the reader
 
@@ -49,10 +47,10 @@ pub record FoundIn (file : List ℕ) (next : Next) : Type 0 where
 -- ---- one message
 
 -- the bytes of the message that the reader yields; none where it is cut short
-abbrev pub bytesAt : List ℕ → Next → List ℕ
-bytesAt l (Message start len next) = part l start len
-bytesAt l Cut = []
-bytesAt l End = []
+abbrev pub messageBytes : List ℕ → Next → List ℕ
+messageBytes l (Message start len next) = part l start len
+messageBytes l Cut = []
+messageBytes l End = []
 
 -- what a message m at which the reader stood asks for
 abbrev pub askedAt : Next → List ℕ → Parsed
@@ -60,19 +58,15 @@ askedAt (Message start len next) m = parse m
 askedAt Cut m = Refused cutShort
 askedAt End m = Refused cutShort
 
--- the number of what a message asks for, where `known` is that of every call; else 0
-abbrev pub askedNumber : Parsed → ℕ → ℕ
-askedNumber (Refused n) known = n
-askedNumber (Asked c) known = known
+-- a refusal as it is, and a call turned back with `known`, unless that is 0
+abbrev pub unlessKnown : ℕ → Parsed → Parsed
+unlessKnown known (Refused n) = Refused n
+unlessKnown known (Asked c) = cond (eqb known accepted) (Asked c) (Refused known)
 
--- the number that turns a message back before it is decided, where `known` is 5, 6 or 0; else 0
-abbrev pub earlyNumber : Parsed → ℕ → ℕ → ℕ
-earlyNumber m known room = cond (ltb room 70) shortBuffer (askedNumber m known)
-
--- the call of a message that asks for one
-abbrev pub callIn : Parsed → Call
-callIn (Refused n) = callOf (kindOf 1) (0 ∷ 0 ∷ 0 ∷ 0 ∷ [])
-callIn (Asked c) = c
+-- the first of these that turns a message back, and else its call, with a reply buffer of `room` bytes: 18; the
+-- message's own 1 to 4; `known`, which is 5, 6 or 0
+abbrev pub early : Parsed → ℕ → ℕ → Parsed
+early m known room = cond (ltb room 70) (Refused shortBuffer) (unlessKnown known m)
 
 -- ---- replies
 
@@ -80,12 +74,12 @@ callIn (Asked c) = c
 abbrev pub heading : ℕ → ℕ → ℕ → List ℕ
 heading number laid len = be16 (4 + len) ++ (1 ∷ number ∷ be16 laid)
 
--- room for them, and no more data than a reply has
+-- a buffer with room for these six bytes, and no more data than a reply has
 pub record HeadRoom (out : List ℕ) (len : ℕ) : Type 0 where
   pub room : 6 ≤ length out
   pub few : len ≤ 64
 
--- room for any reply
+-- a buffer with room for any reply
 pub record ReplyRoom (out : List ℕ) (len : ℕ) : Type 0 where
   pub room : 70 ≤ length out
   pub few : len ≤ 64

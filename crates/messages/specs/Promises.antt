@@ -73,7 +73,7 @@ pub record FillCall : Type 0 where
   pub slow′ : List ℕ
   pub out′ : List ℕ
 
--- the tables that it gave back, and the stores
+-- the state that a call of `fill` left
 abbrev pub stateAt : FillCall → State
 stateAt k = stateOf (k .result .tables) (k .fast′) (k .slow′)
 
@@ -86,11 +86,12 @@ FillCalls file at s n (k ∷ ks) =
     × PartEnded s (partFrom (length (k .out)) file at s) n (k .out) (stateAt k) (k .out′) (k .result)
     × FillCalls file (k .result .at) (stateAt k) (k .result .tally) ks
 
--- what the caller took out of its buffers, and where the last call left off
+-- the replies that the caller took out of its buffers
 abbrev pub emptied : List FillCall → List ℕ
 emptied [] = []
 emptied (k ∷ ks) = take (k .result .used) (k .out′) ++ emptied ks
 
+-- the place of the file, the state and the tally that the last call left
 abbrev pub reached : ℕ → List FillCall → ℕ
 reached at [] = at
 reached at (k ∷ ks) = reached (k .result .at) ks

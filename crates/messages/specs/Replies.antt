@@ -9,10 +9,11 @@ use Rattle.steps.specs.Steps.{Outcome, refuse, accept}
 use Rattle.steps.specs.Effects.{Result}
 use Rattle.messages.specs.declared.Tally.{Tally}
 
--- two bytes, big-endian; and the number that two bytes of l from index at on are
+-- a number as two bytes, big-endian
 abbrev pub be16 : ℕ → List ℕ
 be16 n = n / 256 % 256 ∷ n % 256 ∷ []
 
+-- the number that two bytes of l from index at on are, big-endian
 abbrev pub be16At : List ℕ → ℕ → ℕ
 be16At l at = getD l at 0 * 256 + getD l (at + 1) 0
 

@@ -21,7 +21,7 @@ pub data Sent : Type 0 where
   cut : Sent
   whole : List ℕ → Sent
 
--- what its own bytes ask for
+-- what a message asks for by its own bytes
 abbrev pub asked : Sent → Parsed
 asked cut = Refused cutShort
 asked (whole m) = parse m
@@ -139,7 +139,7 @@ unfoldable pub stateAfter : State → List Turn → State
 stateAfter s [] = s
 stateAfter s (t ∷ ts) = stateAfter (left (t .found) (t .outcome)) ts
 
--- its turns, the place of the file that it reaches, and the state there
+-- a part of a run: its turns, the place of the file that it reaches, and the state there
 pub record Part : Type 0 where
   pub turns : List Turn
   pub place : ℕ

@@ -42,7 +42,7 @@ pub fn next_message<'a>(r: Reader<'a>) -> Next
     next_at(r.file, r.at)
 }
 
-// The same without a reader: whoever calls this holds none.
+// What the reader yields at a place of a file, for a caller that has no `Reader`.
 pub fn message_at(file: &[u8], at: usize) -> Next
     ensures { λ r. ⌜ Yields (now (file .entry)) at r ⌝ }
 {

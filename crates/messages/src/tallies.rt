@@ -39,7 +39,7 @@ pub fn count(t: &mut Tally, refused: bool, laid: u16)
     *t = counted_up(*t, refused, laid);
 }
 
-// The same for a tally by value: whoever calls this lends none.
+// The tally after a message, for a caller that has the tally by value.
 pub fn tally_after(t: Tally, refused: bool, laid: u16) -> Tally
     ensures { λ r. ⌜ r ≡ counted t refused laid ⌝ }
 {

@@ -15,10 +15,8 @@ use crate::replies::reply_length;
 use crate::replies::reply_refusal;
 use crate::tallies::tally_after;
 use steps::ACCEPTED;
-use steps::Call;
 use steps::decide;
 use steps::decide_any;
-use steps::form_of;
 use steps::rules;
 use steps::settle;
 use tables::Tables;
@@ -29,38 +27,31 @@ ghost use Rattle.steps.specs.Promises.{stateOf};
 ghost use Prim.Native.Nat.{_+_, _-_, _<_};
 ghost use Rattle.messages.specs.Run.{answer, run, partFrom};
 ghost use Rattle.messages.specs.Promises.{sentAlone, Replied, RunEnded, PartEnded};
-ghost use Rattle.messages.specs.Private.{dueAt, isEnd, pastOf, FoundIn, bytesAt, askedAt, earlyNumber, callIn, serving, ahead, ServeEnded};
+ghost use Rattle.messages.specs.Private.{dueAt, isEnd, pastOf, FoundIn, messageBytes, askedAt, early, serving, ahead, ServeEnded};
 
-// The number that turns a message back before it is decided, and else 0: 18, 1 to 4, and 5 or 6 where that is known.
-fn early_number(parsed: Parsed, known: u8, room: usize) -> u8
-    ensures { λ r. ⌜ r ≡ earlyNumber parsed known room ⌝ }
+// The first of these that turns a message back, and else its call: 18; its own 1 to 4; `known`, which in a run is the 5
+// or 6 of its tables and stores, and else 0 (`answer` leaves these to `decide_any`).
+fn early(parsed: Parsed, known: u8, room: usize) -> Parsed
+    ensures { λ r. ⌜ r ≡ early parsed known room ⌝ }
 {
     if room < 70 {
-        return SHORT_BUFFER;
+        return Parsed::Refused {
+            number: SHORT_BUFFER,
+        };
+    }
+    if known == ACCEPTED {
+        return parsed;
     }
     match parsed {
-        Parsed::Refused { number } => number,
-        Parsed::Asked { call: _ } => known,
-    }
-}
-
-// The call of a message that asks for one.
-fn call_in(parsed: Parsed) -> Call
-    ensures { λ r. ⌜ r ≡ callIn parsed ⌝ }
-{
-    match parsed {
-        Parsed::Asked { call } => call,
-        Parsed::Refused { number: _ } => {
-            let f = form_of(1, 0, 0, 0, 0);
-            f.call
-        }
+        Parsed::Refused { number } => Parsed::Refused { number },
+        Parsed::Asked { call: _ } => Parsed::Refused { number: known },
     }
 }
 
 // The bytes after the length of the message that the reader yields; none where it is cut short.
 fn bytes_in(file: &[u8], next: Next) -> &[u8]
     requires { ⌜ FoundIn (now file) next ⌝ }
-    ensures { λ r. ⌜ now r ≡ bytesAt (now (file .entry)) next ⌝ }
+    ensures { λ r. ⌜ now r ≡ messageBytes (now (file .entry)) next ⌝ }
 {
     match next {
         Next::Message { start, next, .. } => &file[start..next],
@@ -96,37 +87,39 @@ pub fn answer(
     let next = message_at(message, 0);
     let m = bytes_in(message, next);
     let parsed = asked_in(next, m);
-    let early = early_number(parsed, ACCEPTED, out.len());
-    if early != ACCEPTED {
-        reply_refusal(out, early);
-        return Answered {
-            number: early,
-            len: reply_length(out.len(), 0),
-            laid: 0,
-            moved: false,
-            tables,
-        };
-    }
-    let call = call_in(parsed);
-    let bytes = write_bytes(m);
-    let d = decide_any(tables, call, bytes.len(), fast.len(), slow.len());
-    reply_decided(d, bytes, fast, slow, out);
-    if d.moved {
-        let left = settle(tables, d);
-        return Answered {
-            number: d.number,
-            len: 6 + d.len,
-            laid: d.laid,
-            moved: true,
-            tables: left,
-        };
-    }
-    Answered {
-        number: d.number,
-        len: 6 + d.len,
-        laid: d.laid,
-        moved: false,
-        tables,
+    match early(parsed, ACCEPTED, out.len()) {
+        Parsed::Refused { number } => {
+            reply_refusal(out, number);
+            return Answered {
+                number,
+                len: reply_length(out.len(), 0),
+                laid: 0,
+                moved: false,
+                tables,
+            };
+        }
+        Parsed::Asked { call } => {
+            let bytes = write_bytes(m);
+            let d = decide_any(tables, call, bytes.len(), fast.len(), slow.len());
+            reply_decided(d, bytes, fast, slow, out);
+            if d.moved {
+                let left = settle(tables, d);
+                return Answered {
+                    number: d.number,
+                    len: 6 + d.len,
+                    laid: d.laid,
+                    moved: true,
+                    tables: left,
+                };
+            }
+            Answered {
+                number: d.number,
+                len: 6 + d.len,
+                laid: d.laid,
+                moved: false,
+                tables,
+            }
+        }
     }
 }
 
@@ -208,29 +201,28 @@ fn serve(
                 tally,
             };
         }
+        at = past(next, file.len());
         let m = bytes_in(file, next);
-        let parsed = asked_in(next, m);
-        let after = past(next, file.len());
-        let slip = &mut out[used..];
-        let room = slip.len();
-        let early = early_number(parsed, known, room);
-        if early != ACCEPTED {
-            reply_refusal(slip, early);
-            used = ahead(keep, used, reply_length(room, 0));
-            tally = tally_after(tally, true, 0);
-        } else {
-            let call = call_in(parsed);
-            let bytes = write_bytes(m);
-            let d = decide(tables, call, bytes.len());
-            reply_decided(d, bytes, fast, slow, slip);
-            used = ahead(keep, used, 6 + d.len);
-            tally = tally_after(tally, d.number != ACCEPTED, d.laid);
-            if d.moved {
-                tables = settle(tables, d);
-                moved = true;
+        let rest = &mut out[used..];
+        let room = rest.len();
+        match early(asked_in(next, m), known, room) {
+            Parsed::Refused { number } => {
+                reply_refusal(rest, number);
+                used = ahead(keep, used, reply_length(room, 0));
+                tally = tally_after(tally, true, 0);
+            }
+            Parsed::Asked { call } => {
+                let bytes = write_bytes(m);
+                let d = decide(tables, call, bytes.len());
+                reply_decided(d, bytes, fast, slow, rest);
+                used = ahead(keep, used, 6 + d.len);
+                tally = tally_after(tally, d.number != ACCEPTED, d.laid);
+                if d.moved {
+                    tables = settle(tables, d);
+                    moved = true;
+                }
             }
         }
-        at = after;
     }
 }
 

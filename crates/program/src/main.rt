@@ -8,7 +8,7 @@ use tables::Tables;
 ghost use mathlib.Core.Path.{_≡_};
 ghost use lib.ListN.{length, take};
 ghost use Rattle.io.specs.Counts.{Counts};
-ghost use Rattle.program.specs.Served.{most, zeros, output, Lends};
+ghost use Rattle.program.specs.Served.{most, zeroStore, output, Lends};
 
 // Reads the call file. What comes after the buffer's 60000 bytes is treated as absent.
 fn read_file(file: &mut [u8]) -> usize
@@ -38,7 +38,7 @@ fn serve(file: &[u8], fast: &mut [u8], slow: &mut [u8], out: &mut [u8]) -> usize
 
 // Writes the replies to the file, and nothing else.
 fn write_replies(file: &[u8], replies: &[u8])
-    requires { ⌜ now replies ≡ output (now file) zeros zeros ⌝ }
+    requires { ⌜ now replies ≡ output (now file) zeroStore zeroStore ⌝ }
 {
     io::write_all(STDOUT_FILENO, replies);
 }

@@ -1,6 +1,6 @@
--- The reader. In order: the numbers of the table; the data of a look at a page; what is known of a reply, and where the reader accepts one; a
--- reply at the front of bytes; what is read of it, case by case.
-use Prim.Native.Nat.{ℕ, _+_, _-_, _*_, _/_, _%_, _≤_, _<_}
+-- The reader. In order: the numbers of the table; the data of a look at a page; what is known of a reply, and where the
+-- reader accepts one; a reply at the front of bytes; what is read of it, case by case.
+use Prim.Native.Nat.{ℕ, _+_, _*_, _/_, _%_, _≤_, _<_}
 use mathlib.Core.Path.{_≡_, refl, sym, ap, subst, _∙_}
 use mathlib.Core.Bool.{Bool, true, false, not, _&&_, _||_, cond, true≢false}
 use mathlib.Core.List.{List, [], _∷_, _++_}
@@ -10,13 +10,13 @@ use lib.Seq.{getD-drop, getD-take, take-length}
 use lib.Dec.{leb, ltb, eqb}
 use borrow.Author.Tests.{leb-true, ltb-true, ltb-false, eqb-true, eqb-false, lt-leb, le-leb, not-true, not-false, eq-eqb, ne-eqb}
 use Rattle.tables.specs.Lists.{all, allBelow, listed}
-use Rattle.tables.specs.Numbers.{accepted, foreignVersion, unknownKind, wrongLength, rows}
+use Rattle.tables.specs.Numbers.{accepted, foreignVersion, unknownKind, wrongLength, allNumbers}
 use Rattle.tables.proofs.ListLaws.{and-intro, and-left, and-right, or-right, iff-eq, all-listed, below-at}
 use Rattle.steps.specs.declared.Kind.{Kind}
 use Rattle.steps.specs.declared.Data.{Data}
 use Rattle.steps.specs.declared.Data.the-variants.{Empty, Bytes, Copies, Holder}
 use Rattle.steps.specs.Kinds.{tells, isUnknown, kindOf}
-use Rattle.steps.specs.Data.{isMark, copyMarked, eachIs, many, formed}
+use Rattle.steps.specs.Data.{isMark, copyMarksValid, eachIs, many, formed}
 use Rattle.steps.specs.Stores.{part}
 use Rattle.steps.specs.Steps.{accept, test}
 use Rattle.steps.proofs.StoreLaws.{part-part}
@@ -27,32 +27,32 @@ use Rattle.messages.specs.Run.{whole}
 use Rattle.messages.specs.Promises.{sentBy, sentAlone}
 use Rattle.stations.specs.declared.Reading.{Reading}
 use Rattle.stations.specs.declared.Reading.the-variants.{Refused, Reply}
-use Rattle.stations.specs.Reader.{numberIn, laidTold, dataIn, isRefusalReply, isReply, readBody, readNext, readReply, told, readingOf, replyTold}
+use Rattle.stations.specs.Reader.{numberIn, laidStated, dataIn, isRefusalReply, isReply, readBody, readNext, readReply, contentOf, readingOf, replyContent}
 use Rattle.stations.specs.Promises.{ReadOf}
 use Rattle.stations.proofs.FrontLaws.{next-front, part-front, Front, front-of, front-taken}
 
 -- ---- the table
 
 -- it has every number from 1 to its length
-pub listed-up-to : (n : ℕ) → (not (eqb n 0) && leb n (length rows)) ≡ listed n rows
+pub listed-up-to : (n : ℕ) → (not (eqb n 0) && leb n (length allNumbers)) ≡ listed n allNumbers
 unfolding all allBelow
-listed-up-to n = iff-eq _ _ there (λ h. all-listed (λ (m : ℕ). not (eqb m 0) && leb m (length rows)) rows n refl h)
+listed-up-to n = iff-eq _ _ there (λ h. all-listed (λ (m : ℕ). not (eqb m 0) && leb m (length allNumbers)) allNumbers n refl h)
   where
-    other : (b : Bool) → b ≡ false → (b || listed n rows) ≡ true → listed n rows ≡ true
+    other : (b : Bool) → b ≡ false → (b || listed n allNumbers) ≡ true → listed n allNumbers ≡ true
     other true e h = absurd (true≢false e)
     other false e h = h
 
-    there : (not (eqb n 0) && leb n (length rows)) ≡ true → listed n rows ≡ true
+    there : (not (eqb n 0) && leb n (length allNumbers)) ≡ true → listed n allNumbers ≡ true
     there e =
-        let most = leb-true n (length rows) (and-right (not (eqb n 0)) _ e) in
+        let most = leb-true n (length allNumbers) (and-right (not (eqb n 0)) _ e) in
         other (eqb n 0) (not-true (eqb n 0) (and-left (not (eqb n 0)) _ e))
-        (below-at (length rows + 1) (λ (m : ℕ). eqb m 0 || listed m rows) n refl (omega arith))
+        (below-at (length allNumbers + 1) (λ (m : ℕ). eqb m 0 || listed m allNumbers) n refl (omega arith))
 
 -- ---- the marks
 
 -- those of the copy at i, behind n
 pub marks-at : (d : List ℕ) (i : ℕ)
-    → (isMark (getD d (3 * i + 2) 0) && isMark (getD d (3 * i + 3) 0)) ≡ copyMarked (drop (3 * i) (drop 1 d))
+    → (isMark (getD d (3 * i + 2) 0) && isMark (getD d (3 * i + 3) 0)) ≡ copyMarksValid (drop (3 * i) (drop 1 d))
 marks-at d i = rw (at 1, at 2)
   where
     at : (j : ℕ) → getD (drop (3 * i) (drop 1 d)) j 0 ≡ getD d (3 * i + (j + 1)) 0
@@ -91,7 +91,7 @@ copies-odd d e = rw (ne-eqb (length d) (1 + 3 * getD d 0 0) e) (and-end (many 1 
 
 -- else the marks decide
 pub copies-marked : (d : List ℕ) → (eqb (getD d 0 0) 0 || ltb 8 (getD d 0 0)) ≡ false → length d ≡ 1 + 3 * getD d 0 0
-    → formed Copies d ≡ eachIs (getD d 0 0) 3 copyMarked (drop 1 d)
+    → formed Copies d ≡ eachIs (getD d 0 0) 3 copyMarksValid (drop 1 d)
 unfolding formed
 copies-marked d e l = rw (copies-few (getD d 0 0), e, eq-eqb (length d) (1 + 3 * getD d 0 0) l)
 
@@ -121,7 +121,7 @@ reply-short k m e = go (eqb (numberIn m) accepted) (and-right (leb 4 (length m))
     go : (b : Bool) → cond b (formed (tells k) (dataIn m)) (isRefusalReply m) ≡ true → length m ≤ 68
     go true h = omega (arith, length-drop 4 m, formed-short (tells k) (drop 4 m) h)
     go false h =
-        omega (arith, eqb-true (length m) 4 (and-left (eqb (length m) 4) _ (and-right (listed (numberIn m) rows) _ h)))
+        omega (arith, eqb-true (length m) 4 (and-left (eqb (length m) 4) _ (and-right (listed (numberIn m) allNumbers) _ h)))
 
 -- what is known where the reader accepts: the reply at the front, and that it told of it
 pub record Accepted (kind : ℕ) (l : List ℕ) (number laid start len : ℕ) : Type 0 where
@@ -133,7 +133,7 @@ pub record Accepted (kind : ℕ) (l : List ℕ) (number laid start len : ℕ) : 
   pub version : isForeign (part l 2 size) ≡ false
   pub is-reply : isReply (kindOf kind) (part l 2 size) ≡ true
   pub number-is : number ≡ numberIn (part l 2 size)
-  pub laid-is : laid ≡ laidTold (part l 2 size)
+  pub laid-is : laid ≡ laidStated (part l 2 size)
   pub start-is : start ≡ 6
   pub len-is : len ≡ length (dataIn (part l 2 size))
 
@@ -146,7 +146,7 @@ accepted-of kind l number laid start len = next (nextAt l 0) refl
         → isReply (kindOf kind) (part l 2 size) ≡ c
         → cond a (Refused foreignVersion)
         (cond b (Refused unknownKind)
-        (cond c (Reply (numberIn (part l 2 size)) (laidTold (part l 2 size)) 6 (length (dataIn (part l 2 size)))) (Refused wrongLength)))
+        (cond c (Reply (numberIn (part l 2 size)) (laidStated (part l 2 size)) 6 (length (dataIn (part l 2 size)))) (Refused wrongLength)))
         ≡ Reply number laid start len
         → Accepted kind l number laid start len
     body at size end n f true v b c e p = let z : _≡_ {A = ℕ} 0 1 = cc in absurd (omega arith)
@@ -279,24 +279,24 @@ read-whole kind l number laid start len bytes e = whole-of (accepted-of kind l n
 
 -- ---- what is read, case by case
 
-reading-meant : (kind : ℕ) (l : List ℕ) → readingOf l (readReply kind l) ≡ replyTold kind (sentAlone l)
+reading-meant : (kind : ℕ) (l : List ℕ) → readingOf l (readReply kind l) ≡ replyContent kind (sentAlone l)
 unfolding readReply
 reading-meant kind l = next (nextAt l 0) refl
   where
     body : (m : List ℕ) (a b c : Bool) → (c ≡ true → dataIn m ≡ part l 6 (length (dataIn m)))
         → readingOf l (cond a (Refused foreignVersion)
-        (cond b (Refused unknownKind) (cond c (Reply (numberIn m) (laidTold m) 6 (length (dataIn m))) (Refused wrongLength))))
-        ≡ test a foreignVersion (test b unknownKind (test (not c) wrongLength (accept (told (numberIn m) (laidTold m) (dataIn m)))))
+        (cond b (Refused unknownKind) (cond c (Reply (numberIn m) (laidStated m) 6 (length (dataIn m))) (Refused wrongLength))))
+        ≡ test a foreignVersion (test b unknownKind (test (not c) wrongLength (accept (contentOf (numberIn m) (laidStated m) (dataIn m)))))
     body m true b c k = refl
     body m false true c k = refl
     body m false false false k = refl
-    body m false false true k = ap (λ (d : List ℕ). accept (told (numberIn m) (laidTold m) d)) (sym (k refl))
+    body m false false true k = ap (λ (d : List ℕ). accept (contentOf (numberIn m) (laidStated m) d)) (sym (k refl))
 
-    next : (n : Next) → nextAt l 0 ≡ n → readingOf l (readNext kind l n) ≡ replyTold kind (sentBy l n)
+    next : (n : Next) → nextAt l 0 ≡ n → readingOf l (readNext kind l n) ≡ replyContent kind (sentBy l n)
     next (Message at size end) e =
         let f = front-of l at size end e in
         let m = part l 2 size in
-        subst (λ (x : ℕ). readingOf l (readBody kind (part l x size)) ≡ replyTold kind (whole (part l x size))) (sym (f .starts))
+        subst (λ (x : ℕ). readingOf l (readBody kind (part l x size)) ≡ replyContent kind (whole (part l x size))) (sym (f .starts))
         (body m (isForeign m) (isUnknown kind) (isReply (kindOf kind) m) (data-front (kindOf kind) l at size end f))
     next Cut e = refl
     next End e = refl

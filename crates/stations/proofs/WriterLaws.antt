@@ -1,5 +1,5 @@
--- The writer. In order: the lengths of a kind's messages; its arguments, and where they stand; a message as the code lays it; what a call comes
--- to; what the writer leaves.
+-- The writer. In order: the lengths of a kind's messages; its arguments, and where they stand; a message as the code
+-- lays it; what a call comes to; what the writer leaves.
 use Prim.Native.Nat.{ℕ, zero, suc, _+_, _-_, _/_, _%_, _≤_, _<_}
 use mathlib.Core.Path.{_≡_, refl, sym, ap, subst, _∙_}
 use mathlib.Core.Bool.{Bool, true, false, _&&_, cond, false≢true}
@@ -26,7 +26,7 @@ use Rattle.steps.proofs.GuardLaws.{turned-back, passed}
 use Rattle.steps.proofs.RangeLaws.{span-within, ranged}
 use Rattle.messages.specs.Replies.{be16}
 use Rattle.stations.specs.declared.Written.{Written}
-use Rattle.stations.specs.Writer.{messageOf, named, composed, written, writtenAs, messageIn}
+use Rattle.stations.specs.Writer.{messageOf, canonical, composed, written, writtenAs, messageIn}
 use Rattle.stations.specs.Promises.{Wrote}
 use Rattle.stations.specs.Private.{singles, tail, Lengths, laidMessage, MessageRoom, places, Within, atPlaces}
 
@@ -59,7 +59,8 @@ count k = singles (leastLength k) (mostLength k)
 abbrev pub ending : Kind → List ℕ → List ℕ
 ending k bs = tail (leastLength k) (mostLength k) bs
 
--- a kind has four arguments of one byte at the most, and one that has bytes as well has an offset for them and three such arguments
+-- a kind has four arguments of one byte at the most, and one that has bytes as well has an offset for them and three
+-- such arguments
 roomy : (k : Kind) → (leb (count k) 4 && cond (has bytes k) (has offset k && eqb (count k) 3) true) ≡ true
 unfolding all kinds names among code
 roomy k = each-kind (λ (x : Kind). leb (count x) 4 && cond (has bytes x) (has offset x && eqb (count x) 3) true) refl k
@@ -140,8 +141,9 @@ gets-part i (suc n) r h =
     ap (λ (l : List ℕ). getD r i 0 ∷ l) (gets-part (i + 1) n r (omega arith) ∙ ap (λ (j : ℕ). take n (drop j r)) (add-one i))
     ∙ ap (take (suc n)) (sym (drop-cons r i 0 (omega arith)))
 
--- what is known of each kind k, of its calls c and of arguments r: the arguments of a call, asked for again, make the same call, also where
--- they stand at their places; the arguments of a call that was asked for are those that it was made of
+-- what is known of each kind k, of its calls c and of arguments r: the arguments of a call, asked for again, make the
+-- same call, also where they stand at their places; the arguments of a call that was asked for are those that it was
+-- made of
 pub record KindLaws (k : Kind) (c : Call) (r bs : List ℕ) : Type 0 where
   pub asked-again : callOf k (values (names k) c bs) ≡ callOf k (values (names k) c [])
   pub placed-again : callOf k (drop 1 (atPlaces c (places k))) ≡ callOf k (values (names k) c [])
@@ -255,11 +257,11 @@ module _ (k : Kind) (r bs : List ℕ) where
   unfolding callOf
   room-for out e h = record { lengths = lengths k; few = few-singles k; short = short-message (callOf k r) bs e; room = h }
 
-  pub named-made : named (callOf k r) ≡ callOf k r
+  pub named-made : canonical (callOf k r) ≡ callOf k r
   unfolding callOf
   named-made = kind-laws k (callOf k r) r bs .made-again
 
-pub written-inside : (room : ℕ) (c : Call) (bs : List ℕ) → 71 ≤ room → outside 254 (length bs) (named c) ≡ accepted
+pub written-inside : (room : ℕ) (c : Call) (bs : List ℕ) → 71 ≤ room → outside 254 (length bs) (canonical c) ≡ accepted
     → written room c bs ≡ accept (messageOf c bs)
 unfolding written
 written-inside room c bs h e = rw (le-ltb room 71 h) (passed _ (accept (messageOf c bs)) e)
@@ -331,15 +333,15 @@ values-count c bs =
     ∙ ap (λ (n : ℕ). n + length (ending k bs)) (length-take-le (count k) (drop 1 (atPlaces c (places k))) few)
 
 -- a call with the arguments that its kind names is written as the call
-pub same-message : (c : Call) (bs : List ℕ) → messageOf (named c) bs ≡ messageOf c bs
+pub same-message : (c : Call) (bs : List ℕ) → messageOf (canonical c) bs ≡ messageOf c bs
 unfolding callOf
 same-message c bs =
     ap (λ (l : List ℕ). be16 (length (1 ∷ kindNumber (c .kind) ∷ l)) ++ (1 ∷ kindNumber (c .kind) ∷ l)) (kind-laws (c .kind) c [] bs .same-values)
 
-composed-named : (c : Call) (bs : List ℕ) → composed (named c) bs ≡ composed c bs
+composed-named : (c : Call) (bs : List ℕ) → composed (canonical c) bs ≡ composed c bs
 composed-named c bs =
-    ap (λ (d : Call). guarded (outside 254 (length bs) d) (accept (messageOf (named c) bs))) (named-made (c .kind) (values (names (c .kind)) c []) bs)
-    ∙ ap (λ (m : List ℕ). guarded (outside 254 (length bs) (named c)) (accept m)) (same-message c bs)
+    ap (λ (d : Call). guarded (outside 254 (length bs) d) (accept (messageOf (canonical c) bs))) (named-made (c .kind) (values (names (c .kind)) c []) bs)
+    ∙ ap (λ (m : List ℕ). guarded (outside 254 (length bs) (canonical c)) (accept m)) (same-message c bs)
 
 -- of a known kind byte
 pub written-known : (room kind : ℕ) (r bs : List ℕ) → isUnknown kind ≡ false → writtenAs room kind r bs ≡ written room (callOf (kindOf kind) r) bs

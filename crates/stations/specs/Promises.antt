@@ -9,7 +9,7 @@ use Rattle.messages.specs.Promises.{sentAlone}
 use Rattle.stations.specs.declared.Written.{Written}
 use Rattle.stations.specs.declared.Reading.{Reading}
 use Rattle.stations.specs.Writer.{messageIn}
-use Rattle.stations.specs.Reader.{readReply, readingOf, replyTold}
+use Rattle.stations.specs.Reader.{readReply, readingOf, replyContent}
 
 -- what the writer leaves of a call that comes to o: its number, the length of the message, and the message at the front
 -- of the buffer; "refused, it writes nothing, and bytes past a message remain as lent"
@@ -22,4 +22,4 @@ pub record Wrote (o : Outcome (List ℕ)) (out out′ : List ℕ) (r : Written) 
 -- reply at their front
 pub record ReadOf (kind : ℕ) (l : List ℕ) (r : Reading) : Type 0 where
   pub told : r ≡ readReply kind l
-  pub meant : readingOf l r ≡ replyTold kind (sentAlone l)
+  pub meant : readingOf l r ≡ replyContent kind (sentAlone l)

@@ -19,20 +19,21 @@ body c bs = 1 ∷ kindNumber (c .kind) ∷ values (names (c .kind)) c bs
 abbrev pub messageOf : Call → List ℕ → List ℕ
 messageOf c bs = be16 (length (body c bs)) ++ body c bs
 
--- the call with the arguments that its kind names: others are 0, and play no part
-abbrev pub named : Call → Call
-named c = callOf (c .kind) (values (names (c .kind)) c [])
+-- the call with what its kind names; all else is 0, and plays no part
+abbrev pub canonical : Call → Call
+canonical c = callOf (c .kind) (values (names (c .kind)) c [])
 
 -- "7 as document 01 does, with frames up to 253 in range", or the message
 abbrev pub composed : Call → List ℕ → Outcome (List ℕ)
-composed c bs = guarded (outside 254 (length bs) (named c)) (accept (messageOf c bs))
+composed c bs = guarded (outside 254 (length bs) (canonical c)) (accept (messageOf c bs))
 
 -- "The writer gives 18 for a buffer below 71 bytes, then 7": what a call with a write's bytes bs comes to in a buffer
 -- of `room` bytes
 unfoldable pub written : ℕ → Call → List ℕ → Outcome (List ℕ)
 written room c bs = test (ltb room 71) shortBuffer (composed c bs)
 
--- The same of a kind byte and arguments in their order: 3 for a byte that is no kind's, after 18 and before 7.
+-- what a kind byte, its arguments in their order and a write's bytes come to: 18, 3 for a byte that is no kind's, 7, or
+-- the message
 unfoldable pub writtenAs : ℕ → ℕ → List ℕ → List ℕ → Outcome (List ℕ)
 writtenAs room kind arguments bs =
     test (ltb room 71) shortBuffer (test (isUnknown kind) unknownKind (composed (callOf (kindOf kind) arguments) bs))

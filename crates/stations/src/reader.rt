@@ -15,25 +15,25 @@ ghost use Prim.Native.Nat.{_+_, _*_, _≤_};
 ghost use mathlib.Core.Path.{_≡_};
 ghost use lib.ListN.{length, drop};
 ghost use Rattle.tables.specs.Lists.{listed};
-ghost use Rattle.tables.specs.Numbers.{rows};
+ghost use Rattle.tables.specs.Numbers.{allNumbers};
 ghost use Rattle.steps.specs.declared.Data.the-variants.{Copies};
 ghost use Rattle.steps.specs.Kinds.{kindOf};
-ghost use Rattle.steps.specs.Data.{copyMarked, eachIs, formed};
+ghost use Rattle.steps.specs.Data.{copyMarksValid, eachIs, formed};
 ghost use Rattle.stations.specs.declared.Reading.the-variants.{Refused};
 ghost use Rattle.stations.specs.Promises.{ReadOf};
-ghost use Rattle.stations.specs.Reader.{laidTold, isReply, readBody};
+ghost use Rattle.stations.specs.Reader.{laidStated, isReply, readBody};
 
 // Whether a number is in the papers' table.
 fn is_listed(number: u8) -> bool
-    ensures { λ r. ⌜ r ≡ listed number rows ⌝ }
+    ensures { λ r. ⌜ r ≡ listed number allNumbers ⌝ }
 {
     (number != ACCEPTED) & (number <= LAST_NUMBER)
 }
 
 // Whether both marks of each of n copies are 0 or 1, in the data of a look at a page.
-fn marked(d: &[u8], n: usize) -> bool
+fn marks_valid(d: &[u8], n: usize) -> bool
     requires { ⌜ 1 + 3 * n ≤ length (now d) ⌝ }
-    ensures { λ r. ⌜ r ≡ eachIs n 3 copyMarked (drop 1 (now (d .entry))) ⌝ }
+    ensures { λ r. ⌜ r ≡ eachIs n 3 copyMarksValid (drop 1 (now (d .entry))) ⌝ }
 {
     let mut ok = true;
     let mut i: usize = 0;
@@ -58,7 +58,7 @@ fn are_copies(d: &[u8]) -> bool
     if d.len() != 1 + 3 * n {
         return false;
     }
-    marked(d, n)
+    marks_valid(d, n)
 }
 
 // Whether data are of the form that is told.
@@ -76,7 +76,7 @@ fn is_formed(tells: Data, d: &[u8]) -> bool
 // The bytes laid that a reply tells.
 fn laid_in(m: &[u8]) -> u16
     requires { ⌜ 4 ≤ length (now m) ⌝ }
-    ensures { λ r. ⌜ r ≡ laidTold (now (m .entry)) ⌝ }
+    ensures { λ r. ⌜ r ≡ laidStated (now (m .entry)) ⌝ }
 {
     m[2] as u16 * 256 + m[3] as u16
 }

@@ -37,7 +37,7 @@ fn count_of(least: u8, most: u8) -> usize
     least as usize - 2
 }
 
-// The bytes that end them.
+// The bytes of a write, for a kind whose messages end with bytes; else none.
 fn tail_of(least: u8, most: u8, bytes: &[u8]) -> &[u8]
     ensures { λ r. ⌜ now r ≡ tail least most (now (bytes .entry)) ⌝ }
 {

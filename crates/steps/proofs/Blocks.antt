@@ -1,5 +1,5 @@
--- The bytes of a frame in the joined stores. In order: a list in three pieces; bytes laid into one frame; into each of some frames;
--- into the frames of some copies.
+-- The bytes of a frame in the joined stores. In order: a list in three pieces; bytes laid into one frame; into each of
+-- some frames; into the frames of some copies.
 use Prim.Native.Nat.{ℕ, _+_, _-_, _*_, _≤_, _<_}
 use mathlib.Core.Path.{_≡_, refl, sym, ap, ap₂, _∙_}
 use mathlib.Core.Logic.{_≢_}
@@ -16,7 +16,7 @@ use Rattle.tables.specs.declared.Copy.{Copy}
 use Rattle.tables.specs.Lists.{all, count, listed}
 use Rattle.tables.specs.Model.{onFrame}
 use Rattle.tables.proofs.ListLaws.{and-intro, and-left, and-right, or-left, or-right, all-first, all-rest}
-use Rattle.steps.specs.Stores.{part, splice, block, lay, framesOf, layAll}
+use Rattle.steps.specs.Stores.{part, splice, block, layFrame, framesOf, layFrames}
 use Rattle.steps.specs.Promises.{frameWithin}
 use Rattle.steps.specs.Private.{layEach}
 use Rattle.steps.proofs.StoreLaws.{length-part, part-left, part-right, length-splice, splice-all, splice-left, splice-right}
@@ -67,26 +67,26 @@ module _ (st : List ℕ) (x : ℕ) (inside : 64 * x + 64 ≤ length st) (o : ℕ
   unfolding before rest part
   pieces = ap (λ (l : List ℕ). take (64 * x) st ++ l) (take-append-drop 64 (drop (64 * x) st)) ∙ take-append-drop (64 * x) st
 
-  laid-pieces : lay st x o b ≡ before ++ (splice (block st x) o b ++ rest)
+  laid-pieces : layFrame st x o b ≡ before ++ (splice (block st x) o b ++ rest)
   laid-pieces =
       ap₂ (λ (l : List ℕ) (k : ℕ). splice l (k + o) b) (sym pieces) (sym before-long)
       ∙ splice-middle before (block st x) rest o b (omega (arith, own-long))
 
-  pub length-lay : length (lay st x o b) ≡ length st
+  pub length-lay : length (layFrame st x o b) ≡ length st
   length-lay = length-splice st (64 * x + o) b (omega arith)
 
-  pub block-lay-own : block (lay st x o b) x ≡ splice (block st x) o b
+  pub block-lay-own : block (layFrame st x o b) x ≡ splice (block st x) o b
   block-lay-own =
       ap (λ (l : List ℕ). block l x) laid-pieces ∙ block-middle before (splice (block st x) o b) rest x before-long new-long
 
-  pub block-lay-other : (y : ℕ) → x ≢ y → block (lay st x o b) y ≡ block st y
+  pub block-lay-other : (y : ℕ) → x ≢ y → block (layFrame st x o b) y ≡ block st y
   block-lay-other y d =
       ap (λ (l : List ℕ). block l y) laid-pieces
       ∙ block-beside before (splice (block st x) o b) (block st x) rest x y before-long new-long own-long d
       ∙ ap (λ (l : List ℕ). block l y) pieces
 
 -- a whole frame laid
-pub block-lay-whole : (st : List ℕ) (x : ℕ) → 64 * x + 64 ≤ length st → (b : List ℕ) → length b ≡ 64 → block (lay st x 0 b) x ≡ b
+pub block-lay-whole : (st : List ℕ) (x : ℕ) → 64 * x + 64 ≤ length st → (b : List ℕ) → length b ≡ 64 → block (layFrame st x 0 b) x ≡ b
 block-lay-whole st x inside b e =
     block-lay-own st x inside 0 b (omega arith) ∙ splice-all (block st x) b (e ∙ sym (length-part st (64 * x) 64 inside))
 
@@ -114,32 +114,32 @@ module _ (limit o : ℕ) (b : List ℕ) (span : o + length b ≤ 64) where
     inside : 64 * f + 64 ≤ length st
     inside = let h = ltb-true f limit low in omega arith
 
-    next-long : length (lay st f o b) ≡ 64 * limit
+    next-long : length (layFrame st f o b) ≡ 64 * limit
     next-long = length-lay st f inside o b span ∙ long
 
-  pub length-all : (fs st : List ℕ) → length st ≡ 64 * limit → all (below limit) fs ≡ true → length (layAll fs o b st) ≡ 64 * limit
-  unfolding layAll
+  pub length-all : (fs st : List ℕ) → length st ≡ 64 * limit → all (below limit) fs ≡ true → length (layFrames fs o b st) ≡ 64 * limit
+  unfolding layFrames
   length-all [] st long low = long
   length-all (f ∷ fs) st long low =
-      length-all fs (lay st f o b) (next-long st long f (all-first (below limit) f fs low)) (all-rest (below limit) f fs low)
+      length-all fs (layFrame st f o b) (next-long st long f (all-first (below limit) f fs low)) (all-rest (below limit) f fs low)
 
   -- every other frame keeps its bytes
   pub all-other : (fs st : List ℕ) → length st ≡ 64 * limit → all (below limit) fs ≡ true → (x : ℕ) → listed x fs ≡ false
-      → block (layAll fs o b st) x ≡ block st x
-  unfolding layAll
+      → block (layFrames fs o b st) x ≡ block st x
+  unfolding layFrames
   all-other [] st long low x none = refl
   all-other (f ∷ fs) st long low x none =
       let one = all-first (below limit) f fs low in
-      all-other fs (lay st f o b) (next-long st long f one) (all-rest (below limit) f fs low) x (or-right (eqb x f) _ none)
+      all-other fs (layFrame st f o b) (next-long st long f one) (all-rest (below limit) f fs low) x (or-right (eqb x f) _ none)
       ∙ block-lay-other st f (inside st long f one) o b span x (λ e. eqb-false x f (or-left (eqb x f) _ none) (sym e))
 
   -- one of them, once, takes the bytes
   pub all-own : (fs st : List ℕ) → length st ≡ 64 * limit → all (below limit) fs ≡ true → (x : ℕ) → count (isFrame x) fs ≡ 1
-      → block (layAll fs o b st) x ≡ splice (block st x) o b
-  unfolding layAll count
+      → block (layFrames fs o b st) x ≡ splice (block st x) o b
+  unfolding layFrames count
   all-own [] st long low x once = absurd (omega arith)
   all-own (f ∷ fs) st long low x once =
-      go (eqb f x) refl once (all-own fs (lay st f o b) (next-long st long f (all-first (below limit) f fs low)) (all-rest (below limit) f fs low) x)
+      go (eqb f x) refl once (all-own fs (layFrame st f o b) (next-long st long f (all-first (below limit) f fs low)) (all-rest (below limit) f fs low) x)
     where
       one : below limit f ≡ true
       one = all-first (below limit) f fs low
@@ -147,14 +147,14 @@ module _ (limit o : ℕ) (b : List ℕ) (span : o + length b ≤ 64) where
       rest : all (below limit) fs ≡ true
       rest = all-rest (below limit) f fs low
 
-      long′ : length (lay st f o b) ≡ 64 * limit
+      long′ : length (layFrame st f o b) ≡ 64 * limit
       long′ = next-long st long f one
 
       go : (v : Bool) → eqb f x ≡ v → cond v 1 0 + count (isFrame x) fs ≡ 1
-          → (count (isFrame x) fs ≡ 1 → block (layAll fs o b (lay st f o b)) x ≡ splice (block (lay st f o b) x) o b)
-          → block (layAll fs o b (lay st f o b)) x ≡ splice (block st x) o b
+          → (count (isFrame x) fs ≡ 1 → block (layFrames fs o b (layFrame st f o b)) x ≡ splice (block (layFrame st f o b) x) o b)
+          → block (layFrames fs o b (layFrame st f o b)) x ≡ splice (block st x) o b
       go true e n later =
-          all-other fs (lay st f o b) long′ rest x (none-listed x fs (omega arith))
+          all-other fs (layFrame st f o b) long′ rest x (none-listed x fs (omega arith))
           ∙ rw (← eqb-true f x e) (block-lay-own st f (inside st long f one) o b span)
       go false e n later =
           later (omega arith)
@@ -227,23 +227,23 @@ module _ (those : Copy → Bool) where
   module _ (limit o : ℕ) (b : List ℕ) (span : o + length b ≤ 64) (cs : List Copy) (st : List ℕ) (long : length st ≡ 64 * limit)
       (rules : all (frameWithin those limit) cs ≡ true) (x : ℕ) where
     -- a frame of no copy of the page keeps its bytes
-    pub each-other : count (onFrame x) cs ≡ 0 → block (layAll (framesOf those cs) o b st) x ≡ block st x
+    pub each-other : count (onFrame x) cs ≡ 0 → block (layFrames (framesOf those cs) o b st) x ≡ block st x
     each-other none = all-other limit o b span (framesOf those cs) st long (frames-low limit cs rules) x (off-frames x cs none)
 
     -- the frame of one of those, which no other copy of the page has, takes the bytes
-    pub each-own : count (onFrame x) cs ≤ 1 → 1 ≤ count (oneOn those x) cs → block (layAll (framesOf those cs) o b st) x ≡ splice (block st x) o b
+    pub each-own : count (onFrame x) cs ≤ 1 → 1 ≤ count (oneOn those x) cs → block (layFrames (framesOf those cs) o b st) x ≡ splice (block st x) o b
     each-own once some =
         let few = fewer x cs in
         let same = frames-count x cs in
         all-own limit o b span (framesOf those cs) st long (frames-low limit cs rules) x (omega arith)
 
   -- the loop over the copies lays into these frames
-  pub lay-each-is : (st : List ℕ) (cs : List Copy) (o : ℕ) (b : List ℕ) → layEach those st cs o b ≡ layAll (framesOf those cs) o b st
-  unfolding layEach layAll framesOf
+  pub lay-each-is : (st : List ℕ) (cs : List Copy) (o : ℕ) (b : List ℕ) → layEach those st cs o b ≡ layFrames (framesOf those cs) o b st
+  unfolding layEach layFrames framesOf
   lay-each-is st [] o b = refl
   lay-each-is st (c ∷ cs) o b = go (those c) (λ st′. lay-each-is st′ cs o b)
     where
-      go : (u : Bool) → ((st′ : List ℕ) → layEach those st′ cs o b ≡ layAll (framesOf those cs) o b st′)
-          → layEach those (cond u (lay st (c .frame) o b) st) cs o b ≡ layAll (cond u (c .frame ∷ framesOf those cs) (framesOf those cs)) o b st
-      go true later = later (lay st (c .frame) o b)
+      go : (u : Bool) → ((st′ : List ℕ) → layEach those st′ cs o b ≡ layFrames (framesOf those cs) o b st′)
+          → layEach those (cond u (layFrame st (c .frame) o b) st) cs o b ≡ layFrames (cond u (c .frame ∷ framesOf those cs) (framesOf those cs)) o b st
+      go true later = later (layFrame st (c .frame) o b)
       go false later = later st

@@ -1,5 +1,5 @@
--- What `carry` leaves: all as lent where the decision does not lie within it, and else what its work says. In order: what is lent; the
--- first test; what is left.
+-- What `carry` leaves: all as lent where the decision does not lie within it, and else what its work says. In order:
+-- what is lent; the first test; what is left.
 use Prim.Native.Nat.{ℕ, _+_, _/_, _%_, _≤_, _<_}
 use mathlib.Core.Path.{_≡_, refl, ap, ap₂, _∙_}
 use mathlib.Core.Bool.{Bool, true, false, not, _&&_, _||_}
@@ -18,7 +18,7 @@ use Rattle.tables.proofs.Loops.{use-low}
 use Rattle.steps.specs.declared.Work.{Work}
 use Rattle.steps.specs.declared.Decision.{Decision}
 use Rattle.steps.specs.Stores.{over}
-use Rattle.steps.specs.Effects.{stored, told}
+use Rattle.steps.specs.Effects.{stored, workData}
 use Rattle.steps.specs.Promises.{lent, frameWithin, clearWithin, workWithin, carried}
 use Rattle.steps.specs.Private.{Room, RoomEach, WholeFrames, framesIn}
 use Rattle.steps.proofs.StoreLaws.{taken-apart}
@@ -85,7 +85,7 @@ module _ (d : Decision) (bs x y out : List ℕ) where
     carried-outside e = rw (le-leb 64 (length out) (out-long x out fit), whole-frames x out fit, is, e)
 
     pub carried-fit : workWithin (d .before) (d .len) (framesIn x y) (length bs) w ≡ true → (x′ y′ out′ : List ℕ) → length x′ ≡ length x
-        → x′ ++ y′ ≡ stored (d .before) w bs (x ++ y) → out′ ≡ over (told (d .before) w (d .len) (x ++ y)) out
+        → x′ ++ y′ ≡ stored (d .before) w bs (x ++ y) → out′ ≡ over (workData (d .before) w (d .len) (x ++ y)) out
         → lent x′ y′ out′ ≡ carried d bs (lent x y out)
     unfolding carried
     carried-fit e x′ y′ out′ l j o =

@@ -1,6 +1,7 @@
--- What a work leaves in the frames that its page does not have after it: a frame that the page had holds 64 zeros, and one that it did not
--- have either keeps its bytes, since the work does not lay into it. In order: what is asked of a work for that; records that are on the same
--- frames; a write; a new copy; a copy or all of them deleted; on which frames a changed record is.
+-- What a work leaves in the frames that its page does not have after it: a frame that the page had holds 64 zeros, and
+-- one that it did not have either keeps its bytes, since the work does not lay into it. In order: what is asked of a
+-- work for that; records that are on the same frames; a write; a new copy; a copy or all of them deleted; on which
+-- frames a changed record is.
 use Prim.Native.Nat.{ℕ, _+_, _*_, _≤_, _<_}
 use mathlib.Core.Path.{_≡_, refl, sym, ap, ap₂, _∙_, subst}
 use mathlib.Core.Logic.{_≢_}
@@ -23,7 +24,7 @@ use Rattle.steps.specs.declared.Lay.{Lay}
 use Rattle.steps.specs.declared.Lay.the-variants.{Nothing, ZerosEach, Spread}
 use Rattle.steps.specs.declared.Work.{Work}
 use Rattle.steps.specs.declared.Work.the-variants.{Lays}
-use Rattle.steps.specs.Stores.{block, zeros, framesOf, layAll}
+use Rattle.steps.specs.Stores.{block, zeros, framesOf, layFrames}
 use Rattle.steps.specs.Steps.{isPlaced, copyAt}
 use Rattle.steps.specs.Effects.{laidFrames, laidInto, stored}
 use Rattle.steps.specs.Promises.{frameWithin, workWithin}
@@ -95,7 +96,7 @@ module _ (limit size : ℕ) (g g′ : Page) where
   -- ---- without the copy on frame x, which is filled
   pub removed-frees : (x : ℕ) → x < limit → eqb x 255 ≡ false → ((f : ℕ) → on f g′ + cond (eqb x f) 1 0 ≡ on f g)
       → Frees limit size g g′ (Lays Nothing x)
-  unfolding laidFrames layAll
+  unfolding laidFrames layFrames
   removed-frees x low placed fewer =
       record {
         own-only = λ f l z z′.
@@ -127,7 +128,7 @@ on-placed f low (c ∷ cs) = ap₂ (λ (b : Bool) (n : ℕ). cond b 1 0 + n) (go
 
 pub deleted-frees : (limit size : ℕ) → limit < 255 → (g g′ : Page) → all (frameWithin isPlaced limit) (inUse g) ≡ true
     → ((f : ℕ) → f < limit → on f g ≤ 1) → Frees limit size g g′ (Lays ZerosEach 255)
-unfolding laidFrames layAll
+unfolding laidFrames layFrames
 deleted-frees limit size small g g′ within once =
     record {
       own-only = λ f l z z′. not-in-either f (framesOf isPlaced (inUse g)) [] (off-frames isPlaced f (inUse g) z) refl;

@@ -1,5 +1,5 @@
--- What is to be known of a call's plan, from one walk over the kinds. In order: what holds of an outcome if it is accepted; the
--- copies of a page; one plan of each form; the walk; the call on tables that keep the rules.
+-- What is to be known of a call's plan, from one walk over the kinds. In order: what holds of an outcome if it is
+-- accepted; the copies of a page; one plan of each form; the walk; the call on tables that keep the rules.
 use Prim.Native.Nat.{ℕ, _+_, _*_, _≤_, _<_, zero-le}
 use mathlib.Core.Path.{_≡_, refl, sym, ap, subst, _∙_}
 use mathlib.Core.Logic.{_≢_}
@@ -16,7 +16,7 @@ use Rattle.tables.specs.declared.Tables.{Tables}
 use Rattle.tables.specs.declared.Edit.{Edit}
 use Rattle.tables.specs.declared.Edit.the-variants.{Kept, Created, Deleted, Granted, Staled, Placed, Added, Removed, Marked}
 use Rattle.tables.specs.Lists.{all, count, listed}
-use Rattle.tables.specs.Numbers.{accepted, noPage, noRight, noCopy, frameHeld, table}
+use Rattle.tables.specs.Numbers.{accepted, noPage, noRight, noCopy, frameHeld, messageNumbers}
 use Rattle.tables.specs.Model.{frames, isNull, inUse, absent, pageAt}
 use Rattle.tables.specs.Rules.{free, isCurrent, copyRule, sound}
 use Rattle.tables.specs.Search.{isFree, isRetired}
@@ -45,10 +45,9 @@ use Rattle.steps.specs.declared.Work.{Work}
 use Rattle.steps.specs.declared.Work.the-variants.{Shows, Lays}
 use Rattle.steps.specs.Kinds.{offset, bytes, frame, names, tells, isRetire, code, among, has, leastLength}
 use Rattle.steps.specs.Calls.{badSpan, outside}
-use Rattle.steps.specs.Steps.{Outcome, refuse, accept, test, guarded, Plan, planOf, planned, noWork, editing, retiring, showing, laying, clearing, may, owns, isPlaced, copyAt, currents, recents, placed, firstCurrent, lacksRight, lacksOwner, lacksCopy, copying, perform, decideOn, pageFor, viewOf, decide}
-use Rattle.steps.specs.Data.{copyMarked, eachIs, formed}
-use Rattle.steps.specs.Stores.{block}
-use Rattle.steps.specs.Effects.{entries, laidFrames, shownOf, bytesLaid, told}
+use Rattle.steps.specs.Steps.{Outcome, refuse, accept, test, guarded, Plan, planOf, planned, noWork, editing, retiring, showing, laying, clearing, may, owns, isPlaced, copyAt, currents, recents, placedCount, firstCurrent, lacksRight, lacksOwner, lacksCopy, copying, perform, decideOn, pageFor, viewOf, decide}
+use Rattle.steps.specs.Data.{copyMarksValid, eachIs, formed}
+use Rattle.steps.specs.Effects.{copiesShown, laidFrames, shownOf, bytesLaid, workData}
 use Rattle.steps.specs.Promises.{frameWithin, layWithin, showWithin, workWithin}
 use Rattle.steps.proofs.RangeLaws.{NamesNear, span-within, outside-listed, ranged}
 use Rattle.steps.proofs.DecisionLaws.{page-near}
@@ -61,21 +60,21 @@ use Rattle.steps.proofs.ClearLaws.{on, Frees, kept-frees, written-frees
 
 -- and if it is turned back, that is with a number of the table
 pub data IfAccepted {A : Type 0} (P : A → Type 0) : Outcome A → Type 0 where
-  if-refused : {n : ℕ} → listed n table ≡ true → IfAccepted P (refuse n)
+  if-refused : {n : ℕ} → listed n messageNumbers ≡ true → IfAccepted P (refuse n)
   if-accepted : {a : A} → P a → IfAccepted P (accept a)
 
 -- behind a test
-pub past : {A : Type 0} {P : A → Type 0} {o : Outcome A} (b : Bool) (n : ℕ) → listed n table ≡ true → (b ≡ false → IfAccepted P o)
+pub past : {A : Type 0} {P : A → Type 0} {o : Outcome A} (b : Bool) (n : ℕ) → listed n messageNumbers ≡ true → (b ≡ false → IfAccepted P o)
     → IfAccepted P (test b n o)
 past true n row h = if-refused row
 past false n row h = h refl
 
 -- behind a number that is 0 or one of the table
-pub past-number : {A : Type 0} {P : A → Type 0} {o : Outcome A} (n : ℕ) → listed n (accepted ∷ table) ≡ true → (n ≡ accepted → IfAccepted P o)
+pub past-number : {A : Type 0} {P : A → Type 0} {o : Outcome A} (n : ℕ) → listed n (accepted ∷ messageNumbers) ≡ true → (n ≡ accepted → IfAccepted P o)
     → IfAccepted P (guarded n o)
 past-number {A} {P} {o} n row h = go (eqb n accepted) refl row
   where
-    go : (b : Bool) → eqb n accepted ≡ b → (b || listed n table) ≡ true → IfAccepted P (test (not b) n o)
+    go : (b : Bool) → eqb n accepted ≡ b → (b || listed n messageNumbers) ≡ true → IfAccepted P (test (not b) n o)
     go true e row = h (eqb-true n accepted e)
     go false e row = if-refused row
 
@@ -115,13 +114,13 @@ module _ {limit : ℕ} where
   -- those that have a frame have it below the limit
   those-within : (those : Copy → Bool) {g : Page} → StandingPage limit g
       → ((c : Copy) → GoodCopy limit (g .n) c → those c ≡ true → isNull c ≡ false) → all (frameWithin those limit) (inUse g) ≡ true
-  those-within those {g} s placed = all-imp (copyRule limit (g .n)) (frameWithin those limit) (inUse g) one (s .copies-ok)
+  those-within those {g} s placedCount = all-imp (copyRule limit (g .n)) (frameWithin those limit) (inUse g) one (s .copies-ok)
     where
       one : (c : Copy) → copyRule limit (g .n) c ≡ true → frameWithin those limit c ≡ true
       one c e = go (those c) refl
         where
           go : (u : Bool) → those c ≡ u → not (u && leb limit (c .frame)) ≡ true
-          go true q = let k = good-copy limit (g .n) c e in ap not (lt-leb limit (c .frame) (k .placed (placed c k q)))
+          go true q = let k = good-copy limit (g .n) c e in ap not (lt-leb limit (c .frame) (k .placed (placedCount c k q)))
           go false q = refl
 
   -- the CURRENT ones
@@ -158,21 +157,22 @@ module _ {limit : ℕ} where
 abbrev pub FrameNear : Tables → Call → Kind → Type 0
 FrameNear t c k = (has frame k && leb (frames t) (c .frame)) ≡ false
 
--- what is known of the plan of a call of kind k on page g of tables t: its edit is allowed, and what it retires, what it lays and shows fits, and lies within the
--- frames; its data have the form of the kind's; it clears the frames that it frees; its reply has at most 35 bytes for each 4 of its
--- message; the frame that it names is in range, and it is retired by that kind alone, where it is not already
+-- what is known of the plan of a call of kind k on page g of tables t: its edit is allowed, and what it retires, what
+-- it lays and shows fits, and lies within the frames; its data have the form of the kind's; it clears the frames that
+-- it frees; its reply has at most 35 bytes for each 4 of its message; the frame that it names is in range, and it is
+-- retired by that kind alone, where it is not already
 pub record PlanOk (t : Tables) (c : Call) (size : ℕ) (k : Kind) (plan : Plan) : Type 0 where
   pub frame-near : FrameNear t c k
   pub allowed : Allowed t (pageFor c) (plan .edit)
   pub may-retire : MayRetire t (pageFor c) (plan .edit) (plan .retires)
-  pub marks : plan .retires ≡ cond (isRetire k && not (isRetired (registered t (c .frame)))) (c .frame) 255
+  pub retires-is : plan .retires ≡ cond (isRetire k && not (isRetired (registered t (c .frame)))) (c .frame) 255
   pub short : plan .len ≤ 64
   pub paid : 4 * (6 + plan .len) ≤ 35 * (2 + leastLength k)
   pub laid-fits : plan .laid ≤ 512
   pub inside : workWithin (pageAt t (pageFor c)) (plan .len) (frames t) size (plan .work) ≡ true
-  pub shows : (st : List ℕ) → length st ≡ 64 * frames t → length (told (pageAt t (pageFor c)) (plan .work) (plan .len) st) ≡ plan .len
+  pub shows : (st : List ℕ) → length st ≡ 64 * frames t → length (workData (pageAt t (pageFor c)) (plan .work) (plan .len) st) ≡ plan .len
   pub as-told : (st : List ℕ) → length st ≡ 64 * frames t
-      → formed (tells k) (told (pageAt t (pageFor c)) (plan .work) (plan .len) st) ≡ true
+      → formed (tells k) (workData (pageAt t (pageFor c)) (plan .work) (plan .len) st) ≡ true
   pub laid-is : (bs st : List ℕ) → length bs ≡ size → length st ≡ 64 * frames t
       → plan .laid ≡ bytesLaid (pageAt t (pageFor c)) (plan .work) bs st
   pub frees : Frees (frames t) size (pageAt t (pageFor c)) (changed (pageAt t (pageFor c)) (plan .edit)) (plan .work)
@@ -212,7 +212,7 @@ module _ (t : Tables) (c : Call) (size : ℕ) (rules : Sound t)
           frame-near = far;
           allowed = a;
           may-retire = may;
-          marks = m;
+          retires-is = m;
           short = zero-le;
           paid = omega arith;
           laid-fits = few;
@@ -249,7 +249,7 @@ module _ (t : Tables) (c : Call) (size : ℕ) (rules : Sound t)
           frame-near = far;
           allowed = tt;
           may-retire = retires-none t p Kept;
-          marks = m;
+          retires-is = m;
           short = short;
           paid = paid;
           laid-fits = zero-le;
@@ -302,12 +302,12 @@ module _ (t : Tables) (c : Call) (size : ℕ) (rules : Sound t)
       → IfAccepted (PlanOk t c size DeleteCopy) (clearing (Removed k) (copyAt g k .frame))
   unfolding laidFrames tells
   remove-ok far k some less ok =
-      let placed = removed-placed (stands some) k ok in
-      let low = copy-at (stands some) k less .placed placed in
-      let one = eqb-false (copyAt g k .frame) 255 placed in
+      let placedCount = removed-placed (stands some) k ok in
+      let low = copy-at (stands some) k less .placed placedCount in
+      let one = eqb-false (copyAt g k .frame) 255 placedCount in
       lay-ok DeleteCopy far refl (Removed k) 255 refl 64 Nothing (copyAt g k .frame) ok (retires-none t p (Removed k)) (omega arith)
-      (λ bs st _ l. rw placed refl) (rw placed (lt-ltb _ (frames t) low))
-      (removed-frees (frames t) size g (changed g (Removed k)) (copyAt g k .frame) low placed (λ f. removed-on (stands some) k f less))
+      (λ bs st _ l. rw placedCount refl) (rw placedCount (lt-ltb _ (frames t) low))
+      (removed-frees (frames t) size g (changed g (Removed k)) (copyAt g k .frame) low placedCount (λ f. removed-on (stands some) k f less))
 
   perform-ok : (k : Kind) → NamesNear c k → FrameNear t c k
       → (has offset k && badSpan (c .offset) (cond (has bytes k) size (c .count))) ≡ false
@@ -323,7 +323,7 @@ module _ (t : Tables) (c : Call) (size : ℕ) (rules : Sound t)
       let most = stands some .most in
       let long = length-in-use (stands some) in
       let all = frames-length isPlaced (inUse g) in
-      only-ok DeletePage far refl Deleted refl (64 * placed g) ZerosEach tt (omega arith) (λ bs st _ l. omega arith)
+      only-ok DeletePage far refl Deleted refl (64 * placedCount g) ZerosEach tt (omega arith) (λ bs st _ l. omega arith)
       (placed-within (stands some))
       (deleted-frees (frames t) size (omega (arith, small)) g (changed g Deleted) (placed-within (stands some))
       (λ f near. omega (arith, holders-at t f p, rules .once f near))))
@@ -380,7 +380,7 @@ module _ (t : Tables) (c : Call) (size : ℕ) (rules : Sound t)
       let data-long = length-shown (inUse g) in
       show-ok LookPage far refl (1 + 3 * length (inUse g)) Show.Page (omega arith) (omega arith) refl (λ st l. omega arith)
       (λ st l. and-intro (and-intro (le-leb 1 (g .n) (omega arith)) (le-leb (g .n) 8 most))
-      (and-intro (eq-eqb _ (1 + 3 * g .n) (omega arith)) (subst (λ (n : ℕ). eachIs n 3 copyMarked (entries (inUse g)) ≡ true) long (shown-marked (inUse g))))))
+      (and-intro (eq-eqb _ (1 + 3 * g .n) (omega arith)) (subst (λ (n : ℕ). eachIs n 3 copyMarksValid (copiesShown (inUse g)) ≡ true) long (shown-marked (inUse g))))))
   perform-ok LookFrame name far span = show-ok LookFrame far refl 3 (Show.Holder _) (omega arith) (omega arith) refl
       (λ st l. three-shown (registered t (c .frame))) (λ st l. eq-eqb _ 3 l)
   perform-ok Retire name far span = by (isRetired (registered t (c .frame))) refl
@@ -397,8 +397,8 @@ module _ (t : Tables) (c : Call) (size : ℕ) (rules : Sound t)
 -- ---- a call on tables that keep the rules
 
 -- 0 or 7 is 0 or a number of the table
-range-listed : (frames size : ℕ) (c : Call) → listed (outside frames size c) (accepted ∷ table) ≡ true
-range-listed frames size c = outside-listed frames size c (λ (n : ℕ). listed n (accepted ∷ table) ≡ true) refl refl
+range-listed : (frames size : ℕ) (c : Call) → listed (outside frames size c) (accepted ∷ messageNumbers) ≡ true
+range-listed frames size c = outside-listed frames size c (λ (n : ℕ). listed n (accepted ∷ messageNumbers) ≡ true) refl refl
 
 pub decide-ok : (t : Tables) (c : Call) (size : ℕ) → sound t ≡ true → IfAccepted (PlanOk t c size (c .kind)) (decide t c size)
 unfolding decideOn

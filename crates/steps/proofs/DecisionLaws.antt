@@ -1,11 +1,11 @@
--- A decision as the code comes to it is the decision of the call, and what a caller has of one.
--- In order: a decision of a verdict; `ruled-is`, with 5 and 6 before it; `decides-any`, what a caller has of a decision on any tables.
+-- A decision as the code comes to it is the decision of the call, and what a caller has of one. In order: a decision of
+-- a verdict; `ruled-is`, with 5 and 6 before it; `decides-any`, what a caller has of a decision on any tables.
 use Prim.Native.Nat.{ℕ, _<_}
 use mathlib.Core.Path.{_≡_, refl, sym, ap, _∙_}
 use mathlib.Core.Bool.{Bool, true, false, not, _||_, cond}
 use native.Mathlib.Omega.{arith}
 use lib.Dec.{ltb, eqb}
-use borrow.Author.Tests.{ltb-true, lt-ltb, eqb-true, eqb-false}
+use borrow.Author.Tests.{ltb-true, eqb-true, eqb-false}
 use Rattle.tables.specs.declared.Page.{Page}
 use Rattle.tables.specs.declared.Tables.{Tables}
 use Rattle.tables.specs.Numbers.{accepted, brokenTables, misfitStore}
@@ -13,7 +13,7 @@ use Rattle.tables.specs.Model.{pageAt}
 use Rattle.tables.specs.Rules.{sound}
 use Rattle.tables.specs.Register.{registered}
 use Rattle.tables.specs.Changes.{changed, edited, after}
-use Rattle.tables.specs.Keep.{unchanged}
+use Rattle.tables.specs.Keep.{leavesRecord}
 use Rattle.tables.proofs.KeepLaws.{unchanged-after}
 use Rattle.steps.specs.declared.Call.{Call}
 use Rattle.steps.specs.declared.Decision.{Decision}
@@ -31,10 +31,6 @@ page-near c = go (ltb (c .page) 64) refl
     go : (b : Bool) → ltb (c .page) 64 ≡ b → cond b (c .page) 0 < 64
     go true e = ltb-true (c .page) 64 e
     go false e = omega arith
-
--- and the one that it names, where that is a page
-pub page-named : (c : Call) → c .page < 64 → pageFor c ≡ c .page
-page-named c h = rw (lt-ltb (c .page) 64 h)
 
 -- an outcome as the code holds it, with the record of its page
 pub decision-held : (p : ℕ) (g : Page) (o : Outcome Plan)
@@ -66,7 +62,7 @@ ruled-is t fl sl c size d h = go (rulesNumber t fl sl)
 
 module _ (t : Tables) (c : Call) where
   decides : (o : Outcome Plan) → (numberOf o ≡ accepted → sound t ≡ true) → DecisionTold t c o (decisionOf t c o)
-  unfolding unchanged
+  unfolding leavesRecord
   decides (refuse n) q =
       record { number-told = refl; moved-told = refl; laid-told = refl; len-told = refl; work-told = refl; tables-told = refl; before-told = refl }
   decides (accept plan) q =
@@ -76,14 +72,14 @@ module _ (t : Tables) (c : Call) where
         laid-told = refl;
         len-told = refl;
         work-told = refl;
-        tables-told = go (unchanged (pageAt t (pageFor c)) (plan .edit)) (eqb (plan .retires) 255) refl refl;
+        tables-told = go (leavesRecord (pageAt t (pageFor c)) (plan .edit)) (eqb (plan .retires) 255) refl refl;
         before-told = refl;
       }
     where
       next : ℕ → Tables
       next x = after t (edited t (pageFor c) (plan .edit) x)
 
-      go : (b z : Bool) → unchanged (pageAt t (pageFor c)) (plan .edit) ≡ b → eqb (plan .retires) 255 ≡ z
+      go : (b z : Bool) → leavesRecord (pageAt t (pageFor c)) (plan .edit) ≡ b → eqb (plan .retires) 255 ≡ z
           → cond (not b || not z) (next (plan .retires)) t ≡ next (plan .retires)
       go true true e none = sym (ap next (eqb-true (plan .retires) 255 none) ∙ unchanged-after t (pageFor c) (plan .edit) (q refl) e)
       go true false e some = refl

@@ -1,20 +1,18 @@
--- An outcome behind a number: turned back with it, or as it is where the number is 0. In order: the outcome; the verdict of it; what the
--- numbers 9, 10 and 12 of a step say.
-use Prim.Native.Nat.{ℕ, _<_}
-use mathlib.Core.Path.{_≡_, refl, sym, ap, _∙_}
-use mathlib.Core.Bool.{Bool, true, false, cond}
-use native.Mathlib.Omega.{arith}
-use lib.Dec.{leb}
-use borrow.Author.Tests.{eq-eqb, ne-eqb, leb-false}
+-- An outcome behind a number: turned back with it, or as it is where the number is 0. In order: the outcome; the
+-- verdict of it; what the numbers 9, 10 and 12 of a step say.
+use Prim.Native.Nat.{ℕ}
+use mathlib.Core.Path.{_≡_, sym, ap, _∙_}
+use mathlib.Core.Bool.{Bool, false, cond}
+use borrow.Author.Tests.{eq-eqb, ne-eqb}
 use Rattle.tables.specs.declared.Page.{Page}
-use Rattle.tables.specs.Numbers.{accepted, noPage, noRight, noCopy}
+use Rattle.tables.specs.Numbers.{accepted, noRight}
 use Rattle.tables.specs.Model.{absent}
 use Rattle.steps.specs.declared.Kind.{Kind}
 use Rattle.steps.specs.declared.Act.{Act}
 use Rattle.steps.specs.declared.Call.{Call}
 use Rattle.steps.specs.declared.View.{View}
 use Rattle.steps.specs.declared.Verdict.{Verdict}
-use Rattle.steps.specs.Steps.{Outcome, refuse, guarded, Plan, may, lacksRight, lacksCopy, perform}
+use Rattle.steps.specs.Steps.{Outcome, refuse, guarded, Plan, may, lacksRight, perform}
 use Rattle.steps.specs.Private.{verdictOf}
 
 module _ {A : Type 0} (n : ℕ) (o : Outcome A) where
@@ -41,12 +39,3 @@ of-kind v c size q e = e ∙ sym (ap (λ (x : Kind). verdictOf (perform v c size
 pub right-tested : (g : Page) (station : ℕ) (act : Act) {b : Bool} → absent g ≡ false → may g station act ≡ b
     → lacksRight g station act ≡ cond b accepted noRight
 right-tested g station act some e = rw (some, e)
-
--- the page has copy k
-pub has-copy : (g : Page) (k : ℕ) → lacksCopy g k ≡ accepted → (absent g ≡ false) × (k < g .n)
-has-copy g k e = go (absent g) (leb (g .n) k) refl refl e
-  where
-    go : (a b : Bool) → absent g ≡ a → leb (g .n) k ≡ b → cond a noPage (cond b noCopy accepted) ≡ accepted → (absent g ≡ false) × (k < g .n)
-    go true b p q e = absurd (omega arith)
-    go false true p q e = absurd (omega arith)
-    go false false p q e = (p, leb-false (g .n) k q)

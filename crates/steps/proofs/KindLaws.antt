@@ -1,54 +1,19 @@
--- The kinds and their numbers, and the last arm of a `match` on either.
--- In order: the kinds by their tags; what the kinds of an arm with several do not name; a number that is none of 2 to 12; the numbers of
--- the kinds.
+-- The kinds and their numbers. In order: a number that is none of 2 to 12, as the last arm of a `match` has it; the
+-- numbers of the kinds.
 use Prim.Native.Nat.{ℕ, _+_, _-_, _≤_, _<_}
-use mathlib.Core.Path.{_≡_, refl, sym, ap, _∙_}
-use mathlib.Core.Logic.{inl, inr}
-use mathlib.Core.Bool.{Bool, true, false, not}
-use mathlib.Core.List.{List, [], _∷_}
+use mathlib.Core.Path.{_≡_, refl, ap}
+use mathlib.Core.Bool.{Bool, true, false}
+use mathlib.Core.List.{List}
 use native.Mathlib.Decide.{decLe}
 use native.Mathlib.Omega.{arith}
 use lib.ListN.{length, getD, List·getD-eq-default}
 use lib.Dec.{eqb}
-use borrow.Author.Tests.{not-true, eqb-true, eqb-false, ltb-false}
-use types.Run.{OneOf}
-use denote.Enum.Declared.{tagOf}
+use borrow.Author.Tests.{eqb-true, eqb-false, ltb-false}
 use Rattle.tables.specs.Lists.{all, allBelow}
-use Rattle.tables.proofs.ListLaws.{and-left, and-right, or-left, or-right, all-at, below-at}
+use Rattle.tables.proofs.ListLaws.{or-left, or-right, all-at, below-at}
 use Rattle.steps.specs.declared.Kind.{Kind}
 use Rattle.steps.specs.declared.Kind.the-variants.{Create, DeletePage, Grant, Read, Write, MakeCopy, DeleteCopy, SetCurrent, RemoveCurrent, LookPage, LookFrame, Retire}
-use Rattle.steps.specs.Kinds.{Name, kinds, kindNumber, isUnknown, kindOf, has}
-use Rattle.steps.proofs.Kind as kind
-
--- the tags count the kinds in their order
-kind-at : (k : Kind) → getD kinds (tagOf kind.the-type k) Create ≡ k
-unfolding kinds
-kind-at Create = refl
-kind-at DeletePage = refl
-kind-at Grant = refl
-kind-at Read = refl
-kind-at Write = refl
-kind-at MakeCopy = refl
-kind-at DeleteCopy = refl
-kind-at SetCurrent = refl
-kind-at RemoveCurrent = refl
-kind-at LookPage = refl
-kind-at LookFrame = refl
-kind-at Retire = refl
-
-one-of : (f : ℕ → Bool) (ts : List ℕ) (x : ℕ) → OneOf ts x → all f ts ≡ true → f x ≡ true
-unfolding all
-one-of f [] x w e = absurd w
-one-of f (k ∷ []) x w e = rw w (and-left (f k) true e)
-one-of f (k ∷ m ∷ ts) x (inl w) e = rw w (and-left (f k) _ e)
-one-of f (k ∷ m ∷ ts) x (inr w) e = one-of f (m ∷ ts) x w (and-right (f k) _ e)
-
--- what no kind with one of an arm's tags names, the kind of that arm does not
-pub unnamed : (x : Name) (ts : List ℕ) (k : Kind) → OneOf ts (tagOf kind.the-type k) → all (λ i. not (has x (getD kinds i Create))) ts ≡ true
-    → has x k ≡ false
-unnamed x ts k w e =
-    not-true (has x k)
-    (sym (ap (λ (y : Kind). not (has x y)) (kind-at k)) ∙ one-of (λ i. not (has x (getD kinds i Create))) ts (tagOf kind.the-type k) w e)
+use Rattle.steps.specs.Kinds.{kinds, kindNumber, isUnknown, kindOf}
 
 -- n is none of 2 to 12, as the last arm has it
 abbrev pub NoneOfRows : ℕ → Type 0

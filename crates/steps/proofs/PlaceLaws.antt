@@ -1,5 +1,5 @@
--- A read as a part of a store. In order: bytes of a frame as a part of the store that has them; the place that a decision shows; the
--- place of a read, which lies within its store and has the data of the step.
+-- A read as a part of a store. In order: bytes of a frame as a part of the store that has them; the place that a
+-- decision shows; the place of a read, which lies within its store and has the data of the step.
 use Prim.Native.Nat.{ℕ, _+_, _-_, _*_, _≤_, _<_, zero-le}
 use mathlib.Core.Path.{_≡_, refl, sym, ap, subst, _∙_}
 use mathlib.Core.Bool.{Bool, true, false, cond}

@@ -1,5 +1,5 @@
--- Number 7: what the test of a call's range says of its bytes and of the step.
--- In order: what a call names; a span without the sum; tests of what is not named; a span within the page; the three tests as a number; a write's bytes.
+-- Number 7: what the test of a call's range says of its bytes and of the step. In order: what a call names; a span
+-- without the sum; tests of what is not named; a span within the page; the three tests as a number; a write's bytes.
 use Prim.Native.Nat.{ℕ, _+_, _-_, _≤_}
 use mathlib.Core.Path.{_≡_, refl, sym, ap, _∙_}
 use mathlib.Core.Bool.{Bool, true, false, _&&_, _||_, cond, false≢true}

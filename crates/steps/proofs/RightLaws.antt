@@ -16,7 +16,8 @@ abbrev least : Act → ℕ
 least Read = 1
 least Write = 2
 
--- The six cases are a comparison, of every number, those above 2 too: a right below the least is document 01's "right too low".
+-- The six cases are a comparison, of every number, those above 2 too: a right below the least is document 01's "right
+-- too low".
 pub allows-least : (right : ℕ) (act : Act) → allows right act ≡ leb (least act) right
 allows-least zero Read = refl
 allows-least zero Write = refl

@@ -1,22 +1,22 @@
--- What the step layer gives to the layers above. In order: tables and stores that keep the rules; what 5 and 6 come to; a plan carried
--- out; what a step leaves and replies; a decision carried out is the step.
+-- What the step layer gives to the layers above. In order: tables and stores that keep the rules; what 5 and 6 come to;
+-- a plan carried out; what a step leaves and replies; a decision carried out is the step.
 use Prim.Native.Nat.{ℕ, _+_, _%_, _*_, _≤_, _<_, zero-le}
 use mathlib.Core.Path.{_≡_, refl, sym, ap, _∙_, subst}
-use mathlib.Core.Bool.{Bool, true, false, not, _||_, cond, or-true, false≢true}
+use mathlib.Core.Bool.{Bool, true, false, _||_, cond, or-true, false≢true}
 use mathlib.Core.List.{List, _∷_, _++_}
 use native.Mathlib.Omega.{arith}
 use lib.ListN.{length, take, drop, length-append, length-drop}
 use lib.Seq.{length-take-le, take-append-seam, drop-append-seam}
-use lib.Dec.{leb, ltb, eqb}
-use borrow.Author.Tests.{ltb-true, leb-true, eqb-true, le-leb, eq-eqb, not-false}
+use lib.Dec.{eqb}
+use borrow.Author.Tests.{eqb-true, le-leb, eq-eqb}
 use Rattle.tables.specs.declared.Page.{Page}
 use Rattle.tables.specs.declared.Tables.{Tables}
 use Rattle.tables.specs.Lists.{listed}
-use Rattle.tables.specs.Numbers.{accepted, brokenTables, misfitStore, table}
-use Rattle.tables.specs.Model.{frames, isNull, inUse, absent, pageAt}
-use Rattle.tables.specs.Rules.{isCurrent, sound}
+use Rattle.tables.specs.Numbers.{accepted, brokenTables, misfitStore, messageNumbers}
+use Rattle.tables.specs.Model.{frames, isNull, absent, pageAt}
+use Rattle.tables.specs.Rules.{sound}
 use Rattle.tables.specs.Changes.{after}
-use Rattle.tables.specs.Keep.{unchanged}
+use Rattle.tables.specs.Keep.{leavesRecord}
 use Rattle.tables.proofs.ListLaws.{and-intro, and-left, and-right}
 use Rattle.tables.proofs.RuleLaws.{StandingPage, copy-at, sound-of, standing-at}
 use Rattle.tables.proofs.ChangeSound.{sound-after}
@@ -24,9 +24,9 @@ use Rattle.steps.specs.declared.Call.{Call}
 use Rattle.steps.specs.declared.Decision.{Decision}
 use Rattle.steps.specs.Kinds.{tells, leastLength}
 use Rattle.steps.specs.Data.{formed}
-use Rattle.steps.specs.Stores.{fits, block, held, zeros, layAll, over}
+use Rattle.steps.specs.Stores.{fits, block, contents, zeros, layFrames, over}
 use Rattle.steps.specs.Steps.{Outcome, refuse, accept, mapped, Plan, noWork, copyAt, pageFor, decide, rulesNumber, decideAny, numberOf}
-use Rattle.steps.specs.Effects.{laidFrames, stored, told, State, joined, Result, carriedOut, step, left, movedBy, laidBy, dataOf}
+use Rattle.steps.specs.Effects.{laidFrames, stored, workData, State, joined, Result, carriedOut, step, left, movedBy, laidBy, dataOf}
 use Rattle.steps.specs.Promises.{stateOf, decisionOf, Lent, lent, workWithin, within, carried, Stepped, settled}
 use Rattle.steps.specs.Private.{framesIn, DecisionTold}
 use Rattle.steps.proofs.GuardLaws.{turned-back, passed}
@@ -60,7 +60,7 @@ page-stands {s} i p h some = standing-at (s .tables) p (sound-of (s .tables) (i 
 
 -- what copy k of a page that stands holds is 64 bytes
 pub length-held : {limit : ℕ} {g : Page} → StandingPage limit g → (st : List ℕ) → length st ≡ 64 * limit → (k : ℕ) → k < g .n
-    → length (held st (copyAt g k)) ≡ 64
+    → length (contents st (copyAt g k)) ≡ 64
 length-held {limit} {g} d st long k h = go (isNull (copyAt g k)) (copy-at d k h .placed)
   where
     go : (z : Bool) → (z ≡ false → copyAt g k .frame < limit) → length (cond z zeros (block st (copyAt g k .frame))) ≡ 64
@@ -70,10 +70,10 @@ length-held {limit} {g} d st long k h = go (isNull (copyAt g k)) (copy-at d k h 
 -- ---- 5 and 6
 
 -- 0, 5 or 6 is 0 or a number of the table
-pub rules-listed : (t : Tables) (x y : ℕ) → listed (rulesNumber t x y) (accepted ∷ table) ≡ true
+pub rules-listed : (t : Tables) (x y : ℕ) → listed (rulesNumber t x y) (accepted ∷ messageNumbers) ≡ true
 rules-listed t x y = go (sound t) (fits t x y)
   where
-    go : (a b : Bool) → listed (cond a (cond b accepted misfitStore) brokenTables) (accepted ∷ table) ≡ true
+    go : (a b : Bool) → listed (cond a (cond b accepted misfitStore) brokenTables) (accepted ∷ messageNumbers) ≡ true
     go true true = refl
     go true false = refl
     go false b = refl
@@ -193,11 +193,11 @@ module _ (s : State) (c : Call) (bs : List ℕ) where
       go (accept plan) (if-accepted u) = if-accepted (u .plan-ok .as-told (joined s) (joined-long (u .good)), u .plan-ok .laid-fits)
 
   -- every number is 0 or one of the table
-  pub step-number : listed (numberOf (step s c bs)) (accepted ∷ table) ≡ true
+  pub step-number : listed (numberOf (step s c bs)) (accepted ∷ messageNumbers) ≡ true
   unfolding step
   step-number = go _ sure
     where
-      go : (o : Outcome Plan) → IfAccepted (Sure s c bs) o → listed (numberOf (mapped (carriedOut s c bs) o)) (accepted ∷ table) ≡ true
+      go : (o : Outcome Plan) → IfAccepted (Sure s c bs) o → listed (numberOf (mapped (carriedOut s c bs) o)) (accepted ∷ messageNumbers) ≡ true
       go (refuse n) (if-refused row) = ap (λ (b : Bool). eqb n accepted || b) row ∙ or-true (eqb n accepted)
       go (accept plan) k = refl
 
@@ -207,7 +207,7 @@ module _ (s : State) (c : Call) (bs : List ℕ) where
   step-told n e z = go _ sure e
     where
       go : (o : Outcome Plan) → IfAccepted (Sure s c bs) o → mapped (carriedOut s c bs) o ≡ refuse n → ⊥
-      go (refuse m) (if-refused row) e = let w : m ≡ accepted = cc in absurd (false≢true (subst (λ (k : ℕ). listed k table ≡ true) w row))
+      go (refuse m) (if-refused row) e = let w : m ≡ accepted = cc in absurd (false≢true (subst (λ (k : ℕ). listed k messageNumbers ≡ true) w row))
       go (accept plan) k e = let w : _≡_ {A = ℕ} 0 1 = cc in omega arith
 
 -- ---- a decision carried out
@@ -223,12 +223,12 @@ pub record Carries (s : State) (c : Call) (bs out : List ℕ) (d : Decision) : T
 
 -- one with nothing to do leaves all as lent
 carried-nothing : (d : Decision) (bs x y out : List ℕ) → d .work ≡ noWork → carried d bs (lent x y out) ≡ lent x y out
-unfolding carried laidFrames layAll
+unfolding carried laidFrames layFrames
 carried-nothing d bs x y out e = go (within d (length bs) (lent x y out))
   where
     go : (b : Bool)
         → cond b (lent (take (length x) (stored (d .before) (d .work) bs (x ++ y))) (drop (length x) (stored (d .before) (d .work) bs (x ++ y)))
-        (over (told (d .before) (d .work) (d .len) (x ++ y)) out)) (lent x y out)
+        (over (workData (d .before) (d .work) (d .len) (x ++ y)) out)) (lent x y out)
         ≡ lent x y out
     go true = rw e (lent-same (take-append-seam x y) (drop-append-seam x y) refl)
     go false = refl
@@ -250,7 +250,7 @@ decided-within s c size out d i room q =
 -- and a decision on any tables and stores, carried out, is the step
 pub carries : (s : State) (c : Call) (bs out : List ℕ) (d : Decision) → 64 ≤ length out
     → d ≡ decisionOf (s .tables) c (decideAny (s .tables) (length (s .fast)) (length (s .slow)) c (length bs)) → Carries s c bs out d
-unfolding step carried unchanged
+unfolding step carried leavesRecord
 carries s c bs out d room is = go _ refl (sure s c bs) q
   where
     q : DecisionTold (s .tables) c (decideAny (s .tables) (length (s .fast)) (length (s .slow)) c (length bs)) d

@@ -7,7 +7,7 @@ use native.Mathlib.Omega.{arith}
 use lib.ListN.{length, take, drop, set, length-append, length-take, length-drop, drop-of-length-le, take-append-drop}
 use lib.Seq.{take-append-le, drop-append-le, take-append-add, drop-append-add, drop-drop, take-at, drop-at, take-length, paste}
 use borrow.Author.Tests.{le-leb}
-use Rattle.steps.specs.Stores.{part, splice, splicedWithin, block, lay, over}
+use Rattle.steps.specs.Stores.{part, splice, splicedWithin, block, layFrame, over}
 
 -- ---- a part of a list
 
@@ -134,10 +134,10 @@ module _ (x y : List ℕ) (p f : ℕ) (split : length x ≡ 64 * p) where
       sym (part-right x y (64 * (f - p) + o) n) ∙ rw e
 
   -- bytes laid into a frame
-  pub lay-fast : (o : ℕ) (b : List ℕ) → f < p → o + length b ≤ 64 → splice x (64 * f + o) b ++ y ≡ lay (x ++ y) f o b
+  pub lay-fast : (o : ℕ) (b : List ℕ) → f < p → o + length b ≤ 64 → splice x (64 * f + o) b ++ y ≡ layFrame (x ++ y) f o b
   lay-fast o b h k = sym (splice-left x y (64 * f + o) b (omega arith))
 
-  pub lay-slow : (o : ℕ) (b : List ℕ) → p ≤ f → x ++ splice y (64 * (f - p) + o) b ≡ lay (x ++ y) f o b
+  pub lay-slow : (o : ℕ) (b : List ℕ) → p ≤ f → x ++ splice y (64 * (f - p) + o) b ≡ layFrame (x ++ y) f o b
   lay-slow o b h =
       let e : length x + (64 * (f - p) + o) ≡ 64 * f + o = omega arith in
       sym (splice-right x y (64 * (f - p) + o) b) ∙ rw e

@@ -1,8 +1,8 @@
--- What a work that lies within the stores leaves of them: their length, and the bytes of every frame that it does not lay into. In order:
--- what is laid; the frame that is filled; both together.
+-- What a work that lies within the stores leaves of them: their length, and the bytes of every frame that it does not
+-- lay into. In order: what is laid; the frame that is filled; both together.
 use Prim.Native.Nat.{ℕ, _+_, _*_, _≤_, zero-le}
-use mathlib.Core.Path.{_≡_, refl, sym, _∙_}
-use mathlib.Core.Bool.{Bool, true, false, _&&_, _||_, cond}
+use mathlib.Core.Path.{_≡_, refl, _∙_}
+use mathlib.Core.Bool.{Bool, true, false, _||_, cond}
 use mathlib.Core.List.{List, [], _∷_, _++_}
 use native.Mathlib.Omega.{arith}
 use lib.ListN.{length}
@@ -17,7 +17,7 @@ use Rattle.steps.specs.declared.Lay.{Lay}
 use Rattle.steps.specs.declared.Lay.the-variants.{Nothing, Zeros, ZerosEach, Duplicate, Spread}
 use Rattle.steps.specs.declared.Work.{Work}
 use Rattle.steps.specs.declared.Work.the-variants.{Shows, Lays}
-use Rattle.steps.specs.Stores.{block, zeros, layAll}
+use Rattle.steps.specs.Stores.{block, zeros}
 use Rattle.steps.specs.Steps.{isPlaced}
 use Rattle.steps.specs.Effects.{laidFrames, laidFrom, laidBytes, laidIn, clearedFrames, clearedIn, laidInto, stored}
 use Rattle.steps.specs.Promises.{layWithin, clearWithin, workWithin}

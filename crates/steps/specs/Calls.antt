@@ -24,7 +24,7 @@ badSpan start n = ltb 63 start || (eqb n 0 || ltb 64 (start + n))
 abbrev pub spanOutside : ℕ → Call → Bool
 spanOutside size c = has offset (c .kind) && badSpan (c .offset) (cond (has bytes (c .kind)) size (c .count))
 
--- the number of a call with so many frames, and 0 where none of the three holds
+-- 7 where one of the three tests above holds of a call on so many frames, and else 0
 abbrev pub outside : ℕ → ℕ → Call → ℕ
 outside frames size c =
     cond (nameOutside c) outOfRange

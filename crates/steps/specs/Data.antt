@@ -11,16 +11,16 @@ use Rattle.steps.specs.declared.Data.the-variants.{Empty, Bytes, Copies,
 abbrev pub isMark : ℕ → Bool
 isMark b = ltb b 2
 
--- of a copy in three bytes: its frame and the two marks
-abbrev pub copyMarked : List ℕ → Bool
-copyMarked b = isMark (getD b 1 0) && isMark (getD b 2 0)
+-- whether CURRENT and MOST RECENT, the second and the third byte of a copy, are 0 or 1
+abbrev pub copyMarksValid : List ℕ → Bool
+copyMarksValid b = isMark (getD b 1 0) && isMark (getD b 2 0)
 
 -- whether a test holds at each of k places, `size` bytes apart
 unfoldable pub eachIs : ℕ → ℕ → (List ℕ → Bool) → List ℕ → Bool
 eachIs zero size test bytes = true
 eachIs (suc k) size test bytes = test bytes && eachIs k size test (drop size bytes)
 
--- so many bytes, from `least` to `most`
+-- whether n is from `least` to `most`
 abbrev pub many : ℕ → ℕ → ℕ → Bool
 many least most n = leb least n && leb n most
 
@@ -30,5 +30,5 @@ unfoldable pub formed : Data → List ℕ → Bool
 formed Empty d = eqb (length d) 0
 formed Bytes d = many 1 64 (length d)
 formed Copies d =
-    many 1 8 (getD d 0 0) && (eqb (length d) (1 + 3 * getD d 0 0) && eachIs (getD d 0 0) 3 copyMarked (drop 1 d))
+    many 1 8 (getD d 0 0) && (eqb (length d) (1 + 3 * getD d 0 0) && eachIs (getD d 0 0) 3 copyMarksValid (drop 1 d))
 formed Holder d = eqb (length d) 3

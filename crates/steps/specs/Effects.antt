@@ -12,7 +12,7 @@ use Rattle.tables.specs.Model.{nullFrame, inUse, pageAt}
 use Rattle.tables.specs.Rules.{isCurrent}
 use Rattle.tables.specs.Search.{shown}
 use Rattle.tables.specs.Changes.{edited, after}
-use Rattle.tables.specs.Keep.{unchanged}
+use Rattle.tables.specs.Keep.{leavesRecord}
 use Rattle.steps.specs.declared.Kind.the-variants.{Read}
 use Rattle.steps.specs.declared.Call.{Call}
 use Rattle.steps.specs.declared.Place.{Place}
@@ -23,7 +23,7 @@ use Rattle.steps.specs.declared.Show.the-variants as Show
 use Rattle.steps.specs.declared.Work.{Work}
 use Rattle.steps.specs.declared.Work.the-variants.{Shows, Lays}
 use Rattle.steps.specs.Kinds.{callOf}
-use Rattle.steps.specs.Stores.{part, block, zeros, framesOf, layAll}
+use Rattle.steps.specs.Stores.{part, block, zeros, framesOf, layFrames}
 use Rattle.steps.specs.Steps.{Outcome, refuse, accept, mapped, Plan, isPlaced, pageFor, decideAny}
 
 abbrev pub bit : Bool → ℕ
@@ -31,9 +31,9 @@ bit true = 1
 bit false = 0
 
 -- step 10: "n, then for each copy the frame (255 for null), CURRENT and MOST RECENT as 0 or 1"
-unfoldable pub entries : List Copy → List ℕ
-entries [] = []
-entries (c ∷ cs) = c .frame ∷ bit (c .current) ∷ bit (c .recent) ∷ entries cs
+unfoldable pub copiesShown : List Copy → List ℕ
+copiesShown [] = []
+copiesShown (c ∷ cs) = c .frame ∷ bit (c .current) ∷ bit (c .recent) ∷ copiesShown cs
 
 -- ---- what is laid into the stores: into which frames, from which offset on, and which bytes
 
@@ -62,48 +62,48 @@ laidBytes ZerosEach bs st = zeros
 laidBytes (Duplicate from to) bs st = block st from
 laidBytes (Spread offset) bs st = bs
 
--- the stores after it
+-- the joined stores with what l lays
 abbrev pub laidIn : Page → Lay → List ℕ → List ℕ → List ℕ
-laidIn g l bs st = layAll (laidFrames g l) (laidFrom l) (laidBytes l bs st) st
+laidIn g l bs st = layFrames (laidFrames g l) (laidFrom l) (laidBytes l bs st) st
 
--- the frame that is filled besides; 255 for none
+-- the frame that a delete copy fills, as a list; 255 is none
 abbrev pub clearedFrames : ℕ → List ℕ
 clearedFrames f = cond (eqb f nullFrame) [] (f ∷ [])
 
 -- request [2]: "filled with 64 zeros, fast or slow"
 abbrev pub clearedIn : ℕ → List ℕ → List ℕ
-clearedIn f st = layAll (clearedFrames f) 0 zeros st
+clearedIn f st = layFrames (clearedFrames f) 0 zeros st
 
 -- ---- what is shown in the reply
 
 -- `len` bytes of a frame, the copies of page g, or the holder of a frame
 unfoldable pub shownOf : Page → Show → ℕ → List ℕ → List ℕ
 shownOf g (Show.Frame f offset) len st = part (block st f) offset len
-shownOf g Show.Page len st = g .n ∷ entries (inUse g)
+shownOf g Show.Page len st = g .n ∷ copiesShown (inUse g)
 shownOf g (Show.Holder h) len st = shown h
 
 -- ---- a work, which does one or the other
 
--- the frames that it lays bytes into: every other frame keeps its bytes (`elsewhere-kept`)
+-- the frames that a work lays bytes into: every other frame keeps its bytes (`elsewhere-kept`)
 abbrev pub laidInto : Page → Work → List ℕ
 laidInto g (Shows s) = []
 laidInto g (Lays l f) = laidFrames g l ++ clearedFrames f
 
--- how many bytes it lays into them
+-- how many bytes a work lays in all
 abbrev pub bytesLaid : Page → Work → List ℕ → List ℕ → ℕ
 bytesLaid g (Shows s) bs st = 0
 bytesLaid g (Lays l f) bs st =
     length (laidFrames g l) * length (laidBytes l bs st) + length (clearedFrames f) * length zeros
 
--- the joined stores after it
+-- the joined stores after a work
 abbrev pub stored : Page → Work → List ℕ → List ℕ → List ℕ
 stored g (Shows s) bs st = st
 stored g (Lays l f) bs st = clearedIn f (laidIn g l bs st)
 
--- the data of its reply, `len` bytes
-abbrev pub told : Page → Work → ℕ → List ℕ → List ℕ
-told g (Shows s) len st = shownOf g s len st
-told g (Lays l f) len st = []
+-- the data that a work shows, `len` bytes
+abbrev pub workData : Page → Work → ℕ → List ℕ → List ℕ
+workData g (Shows s) len st = shownOf g s len st
+workData g (Lays l f) len st = []
 
 -- the tables and the two stores
 pub record State : Type 0 where
@@ -114,9 +114,10 @@ pub record State : Type 0 where
 abbrev pub joined : State → List ℕ
 joined s = s .fast ++ s .slow
 
--- whether the tables move: an edit is not seen at a glance to leave the record g as it is, or a frame is retired
+-- whether a plan moves the tables: its edit is not one that `leavesRecord` knows to leave the record g, or it retires a
+-- frame
 abbrev pub moves : Page → Edit → ℕ → Bool
-moves g e f = not (unchanged g e) || not (eqb f nullFrame)
+moves g e f = not (leavesRecord g e) || not (eqb f nullFrame)
 
 -- what an accepted call leaves, whether it moved the tables, the bytes laid, and the data of its reply
 pub record Result : Type 0 where
@@ -135,7 +136,7 @@ carriedOut s c bs plan =
       };
       moved = moves (pageAt (s .tables) (pageFor c)) (plan .edit) (plan .retires);
       laid = plan .laid;
-      data-out = told (pageAt (s .tables) (pageFor c)) (plan .work) (plan .len) (joined s);
+      data-out = workData (pageAt (s .tables) (pageFor c)) (plan .work) (plan .len) (joined s);
     }
 
 -- A call, on any tables and stores; a write has the bytes bs.

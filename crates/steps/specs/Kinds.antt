@@ -1,6 +1,5 @@
--- Document 01, "The steps": the table of kinds, a row a kind in each column: what its calls name, what its replies
--- tell, and its number. The lengths of its messages, its arguments, what it is tested for and the form of its replies
--- follow.
+-- Document 01, "The steps": the table of kinds. Of each kind: what its calls name, the form of its replies' data, and
+-- its number. The lengths of its messages, the places of its arguments and what 7 is tested for follow.
 use Prim.Native.Nat.{ℕ, _+_, _-_}
 use mathlib.Core.Bool.{Bool, false, _||_, cond}
 use mathlib.Core.List.{List, [], _∷_, _++_}
@@ -80,11 +79,11 @@ kinds =
     Create ∷ DeletePage ∷ Grant ∷ Read ∷ Write ∷ MakeCopy ∷ DeleteCopy ∷ SetCurrent ∷ RemoveCurrent ∷ LookPage
     ∷ LookFrame ∷ Retire ∷ []
 
--- 3: the kind is none of those above
+-- 3: a byte that is no kind's number
 abbrev pub isUnknown : ℕ → Bool
 isUnknown number = eqb number 0 || ltb (length kinds) number
 
--- a number that is no kind's counts as 1 here, and is turned back before
+-- the kind with this number; an unknown number gives Create, and `parse` and the writer test `isUnknown` before
 abbrev pub kindOf : ℕ → Kind
 kindOf number = getD kinds (number - 1) Create
 
@@ -101,14 +100,14 @@ code bytes = 6
 code copy = 7
 code frame = 8
 
-abbrev pub same : Name → Name → Bool
-same x y = eqb (code x) (code y)
+abbrev pub sameName : Name → Name → Bool
+sameName x y = eqb (code x) (code y)
 
 unfoldable pub among : Name → List Name → Bool
 among x [] = false
-among x (y ∷ ys) = same x y || among x ys
+among x (y ∷ ys) = sameName x y || among x ys
 
--- whether calls of kind k name an x
+-- whether calls of kind k name x
 abbrev pub has : Name → Kind → Bool
 has x k = among x (names k)
 
@@ -123,7 +122,7 @@ mostLength k = leastLength k + cond (has bytes k) 63 0
 -- there is none
 unfoldable pub argument : Name → ℕ → List Name → List ℕ → ℕ
 argument x i [] bs = 0
-argument x i (y ∷ ys) bs = cond (same x y) (getD bs i 0) (argument x (i + 1) ys bs)
+argument x i (y ∷ ys) bs = cond (sameName x y) (getD bs i 0) (argument x (i + 1) ys bs)
 
 -- the call of kind k with the arguments bs
 unfoldable pub callOf : Kind → List ℕ → Call
@@ -140,7 +139,7 @@ callOf k bs =
       frame = argument frame 0 (names k) bs;
     }
 
--- what a call has of an x, as it stands in a message; a write has the bytes bs
+-- the bytes of x in a message of call c; a write has the bytes bs
 unfoldable pub value : Name → Call → List ℕ → List ℕ
 value station c bs = c .station ∷ []
 value page c bs = c .page ∷ []

@@ -16,6 +16,7 @@ use Rattle.tables.specs.declared.Edit.the-variants.{Kept}
 use Rattle.tables.specs.Model.{nullFrame, inUse, zeroCopy, pageAt}
 use Rattle.tables.specs.Rules.{isRecent, isCurrent}
 use Rattle.tables.specs.Changes.{edited, after}
+use Rattle.steps.specs.declared.Kind.{Kind}
 use Rattle.steps.specs.declared.Call.{Call}
 use Rattle.steps.specs.declared.Which.{Which}
 use Rattle.steps.specs.declared.Which.the-variants.{Current, Recent, Placed}
@@ -24,9 +25,26 @@ use Rattle.steps.specs.declared.Verdict.{Verdict}
 use Rattle.steps.specs.declared.Decision.{Decision}
 use Rattle.steps.specs.declared.Place.{Place}
 use Rattle.steps.specs.Steps.{Outcome, refuse, accept, Plan, noWork, isPlaced, copyAt, currents, firstCurrent, decideOn, pageFor, viewing, numberOf}
-use Rattle.steps.specs.Stores.{lay}
+use Rattle.steps.specs.Stores.{layFrame}
 use Rattle.steps.specs.Effects.{moves}
 use Rattle.steps.specs.Promises.{laidOf, lenOf, workOf, editOf, retiresOf, decisionOn, settled}
+
+-- ---- kinds
+
+-- a call with all that it may name, in the order of the fields of `Call`
+abbrev pub callWith : Kind → ℕ → ℕ → ℕ → ℕ → ℕ → ℕ → ℕ → ℕ → Call
+callWith kind station page other right offset count copy frame =
+    record {
+      kind = kind;
+      station = station;
+      page = page;
+      other = other;
+      right = right;
+      offset = offset;
+      count = count;
+      copy = copy;
+      frame = frame;
+    }
 
 -- ---- what is lent
 
@@ -35,7 +53,7 @@ pub record Room (fast slow : List ℕ) (p f : ℕ) : Type 0 where
   pub split : length fast ≡ 64 * p
   pub there : 64 * f + 64 ≤ length fast + length slow
 
--- so does the frame of each copy of page g that is one of `those`
+-- the frame of each copy of page g of which `those` holds stands in one of the two stores
 abbrev pub RoomEach : (Copy → Bool) → List ℕ → List ℕ → ℕ → Page → Type 0
 RoomEach those fast slow p g =
     (i : ℕ) → i < length (inUse g) → those (getD (g .copies) i zeroCopy) ≡ true
@@ -62,7 +80,7 @@ chosen Placed = isPlaced
 -- the stores with b laid, from offset o on, into the frame of each copy that is one of `those`: as the loop goes
 unfoldable pub layEach : (Copy → Bool) → List ℕ → List Copy → ℕ → List ℕ → List ℕ
 layEach those st [] o b = st
-layEach those st (c ∷ cs) o b = layEach those (cond (those c) (lay st (c .frame) o b) st) cs o b
+layEach those st (c ∷ cs) o b = layEach those (cond (those c) (layFrame st (c .frame) o b) st) cs o b
 
 -- ---- what a call comes to
 

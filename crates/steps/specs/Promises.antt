@@ -28,7 +28,7 @@ use Rattle.steps.specs.declared.Place.{Place}
 use Rattle.steps.specs.Kinds.{kindOf, tells, leastLength, mostLength, callOf}
 use Rattle.steps.specs.Stores.{part, over}
 use Rattle.steps.specs.Steps.{Outcome, refuse, accept, Plan, noWork, isPlaced, pageFor, numberOf}
-use Rattle.steps.specs.Effects.{stored, told, moves, State, Result, left, laidBy, dataOf}
+use Rattle.steps.specs.Effects.{stored, workData, moves, State, Result, left, laidBy, dataOf}
 
 -- the state of tables and two lent stores
 abbrev pub stateOf : Tables → List ℕ → List ℕ → State
@@ -107,11 +107,11 @@ pub record Lent : Type 0 where
 abbrev pub lent : List ℕ → List ℕ → List ℕ → Lent
 lent fast slow out = record { fast = fast; slow = slow; out = out }
 
--- if a copy is one of `those`, its frame is one of so many
+-- whether the frame of a copy is one of so many, if `those` holds of the copy
 abbrev pub frameWithin : (Copy → Bool) → ℕ → Copy → Bool
 frameWithin those frames c = not (those c && leb frames (c .frame))
 
--- what is laid on page g lies within stores of so many frames, where a write has so many bytes
+-- whether what is laid on page g lies within stores of so many frames; a write has `size` bytes
 abbrev pub layWithin : Page → ℕ → ℕ → Lay → Bool
 layWithin g frames size Nothing = true
 layWithin g frames size (Zeros f) = ltb f frames
@@ -119,26 +119,26 @@ layWithin g frames size ZerosEach = all (frameWithin isPlaced frames) (inUse g)
 layWithin g frames size (Duplicate from to) = ltb from frames && ltb to frames
 layWithin g frames size (Spread offset) = leb (offset + size) 64 && all (frameWithin isCurrent frames) (inUse g)
 
--- `len` bytes that are shown lie within them, and within a page
+-- whether `len` bytes that are shown lie within stores of so many frames, and within a frame
 abbrev pub showWithin : ℕ → ℕ → Show → Bool
 showWithin len frames (Show.Frame f offset) = ltb f frames && leb (offset + len) 64
 showWithin len frames Show.Page = true
 showWithin len frames (Show.Holder h) = true
 
--- the frame that is filled is one of them, or none
+-- whether the frame that is filled is one of so many, or none
 abbrev pub clearWithin : ℕ → ℕ → Bool
 clearWithin frames f = eqb f nullFrame || ltb f frames
 
--- what a work lays or shows lies within the stores
+-- whether what a work lays or shows lies within stores of so many frames
 abbrev pub workWithin : Page → ℕ → ℕ → ℕ → Work → Bool
 workWithin g len frames size (Shows s) = showWithin len frames s
 workWithin g len frames size (Lays l f) = layWithin g frames size l && clearWithin frames f
 
--- the fast store is whole frames: then slow frames begin where the slow store does
+-- whether the fast store is a whole number of frames, so that frame P begins the slow store
 abbrev pub wholeFrames : List ℕ → Bool
 wholeFrames fast = eqb (length fast % 64) 0
 
--- a decision lies within what is lent; one that was made on sound tables, with stores that fit them, does
+-- whether a decision lies within what is lent; one that was made on sound tables, with stores that fit them, does
 -- (`decided-within`)
 abbrev pub within : Decision → ℕ → Lent → Bool
 within d size l =
@@ -153,7 +153,7 @@ carried d bs l =
     (record {
       fast = take (length (l .fast)) (stored (d .before) (d .work) bs (l .fast ++ l .slow));
       slow = drop (length (l .fast)) (stored (d .before) (d .work) bs (l .fast ++ l .slow));
-      out = over (told (d .before) (d .work) (d .len) (l .fast ++ l .slow)) (l .out);
+      out = over (workData (d .before) (d .work) (d .len) (l .fast ++ l .slow)) (l .out);
     })
     l
 

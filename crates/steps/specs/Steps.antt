@@ -108,7 +108,7 @@ owns g station = eqb (g .owner) station
 
 -- ---- copies
 
--- it has a frame
+-- whether a copy has a frame
 abbrev pub isPlaced : Copy → Bool
 isPlaced c = not (isNull c)
 
@@ -121,9 +121,9 @@ currents g = count isCurrent (inUse g)
 abbrev pub recents : Page → ℕ
 recents g = count isRecent (inUse g)
 
--- how many frames its copies have
-abbrev pub placed : Page → ℕ
-placed g = count isPlaced (inUse g)
+-- how many copies of a page have a frame
+abbrev pub placedCount : Page → ℕ
+placedCount g = count isPlaced (inUse g)
 
 -- the frame of "the lowest-numbered CURRENT copy"
 unfoldable pub firstCurrent : List Copy → ℕ
@@ -150,9 +150,9 @@ abbrev pub copying : Copy → ℕ → Outcome Plan
 copying c f =
     cond (isNull c) (laying (Placed f) 64 (Zeros f)) (laying (Added f (c .recent)) 64 (Duplicate (c .frame) f))
 
--- A call c on what it looks at; a write has `size` bytes. The numbers are tested in the order that the papers give for
--- each kind, behind 7. Document 02, request [2], of both deletes: "a frame that is freed .. is filled with 64 zeros,
--- fast or slow", and "Each filled frame counts 64 bytes laid".
+-- What call c comes to on a view v of the tables, by its kind; a write has `size` bytes. The numbers are tested in the
+-- order that the papers give for each kind, behind 7. Document 02, request [2], of both deletes: "a frame that is freed
+-- .. is filled with 64 zeros, fast or slow", and "Each filled frame counts 64 bytes laid".
 module _ (v : View) (c : Call) (size : ℕ) where
   -- the record of its page, and the state of its frame
   abbrev g : Page
@@ -165,7 +165,7 @@ module _ (v : View) (c : Call) (size : ℕ) where
   -- 8. "the page stands with one null copy; the station is owner"
   perform Create = test (not (absent g)) pageStands (editing (Created (c .station)))
   -- 9, 10. "owner only. All copies go and their frames are free."
-  perform DeletePage = guarded (lacksOwner g (c .station)) (laying Deleted (64 * placed g) ZerosEach)
+  perform DeletePage = guarded (lacksOwner g (c .station)) (laying Deleted (64 * placedCount g) ZerosEach)
   -- 9, 10. "owner only. The owner's own right may be lowered; ownership remains."
   perform Grant = guarded (lacksOwner g (c .station)) (editing (Granted (c .other) (c .right)))
   -- 9, 10, 11. "right 1 or 2. The bytes come from the lowest-numbered CURRENT copy."
@@ -206,8 +206,8 @@ decideOn v c size = guarded (outside (v .frames) size c) (perform v c size (c .k
 
 -- ---- a call on the tables
 
--- the page that it acts on; where that is no page it is page 0, whose record stays as it is: the call names none, or it
--- is refused
+-- The page whose record a call is decided on. A call that names no page below 64 gets page 0: its kind names none and
+-- leaves that record as it is, or 7 refuses the call.
 abbrev pub pageFor : Call → ℕ
 pageFor c = cond (ltb (c .page) 64) (c .page) 0
 
@@ -224,7 +224,7 @@ viewBy look t c = viewing (t .shared) (pageAt t (pageFor c)) (look t (c .frame))
 abbrev pub viewOf : Tables → Call → View
 viewOf t c = viewBy registered t c
 
--- what it comes to on tables that keep the rules, with stores that fit
+-- what call c comes to on sound tables with fitting stores: 5 and 6 are not tested
 abbrev pub decide : Tables → Call → ℕ → Outcome Plan
 decide t c size = decideOn (viewOf t c) c size
 
@@ -232,11 +232,11 @@ decide t c size = decideOn (viewOf t c) c size
 abbrev pub rulesNumber : Tables → ℕ → ℕ → ℕ
 rulesNumber t fast slow = cond (sound t) (cond (fits t fast slow) accepted misfitStore) brokenTables
 
--- 5 and 6 before it: on any tables, with stores of any lengths
+-- what call c comes to on any tables, with stores of any lengths: 5, 6, and then `decide`
 abbrev pub decideAny : Tables → ℕ → ℕ → Call → ℕ → Outcome Plan
 decideAny t fast slow c size = guarded (rulesNumber t fast slow) (decide t c size)
 
--- what a call came to, as numbers
+-- the number of an outcome, 0 where accepted
 abbrev pub numberOf : {A : Type 0} → Outcome A → ℕ
 numberOf (refuse n) = n
 numberOf (accept a) = accepted

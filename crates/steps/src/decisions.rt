@@ -34,7 +34,7 @@ ghost use mathlib.Core.Path.{_≡_};
 ghost use Prim.Native.Nat.{_≤_, _<_};
 ghost use Rattle.tables.specs.Model.{frameCount, pageAt};
 ghost use Rattle.tables.specs.Changes.{changed};
-ghost use Rattle.tables.specs.Keep.{unchanged};
+ghost use Rattle.tables.specs.Keep.{leavesRecord};
 ghost use Rattle.steps.specs.declared.Kind.the-variants.{Write};
 ghost use Rattle.steps.specs.Steps.{refuse, noWork, editing, retiring, showing, laying, clearing, perform, decideOn, pageFor, decide, rulesNumber, decideAny};
 ghost use Rattle.steps.specs.Promises.{decisionWith, decisionOf, settled};
@@ -203,7 +203,7 @@ fn decision_with(
 
 // The record after an edit, where it is known whether the record is seen to stay.
 fn edited(page: Page, kept: bool, edit: Edit) -> Page
-    requires { ⌜ kept ≡ unchanged page edit ⌝ }
+    requires { ⌜ kept ≡ leavesRecord page edit ⌝ }
     ensures { λ r. ⌜ r ≡ changed page edit ⌝ }
 {
     if kept {
@@ -277,9 +277,7 @@ fn page_for(call: Call) -> u8
     if call.page < 64 { call.page } else { 0 }
 }
 
-// The two functions that follow read the tables through a reference, so that they are not copied.
-
-// The record of a page.
+// The record of a page. It is read through a reference, so that the tables are not copied.
 fn page_at(tables: &Tables, i: usize) -> Page
     requires { ⌜ i < 64 ⌝ }
     ensures { λ r. ⌜ r ≡ pageAt (now (tables .entry)) i ⌝ }
@@ -320,7 +318,7 @@ pub fn rules(tables: Tables, fast_len: usize, slow_len: usize) -> u8
     ACCEPTED
 }
 
-// The same on any tables and for stores of any lengths: 5 and 6 first.
+// Decides a call on any tables and for stores of any lengths: 5 and 6 first.
 pub fn decide_any(
     tables: Tables,
     call: Call,

@@ -21,7 +21,7 @@ pub(crate) fn is_chosen(c: Copy, which: Which) -> bool
     }
 }
 
-// How many copies of the page it names.
+// How many copies of the page are those that `which` means.
 pub(crate) fn count_of(page: Page, which: Which) -> usize
     ensures { λ r. ⌜ (r ≡ count (chosen which) (inUse page)) × (r ≤ 8) ⌝ }
 {
@@ -37,7 +37,7 @@ pub(crate) fn count_of(page: Page, which: Which) -> usize
     k
 }
 
-// Whether the frames of the copies that it names are below the limit.
+// Whether the frames of the copies that `which` means are below the limit.
 pub(crate) fn frames_within(page: Page, which: Which, limit: usize) -> bool
     ensures { λ r. ⌜ r ≡ all (frameWithin (chosen which) limit) (inUse page) ⌝ }
 {

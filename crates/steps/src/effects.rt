@@ -63,7 +63,7 @@ fn lay_within(page: Page, lay: Lay, frames: usize, size: usize) -> bool
     }
 }
 
-// Whether `len` bytes that are shown lie within them.
+// Whether `len` bytes that are shown lie within stores of so many frames.
 fn show_within(show: Show, frames: usize, len: usize) -> bool
     ensures { λ r. ⌜ r ≡ showWithin len frames show ⌝ }
 {
@@ -74,7 +74,7 @@ fn show_within(show: Show, frames: usize, len: usize) -> bool
     }
 }
 
-// Whether the frame that is filled is one of them, or none.
+// Whether the frame that is filled is one of so many, or none.
 fn clear_within(frame: u8, frames: usize) -> bool
     ensures { λ r. ⌜ r ≡ clearWithin frames frame ⌝ }
 {

@@ -158,8 +158,8 @@ pub enum Show {
     Holder { holder: Holder },
 }
 
-// What a step does besides its change of the tables: it shows something, or it lays bytes and fills a frame that it
-// frees besides, 255 for none.
+// What a step does besides its change of the tables: it shows something in the reply, or it lays bytes and fills the
+// frame that a delete copy frees, 255 for none.
 pub enum Work {
     Shows { show: Show },
     Lays { lay: Lay, clears: u8 },
@@ -177,8 +177,8 @@ pub struct Verdict {
 }
 
 // What a call comes to on the tables: its number, the bytes laid, the length of its data; whether the tables move, and
-// the change by which they do; what is to be shown or laid, and the record of its page before the call, which that is
-// about.
+// the change by which they do; what is to be shown or laid; and the page's record before the call, by which its copies
+// are found.
 pub struct Decision {
     pub number: u8,
     pub moved: bool,

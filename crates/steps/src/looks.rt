@@ -19,7 +19,7 @@ ghost use Rattle.steps.specs.declared.Kind.the-variants.{LookPage, LookF
 ghost use Rattle.steps.specs.declared.Call.{Call};
 ghost use Rattle.steps.specs.Stores.{over};
 ghost use Rattle.steps.specs.Steps.{perform};
-ghost use Rattle.steps.specs.Effects.{bit, entries};
+ghost use Rattle.steps.specs.Effects.{bit, copiesShown};
 ghost use Rattle.steps.specs.Private.{verdictOf};
 
 fn bit_of(b: bool) -> u8
@@ -29,8 +29,8 @@ fn bit_of(b: bool) -> u8
 }
 
 // The three bytes that show a copy.
-fn entry(c: Copy) -> [u8; 3]
-    ensures { λ r. ⌜ r ≡ entries (c ∷ []) ⌝ }
+fn copy_shown(c: Copy) -> [u8; 3]
+    ensures { λ r. ⌜ r ≡ copiesShown (c ∷ []) ⌝ }
 {
     let current = bit_of(c.current);
     let recent = bit_of(c.recent);
@@ -58,20 +58,20 @@ pub(crate) fn look_frame(view: View) -> Verdict
 // Shows n and the copies of a page at the front of the buffer.
 pub(crate) fn show_page(page: Page, out: &mut [u8])
     requires { ⌜ 25 ≤ length (now out) ⌝ }
-    ensures { λ _. ⌜ now (out .exit) ≡ over (page .n ∷ entries (inUse page)) (now (out .entry)) ⌝ }
+    ensures { λ _. ⌜ now (out .exit) ≡ over (page .n ∷ copiesShown (inUse page)) (now (out .entry)) ⌝ }
 {
     let n = page.in_use();
     out[0] = page.n;
     let mut j: usize = 0;
     while j < n {
         let c = page.copies[j];
-        let b = entry(c);
+        let b = copy_shown(c);
         put(out, 1 + 3 * j, &b);
         j += 1;
     }
 }
 
-// Shows the holder of a frame there.
+// Shows the holder of a frame at the front of the buffer.
 pub(crate) fn show_holder(holder: Holder, out: &mut [u8])
     requires { ⌜ 3 ≤ length (now out) ⌝ }
     ensures { λ _. ⌜ now (out .exit) ≡ over (shown holder) (now (out .entry)) ⌝ }

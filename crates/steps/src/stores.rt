@@ -11,7 +11,7 @@ ghost use Prim.Native.Nat.{_+_, _≤_};
 ghost use lib.ListN.{length};
 ghost use denote.Ref.{ptr};
 ghost use Rattle.tables.specs.Model.{inUse};
-ghost use Rattle.steps.specs.Stores.{part, splice, splicedWithin, block, lay, zeros};
+ghost use Rattle.steps.specs.Stores.{part, splice, splicedWithin, block, layFrame, zeros};
 ghost use Rattle.steps.specs.Steps.{isPlaced};
 ghost use Rattle.steps.specs.Effects.{framePlace};
 ghost use Rattle.steps.specs.Promises.{bytesAt, pointerAt};
@@ -29,7 +29,7 @@ pub(crate) fn put(dst: &mut [u8], at: usize, src: &[u8])
     }
 }
 
-// The same for any lengths: where src does not fit, dst is left as it was.
+// Puts src into dst from `at` on, for any lengths: where src does not fit, dst is left as it was.
 pub fn lay_bytes(dst: &mut [u8], at: usize, src: &[u8])
     ensures { λ _. ⌜ now (dst .exit) ≡ splicedWithin (now (dst .entry)) at (now (src .entry)) ⌝ }
 {
@@ -66,7 +66,8 @@ fn load(fast: &[u8], slow: &[u8], p: usize, frame: usize) -> [u8; 64]
 fn lay_frame(fast: &mut [u8], slow: &mut [u8], p: usize, frame: usize, offset: usize, src: &[u8])
     requires { ⌜ Room (now fast) (now slow) p frame ⌝ }
     requires { ⌜ offset + length (now src) ≤ 64 ⌝ }
-    ensures { λ _. ⌜ now (fast .exit) ++ now (slow .exit) ≡ lay (now (fast .entry) ++ now (slow .entry)) frame offset
+    ensures { λ _. ⌜ now (fast .exit) ++ now (slow .exit)
+        ≡ layFrame (now (fast .entry) ++ now (slow .entry)) frame offset
         (now (src .entry)) ⌝ }
 {
     if frame < p {
@@ -79,7 +80,8 @@ fn lay_frame(fast: &mut [u8], slow: &mut [u8], p: usize, frame: usize, offset: u
 // Sets a frame to zeros.
 pub(crate) fn clear_frame(fast: &mut [u8], slow: &mut [u8], p: usize, frame: usize)
     requires { ⌜ Room (now fast) (now slow) p frame ⌝ }
-    ensures { λ _. ⌜ now (fast .exit) ++ now (slow .exit) ≡ lay (now (fast .entry) ++ now (slow .entry)) frame 0 zeros ⌝ }
+    ensures { λ _. ⌜ now (fast .exit) ++ now (slow .exit)
+        ≡ layFrame (now (fast .entry) ++ now (slow .entry)) frame 0 zeros ⌝ }
 {
     let z = [0u8; 64];
     lay_frame(fast, slow, p, frame, 0, &z);
@@ -90,7 +92,8 @@ pub(crate) fn copy_frame(fast: &mut [u8], slow: &mut [u8], p: usize, from: usize
     requires { ⌜ Room (now fast) (now slow) p from ⌝ }
     requires { ⌜ Room (now fast) (now slow) p to ⌝ }
     ensures { λ _. ⌜ now (fast .exit) ++ now (slow .exit)
-        ≡ lay (now (fast .entry) ++ now (slow .entry)) to 0 (block (now (fast .entry) ++ now (slow .entry)) from) ⌝ }
+        ≡ layFrame (now (fast .entry) ++ now (slow .entry)) to 0
+        (block (now (fast .entry) ++ now (slow .entry)) from) ⌝ }
 {
     let b = load(&fast[..], &slow[..], p, from);
     lay_frame(fast, slow, p, to, 0, &b);

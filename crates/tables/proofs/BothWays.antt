@@ -17,7 +17,7 @@ use Rattle.tables.specs.Lists.{count}
 use Rattle.tables.specs.Model.{frames, entryAt, isRetiredEntry, retiredAt, onFrame, inUse, freshPage, zeroCopy, zeroPage, pageAt}
 use Rattle.tables.specs.Search.{inCopies, inPages, searched, isRetired}
 use Rattle.tables.specs.Rules.{sound}
-use Rattle.tables.specs.Register.{entry, entryOf, registered}
+use Rattle.tables.specs.Register.{entryFor, entryOf, registered}
 use Rattle.tables.proofs.ListLaws.{not-so, count-at}
 use Rattle.tables.proofs.UsesLaws.{uses-at}
 use Rattle.tables.proofs.RuleLaws.{pages-ruled, pages-once, entry-held, out-idle, Sound, sound-of, few-uses}
@@ -42,7 +42,7 @@ finds f p j (suc k) (c ∷ cs) h l e few = by (onFrame f c) few (finds f p (j + 
     by false few rest = rest (omega arith) ∙ ap (At p) (omega arith)
 
 pub copy-named : (t : Tables) (p k : ℕ) → sound t ≡ true → p < 64 → k < length (inUse (pageAt t p)) → getD (inUse (pageAt t p)) k zeroCopy .frame < 254
-    → entryAt t (getD (inUse (pageAt t p)) k zeroCopy .frame) ≡ entry p k
+    → entryAt t (getD (inUse (pageAt t p)) k zeroCopy .frame) ≡ entryFor p k
 copy-named t p k ok h l low =
     let few = few-uses (frames t) (t .pages) (pages-ruled (s .paged)) (pages-once t (s .once)) f low in
     let whole : set (t .pages) p (pageAt t p) ≡ t .pages = set-getD (t .pages) p zeroPage in

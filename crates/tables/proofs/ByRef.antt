@@ -1,15 +1,15 @@
--- What the walks of the functions over `&Tables` share. Each function takes plain values, and perhaps the reference before them; its answer is plain, and its contract says what it is.
--- What a plain value owns is made of the fact `Is` wherever it is asked for, so a walk carries nothing but the locals, the reference and the token of its lifetime.
---     Data             a type of plain values, with its laws: `uint`, `struct`, `enum`
---     by-ref, by-val   the signatures: the reference and values of the types Ds, or those alone, to an answer of the type D
---     asks, tells      a call of a function by reference, and of one by value, whose contract says r ≡ x: the machine value of x comes back, and the context is as it was
---     asks-so          the same by reference where the contract says something of r from which r ≡ x follows
---     looks-in, looks-away     what lies behind the reference, in memory, and the reference again
---     Field, element-in, element-away      the same of one element of a field that is an array
---     lends, regains   a local is lent, for a lifetime that is made for it, and taken back as it was
---     local, frees-full    a local is read, and freed at the function's end
---     val-leaves, ref-leaves   the exit, at which nothing is had of any parameter
---     val-meets, ref-meets     a walk meets the contract
+-- What the walks of the functions over `&Tables` share. Each function takes plain values, and perhaps the reference
+-- before them; its answer is plain, and its contract says what it is. What a plain value owns is made of the fact `Is`
+-- wherever it is asked for, so a walk carries nothing but the locals, the reference and the token of its lifetime.
+-- Data             a type of plain values, with its laws: `uint`, `struct`, `enum`     by-ref, by-val   the signatures:
+-- the reference and values of the types Ds, or those alone, to an answer of the type D     asks, tells      a call of a
+-- function by reference, and of one by value, whose contract says r ≡ x: the machine value of x comes back, and the
+-- context is as it was     asks-so          the same by reference where the contract says something of r from which r ≡
+-- x follows     looks-in, looks-away     what lies behind the reference, in memory, and the reference again     Field,
+-- element-in, element-away      the same of one element of a field that is an array     lends, regains   a local is
+-- lent, for a lifetime that is made for it, and taken back as it was     local, frees-full    a local is read, and
+-- freed at the function's end     val-leaves, ref-leaves   the exit, at which nothing is had of any parameter
+-- val-meets, ref-meets     a walk meets the contract
 use Prim.Native.Nat.{ℕ, zero, _+_, _<_}
 use mathlib.Core.Path.{_≡_, refl, sym, ap, subst}
 use mathlib.Core.List.{List, [], _∷_}
@@ -158,7 +158,8 @@ module _ {M : Type 1} {𝓤 : URA M} {H : Heap 𝓤} {A : Atoms 𝓤} {K : Type 
 
 module _ {M : Type 1} (𝓤 : URA M) (H : Heap 𝓤) (A : Atoms 𝓤) (K : Type 0) (W : Given 𝓤 H A) (Γ : List (Item 𝓤)) (E : Env 𝓤 H) (q : Post 𝓤 H) (d : Place)
     (f : Name) (xs : List Operand) (rest : Body) where
-  -- what a call of a function by reference comes to: with the answer's value the walk goes on, and the reference and its token are had again
+  -- what a call of a function by reference comes to: with the answer's value the walk goes on, and the reference and
+  -- its token are had again
   abbrev Called : (𝓣 : Tables 𝓤 H) (R : RattleType) (Ds : List Data) (D : Data) (c : Clauses 𝓤 (by-ref R Ds D)) (κ : Lft) → Share
       → (t : RefT (R .Denot)) (a : Denotes 1 (κ, tt) Ds) → c (κ, tt) (t, a) .ghost → D .row .Denot → Type 2
   Called 𝓣 R Ds D c κ q′ t a g x =
@@ -240,7 +241,8 @@ module _ {M : Type 1} {𝓤 : URA M} {H : Heap 𝓤} {A : Atoms 𝓤} {K : Type 
 
 -- ---- an element of an array field behind a reference
 
--- a field of D that is an array of E: how many elements it has, where it begins, and that it is cut out of D in memory and put back
+-- a field of D that is an array of E: how many elements it has, where it begins, and that it is cut out of D in memory
+-- and put back
 pub record Field (D E : Data) : Type 2 where
   pub count : ℕ
   pub offset : ℕ

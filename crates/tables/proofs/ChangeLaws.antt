@@ -18,7 +18,7 @@ use Rattle.tables.specs.declared.Edit.{Edit}
 use Rattle.tables.specs.declared.Edit.the-variants.{Kept, Created, Deleted, Granted, Staled, Placed, Added, Removed, Marked}
 use Rattle.tables.specs.Lists.{all, count}
 use Rattle.tables.specs.Model.{inUse, freshCopy, freshPage, zeroCopy, zeroPage, pageAt}
-use Rattle.tables.specs.Changes.{created, withCopies, staleCopy, newCopy, closeGap, markedCopy, changed, edited, after}
+use Rattle.tables.specs.Changes.{created, withCopies, staleCopy, newCopy, closeGap, withCurrent, changed, edited, after}
 use Rattle.tables.proofs.GapLaws.{gap-length}
 use Rattle.tables.proofs.ListLaws.{and-left, and-right, and-intro}
 
@@ -123,7 +123,7 @@ changed-copies g (Added f r) e = by (ltb (g .n) 8)
     by true = length-set (g .copies) (g .n) (newCopy f r) ∙ e
     by false = e
 changed-copies g (Removed k) e = gap-length (g .copies) k ∙ e
-changed-copies g (Marked k b) e = length-set (g .copies) k (markedCopy (getD (g .copies) k zeroCopy) b) ∙ e
+changed-copies g (Marked k b) e = length-set (g .copies) k (withCurrent (getD (g .copies) k zeroCopy) b) ∙ e
 
 -- ---- the copies in use, and the entries after them
 
@@ -150,14 +150,14 @@ module _ (g : Page) where
 
   -- copy k has another mark
   pub in-use-marked : (k : ℕ) (b : Bool) → k < g .n
-      → inUse (changed g (Marked k b)) ≡ set (inUse g) k (markedCopy (getD (g .copies) k zeroCopy) b)
+      → inUse (changed g (Marked k b)) ≡ set (inUse g) k (withCurrent (getD (g .copies) k zeroCopy) b)
   unfolding changed
-  in-use-marked k b h = take-set-lt (g .n) (g .copies) k (markedCopy (getD (g .copies) k zeroCopy) b) h
+  in-use-marked k b h = take-set-lt (g .n) (g .copies) k (withCurrent (getD (g .copies) k zeroCopy) b) h
 
   -- the other entries stay
   pub rest-marked : (k : ℕ) (b : Bool) → k < g .n → drop (g .n) (changed g (Marked k b) .copies) ≡ drop (g .n) (g .copies)
   unfolding changed
-  rest-marked k b h = drop-set-lt (g .n) (g .copies) k (markedCopy (getD (g .copies) k zeroCopy) b) h
+  rest-marked k b h = drop-set-lt (g .n) (g .copies) k (withCurrent (getD (g .copies) k zeroCopy) b) h
 
   -- a page with room gets the copy
   pub added : (f : ℕ) (r : Bool) → g .n < 8 → changed g (Added f r) ≡ withCopies g (g .n + 1) (set (g .copies) (g .n) (newCopy f r))

@@ -18,7 +18,7 @@ use Rattle.tables.specs.Lists.{count}
 use Rattle.tables.specs.Model.{frames, freeEntry, retiredEntry, isRetiredEntry, retiredAt, inUse, absent, freshPage, zeroPage, pageAt, onFrame}
 use Rattle.tables.specs.Search.{inPages}
 use Rattle.tables.specs.Rules.{uses, holders, free, pageRule, sound}
-use Rattle.tables.specs.Register.{entryOf, entryRule, moved}
+use Rattle.tables.specs.Register.{entryOf, entryRule, reregistered}
 use Rattle.tables.specs.Changes.{created, granted, changed, edited, withRetired, after}
 use Rattle.tables.proofs.RuleLaws.{StandingPage, of-standing, fresh-page-ok, PagesOk, pages-ruled, Once, pages-once, RegisterOk, right-held, right-out, entry-held, out-low, out-idle, Sound, sound-of, of-sound, few-frames, few-uses, standing-at}
 use Rattle.tables.proofs.RegisterLaws.{length-moved, moved-held, moved-out, entry-in, searched-low}
@@ -48,8 +48,8 @@ retired-right t s x ok = out-right (s .right) x (λ l. (ok l .in-range, omega (a
 
 -- ---- the record of page p becomes g
 
--- What the rules ask of it, among pages gs with the register r: its own, that no frame comes under two copies, and that no copy is on a retired
--- frame.
+-- What the rules ask of it, among pages gs with the register r: its own, that no frame comes under two copies, and that
+-- no copy is on a retired frame.
 record Fits (limit : ℕ) (gs : List Page) (r : List ℕ) (p : ℕ) (g : Page) : Type 0 where
   ruled : pageRule limit g ≡ true
   once : Once limit (set gs p g)
@@ -61,7 +61,7 @@ module _ {limit : ℕ} {gs : List Page} {r : List ℕ} {p : ℕ} {g : Page} (nea
   new = set gs p g
 
   abbrev entries : List ℕ
-  entries = moved p (getD gs p zeroPage) g r
+  entries = reregistered p (getD gs p zeroPage) g r
 
   new-paged : PagesOk limit new
   new-paged = record { pages-long = length-set gs p g ∙ paged .pages-long; page-ok = λ k l. at k l (ℕ-discrete k p) }

@@ -1,4 +1,5 @@
--- A loop that turns a list a into b in place, one element a turn from the front: after j turns it holds the first j of b, and then those of a.
+-- A loop that turns a list a into b in place, one element a turn from the front: after j turns it holds the first j of
+-- b, and then those of a.
 use Prim.Native.Nat.{ℕ, _+_, _-_, _≤_, _<_}
 use mathlib.Core.Path.{_≡_, sym, ap, _∙_}
 use mathlib.Core.List.{List, [], _∷_, _++_, append-nil}

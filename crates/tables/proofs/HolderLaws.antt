@@ -16,7 +16,7 @@ use Rattle.tables.specs.declared.Holder.the-variants.{At, Free, Retired}
 use Rattle.tables.specs.Lists.{count}
 use Rattle.tables.specs.Model.{retiredAt, inUse, onFrame}
 use Rattle.tables.specs.Rules.{uses, holders, free}
-use Rattle.tables.specs.Search.{inCopies, inPages, searched, holderOf, shown, Tells, isFree}
+use Rattle.tables.specs.Search.{inCopies, inPages, searched, holderOf, shown, HolderIs, isFree}
 use Rattle.tables.proofs.ListLaws.{and-left, and-right, iff-eq, and-intro}
 
 -- ---- whom it passes over
@@ -97,9 +97,9 @@ three-shown Free = refl
 three-shown Retired = refl
 
 -- what is promised of an answer that is the holder
-pub tells-it : {h r : Holder} → r ≡ h → Tells h r
+pub tells-it : {h r : Holder} → r ≡ h → HolderIs h r
 tells-it e = record { case = e; values = ap shown e }
 
 -- which so tells whether the frame is free
-pub told-free : (t : Tables) (f : ℕ) {h : Holder} → h ≡ holderOf t f → Tells (holderOf t f) h × (isFree h ≡ free t f)
+pub told-free : (t : Tables) (f : ℕ) {h : Holder} → h ≡ holderOf t f → HolderIs (holderOf t f) h × (isFree h ≡ free t f)
 told-free t f e = (tells-it e, ap isFree e ∙ sym (free-holder t f))

@@ -16,9 +16,9 @@ use Rattle.tables.specs.declared.Edit.the-variants.{Kept, Created, Delet
 use Rattle.tables.specs.Lists.{all}
 use Rattle.tables.specs.Model.{retiredEntry, zeroCopy, zeroPage, pageAt}
 use Rattle.tables.specs.Rules.{sound}
-use Rattle.tables.specs.Register.{moved}
-use Rattle.tables.specs.Changes.{staleCopy, markedCopy, withCopies, changed, changeTo, edited, withRetired, after}
-use Rattle.tables.specs.Keep.{staysRecent, agree, isMarked, unchanged}
+use Rattle.tables.specs.Register.{reregistered}
+use Rattle.tables.specs.Changes.{staleCopy, withCurrent, withCopies, changed, changeTo, edited, withRetired, after}
+use Rattle.tables.specs.Keep.{staysRecent, agree, currentIs, leavesRecord}
 use Rattle.tables.proofs.ListLaws.{and-left, and-right}
 use Rattle.tables.proofs.RuleLaws.{pages-once, Sound, sound-of}
 use Rattle.tables.proofs.RegisterLaws.{register-same, retired-none}
@@ -45,29 +45,30 @@ agree-same true false e = e
 agree-same false true e = sym e
 agree-same false false e = refl
 
-marks-stay : (cs : List Copy) (k : ℕ) (b : Bool) → isMarked cs k b ≡ true → set cs k (markedCopy (getD cs k zeroCopy) b) ≡ cs
+marks-stay : (cs : List Copy) (k : ℕ) (b : Bool) → currentIs cs k b ≡ true → set cs k (withCurrent (getD cs k zeroCopy) b) ≡ cs
 marks-stay cs k b e = go (leb (length cs) k) refl e
   where
     go : (x : Bool) → leb (length cs) k ≡ x → (x || agree (getD cs k zeroCopy .current) b) ≡ true
-        → set cs k (markedCopy (getD cs k zeroCopy) b) ≡ cs
+        → set cs k (withCurrent (getD cs k zeroCopy) b) ≡ cs
     go true q h = set-out cs k _ (leb-true (length cs) k q)
     go false q h =
-        ap (λ (z : Bool). set cs k (markedCopy (getD cs k zeroCopy) z)) (agree-same (getD cs k zeroCopy .current) b h)
+        ap (λ (z : Bool). set cs k (withCurrent (getD cs k zeroCopy) z)) (agree-same (getD cs k zeroCopy .current) b h)
         ∙ set-getD cs k zeroCopy
 
-pub unchanged-same : (g : Page) (c : Edit) → unchanged g c ≡ true → changed g c ≡ g
-unfolding changed unchanged
-unchanged-same g Kept e = refl
-unchanged-same g (Created station) e = absurd (false≢true e)
-unchanged-same g Deleted e = absurd (false≢true e)
-unchanged-same g (Granted station right) e = absurd (false≢true e)
-unchanged-same g Staled e = ap (withCopies g (g .n)) (copies-stay (g .copies) e)
-unchanged-same g (Placed frame) e = absurd (false≢true e)
-unchanged-same g (Added frame recent) e = absurd (false≢true e)
-unchanged-same g (Removed k) e = absurd (false≢true e)
-unchanged-same g (Marked k current) e = ap (withCopies g (g .n)) (marks-stay (g .copies) k current e)
+pub leaves-same : (g : Page) (c : Edit) → leavesRecord g c ≡ true → changed g c ≡ g
+unfolding changed leavesRecord
+leaves-same g Kept e = refl
+leaves-same g (Created station) e = absurd (false≢true e)
+leaves-same g Deleted e = absurd (false≢true e)
+leaves-same g (Granted station right) e = absurd (false≢true e)
+leaves-same g Staled e = ap (withCopies g (g .n)) (copies-stay (g .copies) e)
+leaves-same g (Placed frame) e = absurd (false≢true e)
+leaves-same g (Added frame recent) e = absurd (false≢true e)
+leaves-same g (Removed k) e = absurd (false≢true e)
+leaves-same g (Marked k current) e = ap (withCopies g (g .n)) (marks-stay (g .copies) k current e)
 
--- Where the record of a page is put back as it was, a free frame is retired, and nothing else; any number past the register is no frame.
+-- Where the record of a page is put back as it was, a free frame is retired, and nothing else; any number past the
+-- register is no frame.
 pub kept-after : (t : Tables) (p x : ℕ) → sound t ≡ true → (x < 254 → FrameOk t x)
     → after t (changeTo p (pageAt t p) x) ≡ withRetired t x
 unfolding after
@@ -79,13 +80,13 @@ kept-after t p x ok free = rw (set-getD (t .pages) p zeroPage, by (ltb p 64) ref
     out : List ℕ
     out = set (t .register) x retiredEntry
 
-    by : (b : Bool) → ltb p 64 ≡ b → cond b (moved p (pageAt t p) (pageAt t p) out) out ≡ out
+    by : (b : Bool) → ltb p 64 ≡ b → cond b (reregistered p (pageAt t p) (pageAt t p) out) out ≡ out
     by true e = register-same (s .paged) (pages-once t (s .once)) (retired-right t s x free) p (ltb-true p 64 e)
     by false e = refl
 
 -- sound tables are then as they were
-pub unchanged-after : (t : Tables) (p : ℕ) (c : Edit) → sound t ≡ true → unchanged (pageAt t p) c ≡ true → after t (edited t p c 255) ≡ t
+pub unchanged-after : (t : Tables) (p : ℕ) (c : Edit) → sound t ≡ true → leavesRecord (pageAt t p) c ≡ true → after t (edited t p c 255) ≡ t
 unchanged-after t p c ok e =
-    ap (λ (g : Page). after t (changeTo p g 255)) (unchanged-same (pageAt t p) c e)
+    ap (λ (g : Page). after t (changeTo p g 255)) (leaves-same (pageAt t p) c e)
     ∙ kept-after t p 255 ok (λ l. absurd (omega arith))
     ∙ retired-none t (sound-of t ok .right .register-long)

@@ -6,7 +6,7 @@ use mathlib.Core.Logic.{⊎-elim}
 use mathlib.Core.Path.{_≡_, refl, sym, ap, _∙_}
 use native.Mathlib.Nat.{not-suc-le-zero, le-of-suc-le-suc, eq-or-lt-of-le, zero-add}
 use native.Mathlib.Omega.{arith}
-use lib.ListN.{length, getD, set, take, drop, replicate, take-append-drop}
+use lib.ListN.{length, getD, set, take, drop, take-append-drop}
 use lib.Dec.{eqb}
 use borrow.Author.Tests.{eqb-true}
 use Rattle.tables.specs.Lists.{all, count, allBelow, listed}
@@ -111,12 +111,6 @@ module _ {A : Type 0} (f : A → Bool) where
   all-set (x ∷ xs) zero v e h = and-intro h (and-right (f x) (all f xs) e)
   all-set (x ∷ xs) (suc i) v e h = and-intro (and-left (f x) (all f xs) e) (all-set xs i v (and-right (f x) (all f xs) e) h)
 
-  -- of one element n times
-  pub all-replicate : (n : ℕ) (a : A) → f a ≡ true → all f (replicate n a) ≡ true
-  unfolding all
-  all-replicate zero a e = refl
-  all-replicate (suc n) a e = and-intro e (all-replicate n a e)
-
 -- of a number that is listed
 pub all-listed : (f : ℕ → Bool) (l : List ℕ) (n : ℕ) → all f l ≡ true → listed n l ≡ true → f n ≡ true
 all-listed f [] n e h = absurd (false≢true h)
@@ -169,12 +163,6 @@ module _ {A : Type 0} (f : A → Bool) where
   count-set [] i v d h = absurd (not-suc-le-zero h)
   count-set (x ∷ xs) zero v d h = omega arith
   count-set (x ∷ xs) (suc i) v d h = let k = count-set xs i v d (le-of-suc-le-suc h) in omega arith
-
-  -- one element n times, of which the test does not hold
-  pub count-replicate : (n : ℕ) (a : A) → f a ≡ false → count f (replicate n a) ≡ 0
-  unfolding count
-  count-replicate zero a e = refl
-  count-replicate (suc n) a e = let k = count-replicate n a e in rw (e, k)
 
   -- no more than there are
   pub count-le : (l : List A) → count f l ≤ length l

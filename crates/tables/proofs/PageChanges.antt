@@ -14,7 +14,7 @@ use Rattle.tables.specs.declared.Edit.the-variants.{Granted, Staled, Pla
 use Rattle.tables.specs.Lists.{all, count}
 use Rattle.tables.specs.Model.{isNull, inUse, freshCopy, zeroCopy, onFrame}
 use Rattle.tables.specs.Rules.{isFresh, copyRule, isRecent, isCurrent, atMost}
-use Rattle.tables.specs.Changes.{created, withCopies, staleCopy, newCopy, closeGap, markedCopy, changed}
+use Rattle.tables.specs.Changes.{created, withCopies, staleCopy, newCopy, closeGap, withCurrent, changed}
 use Rattle.tables.proofs.ListLaws.{and-intro, not-so, all-of, all-append, all-drop, all-imp, all-map, all-set, count-append, count-at, count-le, count-map, count-set, count-some}
 use Rattle.tables.proofs.RuleLaws.{GoodCopy, good-copy, of-good-copy, current-placed, StandingPage, length-in-use, copy-at, fresh-copy}
 use Rattle.tables.proofs.ChangeLaws.{without, length-without, all-without, count-without, changed-rights, changed-copies, in-use-staled, rest-staled, in-use-placed, rest-placed, in-use-marked, rest-marked, added, in-use-added, rest-added, in-use-removed, rest-removed}
@@ -60,7 +60,7 @@ new-good limit n frame recent h small =
 
 -- a copy that may have the mark
 marked-good : (limit n : ℕ) (c : Copy) (b : Bool) → GoodCopy limit n c → (b ≡ true → c .recent ≡ true) → (b ≡ true → isNull c ≡ false)
-    → GoodCopy limit n (markedCopy c b)
+    → GoodCopy limit n (withCurrent c b)
 marked-good limit n c b o r f =
     record { marks = r; placed = o .placed; lone = o .lone; null-recent = o .null-recent; null-idle = λ z. idle b z f }
   where
@@ -159,12 +159,12 @@ module _ {limit : ℕ} {g : Page} (s : StandingPage limit g) where
       let h : k < g .n = a .in-use in
       let old : Copy = getD (g .copies) k zeroCopy in
       let same : getD (inUse g) k zeroCopy ≡ old = getD-take (g .n) (g .copies) k zeroCopy h in
-      let u = count-set isRecent (inUse g) k (markedCopy old b) zeroCopy (rw (length-in-use s) h) in
-      let v : count isRecent (set (inUse g) k (markedCopy old b)) + cond (old .recent) 1 0 ≡ count isRecent (inUse g) + cond (old .recent) 1 0 = rw same at u in
-      recopied (g .n) (set (g .copies) k (markedCopy old b)) (changed-copies g (Marked k b) (s .copies-long)) (s .most)
+      let u = count-set isRecent (inUse g) k (withCurrent old b) zeroCopy (rw (length-in-use s) h) in
+      let v : count isRecent (set (inUse g) k (withCurrent old b)) + cond (old .recent) 1 0 ≡ count isRecent (inUse g) + cond (old .recent) 1 0 = rw same at u in
+      recopied (g .n) (set (g .copies) k (withCurrent old b)) (changed-copies g (Marked k b) (s .copies-long)) (s .most)
       (rw (in-use-marked g k b h)
-      (all-set (copyRule limit (g .n)) (inUse g) k (markedCopy old b) (s .copies-ok)
-      (of-good-copy limit (g .n) (markedCopy old b) (marked-good limit (g .n) old b (copy-at s k h) (a .fresh) (a .placed)))))
+      (all-set (copyRule limit (g .n)) (inUse g) k (withCurrent old b) (s .copies-ok)
+      (of-good-copy limit (g .n) (withCurrent old b) (marked-good limit (g .n) old b (copy-at s k h) (a .fresh) (a .placed)))))
       (rw (rest-marked g k b h) (s .rest-fresh))
       (rw (in-use-marked g k b h) (omega (arith, s .recent-ok)))
 
@@ -229,7 +229,7 @@ module _ {limit : ℕ} {g : Page} (s : StandingPage limit g) where
   -- with another mark, as many as before
   pub marked-on : (k : ℕ) (b : Bool) (f : ℕ) → k < g .n → count (onFrame f) (inUse (changed g (Marked k b))) ≡ count (onFrame f) (inUse g)
   marked-on k b f h =
-      let c : Copy = markedCopy (getD (g .copies) k zeroCopy) b in
+      let c : Copy = withCurrent (getD (g .copies) k zeroCopy) b in
       let u : count (onFrame f) (set (inUse g) k c) + cond (onFrame f c) 1 0 ≡ count (onFrame f) (inUse g) + cond (onFrame f c) 1 0 =
       rw (getD-take (g .n) (g .copies) k zeroCopy h) at (count-set (onFrame f) (inUse g) k c zeroCopy (rw (length-in-use s) h)) in
       rw (in-use-marked g k b h) (omega arith)

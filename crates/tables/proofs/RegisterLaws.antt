@@ -19,7 +19,7 @@ use Rattle.tables.specs.Lists.{count}
 use Rattle.tables.specs.Model.{frames, freeEntry, retiredEntry, entryAt, isRetiredEntry, retiredAt, onFrame, inUse, freshPage, withPages, zeroPage}
 use Rattle.tables.specs.Search.{inCopies, inPages, searched, holderOf, isFree, isRetired}
 use Rattle.tables.specs.Rules.{uses, free, sound}
-use Rattle.tables.specs.Register.{entry, entryOf, named, registered, vacated, occupied, moved}
+use Rattle.tables.specs.Register.{entryFor, entryOf, holderOfEntry, registered, vacated, occupied, reregistered}
 use Rattle.tables.specs.Changes.{withRetired}
 use Rattle.tables.proofs.UsesLaws.{uses-set, uses-at}
 use Rattle.tables.proofs.RuleLaws.{eight, PagesOk, pages-ruled, Once, RegisterOk, entry-held, out-idle, Sound, sound-of, few-frames, few-uses}
@@ -66,7 +66,7 @@ length-occupied p k [] r = refl
 length-occupied p k (c ∷ cs) r = length-occupied p (k + 1) cs _ ∙ length-set r (c .frame) _
 
 -- the register is as long as it was
-pub length-moved : (p : ℕ) (g g′ : Page) (r : List ℕ) → length (moved p g g′ r) ≡ length r
+pub length-moved : (p : ℕ) (g g′ : Page) (r : List ℕ) → length (reregistered p g g′ r) ≡ length r
 length-moved p g g′ r = length-occupied p 0 (inUse g′) (vacated (inUse g) r) ∙ length-vacated (inUse g) r
 
 pub either : (b : Bool) (n : ℕ) → cond b n n ≡ n
@@ -99,18 +99,18 @@ occupied-at : (p k : ℕ) (cs : List Copy) (r : List ℕ) (f : ℕ) (h : Holder)
 unfolding occupied inCopies count
 occupied-at p k [] r f h l few e = e
 occupied-at p k (c ∷ cs) r f h l few e =
-    by (onFrame f c) refl few (λ h′. occupied-at p (k + 1) cs (set r (c .frame) (entry p k)) f h′ (rw (length-set r (c .frame) (entry p k)) l))
+    by (onFrame f c) refl few (λ h′. occupied-at p (k + 1) cs (set r (c .frame) (entryFor p k)) f h′ (rw (length-set r (c .frame) (entryFor p k)) l))
   where
     by : (b : Bool) → onFrame f c ≡ b → cond b 1 0 + count (onFrame f) cs ≤ 1
-        → ((h′ : Holder) → count (onFrame f) cs ≤ 1 → getD (set r (c .frame) (entry p k)) f freeEntry ≡ entryOf h′
-        → getD (occupied p (k + 1) cs (set r (c .frame) (entry p k))) f freeEntry ≡ entryOf (inCopies f p (k + 1) cs h′))
-        → getD (occupied p (k + 1) cs (set r (c .frame) (entry p k))) f freeEntry ≡ entryOf (cond b (At p k) (inCopies f p (k + 1) cs h))
+        → ((h′ : Holder) → count (onFrame f) cs ≤ 1 → getD (set r (c .frame) (entryFor p k)) f freeEntry ≡ entryOf h′
+        → getD (occupied p (k + 1) cs (set r (c .frame) (entryFor p k))) f freeEntry ≡ entryOf (inCopies f p (k + 1) cs h′))
+        → getD (occupied p (k + 1) cs (set r (c .frame) (entryFor p k))) f freeEntry ≡ entryOf (cond b (At p k) (inCopies f p (k + 1) cs h))
     by true q few rest =
-        rest (At p k) (omega arith) (rw (eqb-true (c .frame) f q) (getD-set-same r f (entry p k) freeEntry l))
+        rest (At p k) (omega arith) (rw (eqb-true (c .frame) f q) (getD-set-same r f (entryFor p k) freeEntry l))
         ∙ ap entryOf (skip f p (k + 1) cs (At p k) (omega arith))
     by false q few rest =
         let d = eqb-false (c .frame) f q in
-        rest h (omega arith) (getD-set-other r (c .frame) f (entry p k) freeEntry (λ z. d (sym z)) ∙ e)
+        rest h (omega arith) (getD-set-other r (c .frame) f (entryFor p k) freeEntry (λ z. d (sym z)) ∙ e)
 
 -- ---- the register after a page's record changed
 
@@ -138,7 +138,7 @@ module _ (gs : List Page) (p : ℕ) (g : Page) (f : ℕ) (h : p < length gs) (fe
 
   -- and with its new copies, the holder that the search gives
   pub moved-held : (r : List ℕ) → f < length r → getD r f freeEntry ≡ entryOf (inPages f 0 gs)
-      → getD (moved p old g r) f freeEntry ≡ entryOf (inPages f 0 (set gs p g))
+      → getD (reregistered p old g r) f freeEntry ≡ entryOf (inPages f 0 (set gs p g))
   moved-held r l e =
       let own = uses-at f (set gs p g) p in
       let here : count (onFrame f) (inUse g) ≤ uses f (set gs p g) = rw (getD-set-same gs p g zeroPage h) at own in
@@ -147,7 +147,7 @@ module _ (gs : List Page) (p : ℕ) (g : Page) (f : ℕ) (h : p < length gs) (fe
 
 -- a retired frame that none of the page's copies was or is on stays retired
 pub moved-out : (p : ℕ) (g g′ : Page) (r : List ℕ) (f : ℕ) → f < length r → count (onFrame f) (inUse g) ≡ 0 → count (onFrame f) (inUse g′) ≡ 0
-    → isRetiredEntry (getD r f freeEntry) ≡ true → getD (moved p g g′ r) f freeEntry ≡ retiredEntry
+    → isRetiredEntry (getD r f freeEntry) ≡ true → getD (reregistered p g g′ r) f freeEntry ≡ retiredEntry
 moved-out p g g′ r f l none none′ out =
     let left : getD (vacated (inUse g) r) f freeEntry ≡ retiredEntry =
     vacated-at (inUse g) r f l ∙ rw (eq-eqb (count (onFrame f) (inUse g)) 0 none) (eqb-true (getD r f freeEntry) retiredEntry out) in
@@ -180,7 +180,7 @@ low-pages f b m (g ∷ gs) few eight =
     (low-pages f (b + 1) m gs (omega arith) (λ i l. eight (suc i) (omega arith)))
 
 -- the entry of a holder names it
-pub named-entry : (h : Holder) → Low 64 h → named (entryOf h) ≡ h
+pub named-entry : (h : Holder) → Low 64 h → holderOfEntry (entryOf h) ≡ h
 named-entry (At p k) low =
     let d : (8 * p + k) / 8 ≡ p = omega (arith, low .0, low .1) in
     let m : (8 * p + k) % 8 ≡ k = omega (arith, low .0, low .1) in
@@ -190,15 +190,15 @@ named-entry Retired low = absurd low
 
 -- the holder of frame f by the entry e, as the code comes to it: a number past the register has none
 abbrev pub byEntry : ℕ → ℕ → Holder
-byEntry e f = cond (ltb f 254) (named e) Free
+byEntry e f = cond (ltb f 254) (holderOfEntry e) Free
 
 pub by-entry : (t : Tables) (f : ℕ) → length (t .register) ≡ 254 → byEntry (getD (t .register) (f % 254) freeEntry) f ≡ registered t f
 by-entry t f long = go (ltb f 254) refl
   where
-    go : (near : Bool) → ltb f 254 ≡ near → cond near (named (getD (t .register) (f % 254) freeEntry)) Free ≡ registered t f
+    go : (near : Bool) → ltb f 254 ≡ near → cond near (holderOfEntry (getD (t .register) (f % 254) freeEntry)) Free ≡ registered t f
     go true e =
         let h = ltb-true f 254 e in
-        ap (λ (i : ℕ). named (getD (t .register) i freeEntry)) (let m : f % 254 ≡ f = omega arith in m)
+        ap (λ (i : ℕ). holderOfEntry (getD (t .register) i freeEntry)) (let m : f % 254 ≡ f = omega arith in m)
     go false e =
         let h = ltb-false f 254 e in
         rw (List·getD-eq-default (t .register) freeEntry {n = f} (rw long (omega arith)))
@@ -224,7 +224,7 @@ searched-low limit gs s f =
 
 -- where the record of a page stays as it is, the register does
 module _ {limit : ℕ} {gs : List Page} {r : List ℕ} (paged : PagesOk limit gs) (once : Once limit gs) (right : RegisterOk limit gs r) where
-  pub register-same : (p : ℕ) → p < 64 → moved p (getD gs p zeroPage) (getD gs p zeroPage) r ≡ r
+  pub register-same : (p : ℕ) → p < 64 → reregistered p (getD gs p zeroPage) (getD gs p zeroPage) r ≡ r
   register-same p near = ext-getD freeEntry _ _ long (λ f l.
       let m : f < length r = rw long at l in
       let k : f < 254 = rw (right .register-long) at m in
@@ -233,10 +233,10 @@ module _ {limit : ℕ} {gs : List Page} {r : List ℕ} (paged : PagesOk limit gs
       g : Page
       g = getD gs p zeroPage
 
-      long : length (moved p g g r) ≡ length r
+      long : length (reregistered p g g r) ≡ length r
       long = length-moved p g g r
 
-      by : (f : ℕ) → f < length r → f < 254 → (b : Bool) → isRetiredEntry (getD r f freeEntry) ≡ b → getD (moved p g g r) f freeEntry ≡ getD r f freeEntry
+      by : (f : ℕ) → f < length r → f < 254 → (b : Bool) → isRetiredEntry (getD r f freeEntry) ≡ b → getD (reregistered p g g r) f freeEntry ≡ getD r f freeEntry
       by f m k true e =
           let own = uses-at f gs p in
           let none : count (onFrame f) (inUse g) ≡ 0 = let z = out-idle right f e in omega arith in
@@ -271,10 +271,10 @@ registered-is t f ok h = by (isRetiredEntry (entryAt t f)) refl
     s : Sound t
     s = sound-of t ok
 
-    by : (b : Bool) → isRetiredEntry (entryAt t f) ≡ b → named (entryAt t f) ≡ cond b Retired (searched t f)
+    by : (b : Bool) → isRetiredEntry (entryAt t f) ≡ b → holderOfEntry (entryAt t f) ≡ cond b Retired (searched t f)
     by true e = rw (eqb-true (entryAt t f) retiredEntry e)
     by false e =
-        ap named (entry-held (s .right) f (omega (arith, few-frames s)) e)
+        ap holderOfEntry (entry-held (s .right) f (omega (arith, few-frames s)) e)
         ∙ named-entry (searched t f) (searched-low (frames t) (t .pages) (s .paged) f)
 
 -- what is read shows as retired just where the frame is, on any tables

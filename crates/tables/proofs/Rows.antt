@@ -1,10 +1,9 @@
--- The types of plain values that functions over `&Tables` take and answer, and the fields of the tables that are arrays.
+-- The types of plain values that functions over `&Tables` take and answer, and the fields of the tables that are
+-- arrays.
 use Prim.Native.Nat.{ℕ, _+_, _*_}
 use mathlib.Core.Path.{refl}
 use mir.Syntax.{w8, w16, w64}
-use mir.Val.{vbool}
 use denote.Struct.Values.{Values}
-use denote.Plain.{Boolean, bool-tells, bool-makes, bool-lawful}
 use Rattle.tables.specs.declared.Tables.{Tables}
 use Rattle.tables.proofs.Page as P
 use Rattle.tables.proofs.Page.Laws as P′
@@ -26,10 +25,6 @@ half = uint w16
 
 abbrev pub word : Data
 word = uint w64
-
-abbrev pub truth : Data
-truth = record
-    { row = Boolean; val = vbool; spelled = bool-tells; makes = λ 𝓤 H A W. bool-makes 𝓤 H A W; lawful = λ 𝓤 H A W. bool-lawful 𝓤 H A W; last = λ _. tt; silent = λ _ _. refl }
 
 abbrev pub page : Data
 page = struct P.the-type P′.the-laws P′.the-plain (λ _. tt) (λ _ _. refl)

@@ -15,7 +15,7 @@ use Rattle.tables.specs.declared.Tables.{Tables}
 use Rattle.tables.specs.declared.Holder.{Holder}
 use Rattle.tables.specs.Lists.{all, count}
 use Rattle.tables.specs.Model.{frames, freeEntry, isRetiredEntry, retiredAt, isNull, inUse, absent, onFrame, freshCopy, freshPage, zeroCopy, zeroPage, pageAt}
-use Rattle.tables.specs.Rules.{uses, holders, isFresh, copyRule, isRecent, atMost, standingRule, absentRule, shaped, pageRule, alone, sizesRule, pagesRule, sound}
+use Rattle.tables.specs.Rules.{uses, holders, isFresh, copyRule, isRecent, atMost, standingRule, absentRule, shaped, pageRule, noneShared, sizesRule, pagesRule, sound}
 use Rattle.tables.specs.Search.{inPages, isFree}
 use Rattle.tables.specs.Register.{entryOf, entryRule, registerRule}
 use Rattle.tables.proofs.HolderLaws.{free-pages}
@@ -237,12 +237,12 @@ of-pages limit gs s = and-intro (eq-eqb _ _ (s .pages-long)) (pages-ruled s)
 abbrev pub Alone : ℕ → (ℕ → ℕ) → Type 0
 Alone limit held = (f : ℕ) → f < limit → held f ≤ 1
 
-pub alone-of : (limit : ℕ) (held : ℕ → ℕ) → alone limit held ≡ true → Alone limit held
-unfolding alone
+pub alone-of : (limit : ℕ) (held : ℕ → ℕ) → noneShared limit held ≡ true → Alone limit held
+unfolding noneShared
 alone-of limit held e f h = leb-true (held f) 1 (below-at limit (λ f. leb (held f) 1) f e h)
 
-pub of-alone : (limit : ℕ) (held : ℕ → ℕ) → Alone limit held → alone limit held ≡ true
-unfolding alone
+pub of-alone : (limit : ℕ) (held : ℕ → ℕ) → Alone limit held → noneShared limit held ≡ true
+unfolding noneShared
 of-alone limit held once = below-of limit (λ f. leb (held f) 1) (λ f h. le-leb _ _ (once f h))
 
 -- of pages
@@ -316,8 +316,8 @@ sound-of t e =
     record {
       sizes = sizes-of (t .shared) (and-left (sizesRule (t .shared)) _ e);
       paged = pages-of (frames t) (t .pages) (and-left (pagesRule (frames t) (t .pages)) _ e₁);
-      once = alone-of (frames t) (holders t) (and-left (alone (frames t) (holders t)) _ e₂);
-      right = register-of (frames t) (t .pages) (t .register) (and-right (alone (frames t) (holders t)) _ e₂);
+      once = alone-of (frames t) (holders t) (and-left (noneShared (frames t) (holders t)) _ e₂);
+      right = register-of (frames t) (t .pages) (t .register) (and-right (noneShared (frames t) (holders t)) _ e₂);
     }
 
 -- and the rules from their parts

@@ -16,8 +16,8 @@ use Rattle.tables.specs.Lists.{all, count, allBelow}
 use Rattle.tables.specs.Model.{freeEntry, retiredEntry, isRetiredEntry, onFrame, inUse, zeroPage}
 use Rattle.tables.specs.Search.{inCopies, inPages}
 use Rattle.tables.specs.Rules.{uses, pageRule}
-use Rattle.tables.specs.Register.{entry, entryOf, entryRule, registerRule}
-use Rattle.tables.specs.PrivatePass.{names, entriesAre, scanPages, framesOfAll, isCopyEntry, taken, notRetired, entriesOf, othersOk}
+use Rattle.tables.specs.Register.{entryFor, entryOf, entryRule, registerRule}
+use Rattle.tables.specs.PrivatePass.{entryIs, entriesAre, scanPages, frameTotals, namesCopy, namingEntries, notRetired, entriesOf, othersOk}
 use Rattle.tables.proofs.ListLaws.{and-left, and-right, and-intro, not-so, iff-eq, all-at, all-of, all-drop, all-first, all-rest, count-at, below-at, below-of}
 use Rattle.tables.proofs.RuleLaws.{eight, Once, RegisterOk, register-of, of-register, right-held, right-out, entry-held, out-low, out-idle, few-uses}
 use Rattle.tables.proofs.HolderLaws.{skip, nobody, free-pages}
@@ -26,8 +26,8 @@ use Rattle.tables.proofs.SumLaws.{sumBelow, sum-same, sum-le, sum-equal
 
 -- ---- the entries of copies name them just where each frame's entry is that of its only holder
 
--- What the entry of frame f says of copies of page p, numbered from k on, before pages that use it n times and of which it has the holder h:
--- at most one of all is on it, and that one is what the search finds.
+-- What the entry of frame f says of copies of page p, numbered from k on, before pages that use it n times and of which
+-- it has the holder h: at most one of all is on it, and that one is what the search finds.
 record Told (r : List ℕ) (p k : ℕ) (cs : List Copy) (n : ℕ) (h : Holder) (f : ℕ) : Type 0 where
   once : count (onFrame f) cs + n ≤ 1
   tells : 1 ≤ count (onFrame f) cs + n → getD r f freeEntry ≡ entryOf (inCopies f p k cs h)
@@ -44,23 +44,24 @@ none (suc m) h = absurd (h (omega arith))
 -- ---- from the pass
 
 module _ (limit : ℕ) (r : List ℕ) (f : ℕ) (small : f < 254) where
-  -- Entries that name copies of page p, numbered from k on, are no lower than that of the first of them: so they do not name two on one frame.
+  -- Entries that name copies of page p, numbered from k on, are no lower than that of the first of them: so they do not
+  -- name two on one frame.
   told : (p k : ℕ) (cs : List Copy) (n : ℕ) (h : Holder) → entriesAre r p k cs ≡ true → k + length cs ≤ 8
-      → n ≤ 1 → (1 ≤ n → getD r f freeEntry ≡ entryOf h) → (1 ≤ n → entry (p + 1) 0 ≤ getD r f freeEntry)
-      → Told r p k cs n h f × (1 ≤ count (onFrame f) cs + n → entry p k ≤ getD r f freeEntry)
+      → n ≤ 1 → (1 ≤ n → getD r f freeEntry ≡ entryOf h) → (1 ≤ n → entryFor (p + 1) 0 ≤ getD r f freeEntry)
+      → Told r p k cs n h f × (1 ≤ count (onFrame f) cs + n → entryFor p k ≤ getD r f freeEntry)
   unfolding entriesAre count inCopies
   told p k [] n h e few one tells least =
       (record { once = omega arith; tells = λ z. tells (omega arith) }, λ z. let l = least (omega arith) in omega arith)
   told p k (c ∷ cs) n h e few one tells least =
-      by (onFrame f c) refl (told p (k + 1) cs n h (and-right (names r (c .frame) (entry p k)) _ e) (omega arith) one tells least)
+      by (onFrame f c) refl (told p (k + 1) cs n h (and-right (entryIs r (c .frame) (entryFor p k)) _ e) (omega arith) one tells least)
     where
-      own : onFrame f c ≡ true → getD r f freeEntry ≡ entry p k
+      own : onFrame f c ≡ true → getD r f freeEntry ≡ entryFor p k
       own q =
           let s : c .frame ≡ f = eqb-true (c .frame) f q in
-          eqb-true (getD r f freeEntry) (entry p k) (rw (s, lt-ltb f 254 small) at (and-left (names r (c .frame) (entry p k)) _ e))
+          eqb-true (getD r f freeEntry) (entryFor p k) (rw (s, lt-ltb f 254 small) at (and-left (entryIs r (c .frame) (entryFor p k)) _ e))
 
-      by : (b : Bool) → onFrame f c ≡ b → Told r p (k + 1) cs n h f × (1 ≤ count (onFrame f) cs + n → entry p (k + 1) ≤ getD r f freeEntry)
-          → Told r p k (c ∷ cs) n h f × (1 ≤ count (onFrame f) (c ∷ cs) + n → entry p k ≤ getD r f freeEntry)
+      by : (b : Bool) → onFrame f c ≡ b → Told r p (k + 1) cs n h f × (1 ≤ count (onFrame f) cs + n → entryFor p (k + 1) ≤ getD r f freeEntry)
+          → Told r p k (c ∷ cs) n h f × (1 ≤ count (onFrame f) (c ∷ cs) + n → entryFor p k ≤ getD r f freeEntry)
       by true q w =
           let z : count (onFrame f) cs + n ≡ 0 =
           none (count (onFrame f) cs + n) (λ s. let a = w .1 s in let b = own q in omega arith) in
@@ -70,7 +71,7 @@ module _ (limit : ℕ) (r : List ℕ) (f : ℕ) (small : f < 254) where
         λ s. let a = w .1 (let a = rw q at s in omega arith) in omega arith,
       )
 
-  pointed : (p : ℕ) (gs : List Page) → scanPages limit r p gs ≡ true → Points r p gs f × (1 ≤ uses f gs → entry p 0 ≤ getD r f freeEntry)
+  pointed : (p : ℕ) (gs : List Page) → scanPages limit r p gs ≡ true → Points r p gs f × (1 ≤ uses f gs → entryFor p 0 ≤ getD r f freeEntry)
   unfolding scanPages inPages uses
   pointed p [] e = (record { once = omega arith; tells = λ z. absurd (omega arith) }, λ z. absurd (omega arith))
   pointed p (g ∷ gs) e =
@@ -98,10 +99,10 @@ module _ (limit : ℕ) (r : List ℕ) where
       own : onFrame (c .frame) c ≡ true
       own = eq-eqb (c .frame) (c .frame) refl
 
-      by : (b : Bool) → ltb (c .frame) 254 ≡ b → cond b (eqb (getD r (c .frame) freeEntry) (entry p k)) true ≡ true
+      by : (b : Bool) → ltb (c .frame) 254 ≡ b → cond b (eqb (getD r (c .frame) freeEntry) (entryFor p k)) true ≡ true
       by true e =
           let t = tells (c .frame) (ltb-true (c .frame) 254 e) .tells (rw own (omega arith)) in
-          eq-eqb (getD r (c .frame) freeEntry) (entry p k) (rw own at t)
+          eq-eqb (getD r (c .frame) freeEntry) (entryFor p k) (rw own at t)
       by false e = refl
 
       tail : (f : ℕ) (b : Bool) → onFrame f c ≡ b → Told r p k (c ∷ cs) (n f) (h f) f → Told r p (k + 1) cs (n f) (h f) f
@@ -133,14 +134,14 @@ module _ (limit : ℕ) (r : List ℕ) where
 
 -- ---- every entry is that of a copy, of a free frame or of a retired one
 
-three-numbers : (r : List ℕ) → (taken r + entriesOf freeEntry r) + entriesOf retiredEntry r ≡ length r
+three-numbers : (r : List ℕ) → (namingEntries r + entriesOf freeEntry r) + entriesOf retiredEntry r ≡ length r
 unfolding count
 three-numbers [] = refl
 three-numbers (e ∷ r) = by (eqb e freeEntry) refl (eqb e retiredEntry) refl (three-numbers r)
   where
     by : (a : Bool) → eqb e freeEntry ≡ a → (b : Bool) → eqb e retiredEntry ≡ b
-        → (taken r + entriesOf freeEntry r) + entriesOf retiredEntry r ≡ length r
-        → ((cond (not a && not b) 1 0 + taken r) + (cond a 1 0 + entriesOf freeEntry r)) + (cond b 1 0 + entriesOf retiredEntry r) ≡ suc (length r)
+        → (namingEntries r + entriesOf freeEntry r) + entriesOf retiredEntry r ≡ length r
+        → ((cond (not a && not b) 1 0 + namingEntries r) + (cond a 1 0 + entriesOf freeEntry r)) + (cond b 1 0 + entriesOf retiredEntry r) ≡ suc (length r)
     by true p true q k = let x = eqb-true e freeEntry p in let y = eqb-true e retiredEntry q in absurd (omega arith)
     by true p false q k = omega arith
     by false p true q k = omega arith
@@ -161,19 +162,19 @@ module _ (limit : ℕ) (low : limit ≤ 254) (gs : List Page) (r : List ℕ) (ma
 
   -- 1 where the entry of frame f names a copy
   abbrev named-at : ℕ → ℕ
-  named-at f = cond (isCopyEntry (getD r f freeEntry)) 1 0
+  named-at f = cond (namesCopy (getD r f freeEntry)) 1 0
 
   -- so it is where a copy is on the frame and the entry is its
-  taken-at : all (pageRule limit) gs ≡ true → (f : ℕ) → 1 ≤ uses f gs → getD r f freeEntry ≡ entryOf (inPages f 0 gs) → isCopyEntry (getD r f freeEntry) ≡ true
+  taken-at : all (pageRule limit) gs ≡ true → (f : ℕ) → 1 ≤ uses f gs → getD r f freeEntry ≡ entryOf (inPages f 0 gs) → namesCopy (getD r f freeEntry) ≡ true
   taken-at ok f some e =
       let few = low-pages f 0 64 gs (omega arith) (λ i l. eight limit (getD gs i zeroPage) (all-at (pageRule limit) gs i zeroPage ok l)) in
       let l = entry-low (inPages f 0 gs) few (free-pages f 0 gs ∙ ne-eqb (uses f gs) 0 (λ z. omega arith)) in
       rw (ne-eqb (getD r f freeEntry) freeEntry (λ z. omega arith), ne-eqb (getD r f freeEntry) retiredEntry (λ z. omega arith))
 
-  sums : all (pageRule limit) gs ≡ true → framesOfAll gs ≡ sumBelow 254 (λ f. uses f gs)
+  sums : all (pageRule limit) gs ≡ true → frameTotals gs ≡ sumBelow 254 (λ f. uses f gs)
   sums ok = sym (uses-sum limit low gs ok)
 
-  entries : taken r ≡ sumBelow 254 named-at
+  entries : namingEntries r ≡ sumBelow 254 named-at
   entries = taken-sum r ∙ ap (λ (n : ℕ). sumBelow n named-at) long
 
   -- ---- from the pass
@@ -193,39 +194,40 @@ module _ (limit : ℕ) (low : limit ≤ 254) (gs : List Page) (r : List ℕ) (ma
             let one = points f l .once in
             rw (taken-at ok f (omega (arith, d)) (points f l .tells (omega (arith, d)))) (omega arith)
 
-    -- Copies are on no more frames than entries name copies: so where these frames and the free ones are all, no frame is retired.
-    others-told : othersOk limit (framesOfAll gs) r ≡ (eqb (framesOfAll gs) (taken r) && all notRetired (drop limit r))
-    others-told = by (eqb (framesOfAll gs + entriesOf freeEntry r) 254) refl
+    -- Copies are on no more frames than entries name copies: so where these frames and the free ones are all, no frame
+    -- is retired.
+    others-told : othersOk limit (frameTotals gs) r ≡ (eqb (frameTotals gs) (namingEntries r) && all notRetired (drop limit r))
+    others-told = by (eqb (frameTotals gs + entriesOf freeEntry r) 254) refl
       where
-        few : framesOfAll gs ≤ taken r
+        few : frameTotals gs ≤ namingEntries r
         few = rw (sums ok, entries) (sum-le 254 (λ f. uses f gs) named-at few-named)
 
-        all-three : (taken r + entriesOf freeEntry r) + entriesOf retiredEntry r ≡ 254
+        all-three : (namingEntries r + entriesOf freeEntry r) + entriesOf retiredEntry r ≡ 254
         all-three = three-numbers r ∙ long
 
-        by : (b : Bool) → eqb (framesOfAll gs + entriesOf freeEntry r) 254 ≡ b
-            → cond b true (eqb (framesOfAll gs + entriesOf freeEntry r + entriesOf retiredEntry r) 254 && all notRetired (drop limit r))
-            ≡ (eqb (framesOfAll gs) (taken r) && all notRetired (drop limit r))
+        by : (b : Bool) → eqb (frameTotals gs + entriesOf freeEntry r) 254 ≡ b
+            → cond b true (eqb (frameTotals gs + entriesOf freeEntry r + entriesOf retiredEntry r) 254 && all notRetired (drop limit r))
+            ≡ (eqb (frameTotals gs) (namingEntries r) && all notRetired (drop limit r))
         by true e =
-            let q = eqb-true (framesOfAll gs + entriesOf freeEntry r) 254 e in
+            let q = eqb-true (frameTotals gs + entriesOf freeEntry r) 254 e in
             sym
-            (and-intro (eq-eqb (framesOfAll gs) (taken r) (omega (arith, few, all-three)))
+            (and-intro (eq-eqb (frameTotals gs) (namingEntries r) (omega (arith, few, all-three)))
             (all-drop notRetired limit r (none-retired r (omega (arith, few, all-three)))))
         by false e =
             ap (λ (b : Bool). b && all notRetired (drop limit r))
-            (iff-eq (eqb (framesOfAll gs + entriesOf freeEntry r + entriesOf retiredEntry r) 254) (eqb (framesOfAll gs) (taken r))
+            (iff-eq (eqb (frameTotals gs + entriesOf freeEntry r + entriesOf retiredEntry r) 254) (eqb (frameTotals gs) (namingEntries r))
             (λ z.
-            let q = eqb-true (framesOfAll gs + entriesOf freeEntry r + entriesOf retiredEntry r) 254 z in
-            eq-eqb (framesOfAll gs) (taken r) (omega (arith, all-three)))
+            let q = eqb-true (frameTotals gs + entriesOf freeEntry r + entriesOf retiredEntry r) 254 z in
+            eq-eqb (frameTotals gs) (namingEntries r) (omega (arith, all-three)))
             (λ z.
-            let q = eqb-true (framesOfAll gs) (taken r) z in
-            eq-eqb (framesOfAll gs + entriesOf freeEntry r + entriesOf retiredEntry r) 254 (omega (arith, all-three))))
+            let q = eqb-true (frameTotals gs) (namingEntries r) z in
+            eq-eqb (frameTotals gs + entriesOf freeEntry r + entriesOf retiredEntry r) 254 (omega (arith, all-three))))
 
-  module _ (scanned : scanPages limit r 0 gs ≡ true) (same : framesOfAll gs ≡ taken r) (kept : all notRetired (drop limit r) ≡ true) where
+  module _ (scanned : scanPages limit r 0 gs ≡ true) (same : frameTotals gs ≡ namingEntries r) (kept : all notRetired (drop limit r) ≡ true) where
     -- as many entries name copies as copies are on frames: so that of a frame that nobody is on names none
-    free-entry : (f : ℕ) → f < 254 → uses f gs ≡ 0 → isCopyEntry (getD r f freeEntry) ≡ false
+    free-entry : (f : ℕ) → f < 254 → uses f gs ≡ 0 → namesCopy (getD r f freeEntry) ≡ false
     free-entry f l z =
-        by (isCopyEntry (getD r f freeEntry))
+        by (namesCopy (getD r f freeEntry))
         (sym z ∙ sum-equal 254 (λ f. uses f gs) named-at (few-named scanned) (sym (sums (ok scanned)) ∙ same ∙ entries) f l)
       where
         by : (b : Bool) → _≡_ {A = ℕ} 0 (cond b 1 0) → b ≡ false
@@ -287,23 +289,23 @@ module _ (limit : ℕ) (low : limit ≤ 254) (gs : List Page) (r : List ℕ) (ma
             by true e = rw (and-false (not (eqb (getD r f freeEntry) freeEntry))) z
             by false e = rw (entry-held right f l e, nobody f 0 gs z) z
 
-    scanned-all : ((scanPages limit r 0 gs) && (eqb (framesOfAll gs) (taken r) && all notRetired (drop limit r))) ≡ true
+    scanned-all : ((scanPages limit r 0 gs) && (eqb (frameTotals gs) (namingEntries r) && all notRetired (drop limit r))) ≡ true
     scanned-all =
         and-intro (scan-of limit r 0 gs ok (λ f l. record { once = few-uses limit gs ok once f l; tells = held-at f l }))
-        (and-intro (eq-eqb (framesOfAll gs) (taken r) (sums ok ∙ sum-same 254 (λ f. uses f gs) named-at uses-named ∙ sym entries))
+        (and-intro (eq-eqb (frameTotals gs) (namingEntries r) (sums ok ∙ sum-same 254 (λ f. uses f gs) named-at uses-named ∙ sym entries))
         (all-of notRetired (drop limit r) freeEntry (λ i l.
         rw (getD-drop limit r i freeEntry) (ap not (not-so (isRetiredEntry (getD r (limit + i) freeEntry)) (λ out. let k = out-low right (limit + i) out in omega arith))))))
 
   -- ---- so both say the same
-  pub scan-rules : (scanPages limit r 0 gs && othersOk limit (framesOfAll gs) r)
+  pub scan-rules : (scanPages limit r 0 gs && othersOk limit (frameTotals gs) r)
       ≡ (all (pageRule limit) gs && (allBelow limit at-most-one && registerRule limit gs r))
   scan-rules =
       iff-eq _ _
       (λ e.
       let scanned = and-left (scanPages limit r 0 gs) _ e in
       let e₁ = sym (others-told scanned) ∙ and-right (scanPages limit r 0 gs) _ e in
-      passes scanned (eqb-true (framesOfAll gs) (taken r) (and-left (eqb (framesOfAll gs) (taken r)) _ e₁))
-      (and-right (eqb (framesOfAll gs) (taken r)) _ e₁))
+      passes scanned (eqb-true (frameTotals gs) (namingEntries r) (and-left (eqb (frameTotals gs) (namingEntries r)) _ e₁))
+      (and-right (eqb (frameTotals gs) (namingEntries r)) _ e₁))
       (λ e.
       let e₁ = and-right (all (pageRule limit) gs) _ e in
       let e₂ = scanned-all (and-left (all (pageRule limit) gs) _ e)

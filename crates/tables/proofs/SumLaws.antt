@@ -16,7 +16,7 @@ use Rattle.tables.specs.declared.Page.{Page}
 use Rattle.tables.specs.Lists.{all, count}
 use Rattle.tables.specs.Model.{freeEntry, onFrame, isNull, inUse, absent, zeroCopy}
 use Rattle.tables.specs.Rules.{uses, pageRule}
-use Rattle.tables.specs.PrivatePass.{framesOf, framesOfAll, isCopyEntry, taken}
+use Rattle.tables.specs.PrivatePass.{frameTotal, frameTotals, namesCopy, namingEntries}
 use Rattle.tables.proofs.ListLaws.{all-first, all-rest, count-none, count-all}
 use Rattle.tables.proofs.RuleLaws.{StandingPage, standing, length-in-use, copy-at}
 use Rattle.tables.proofs.PageChanges.{none-null}
@@ -71,8 +71,8 @@ unfolding count sumBelow
 count-sum g [] d = refl
 count-sum g (x ∷ xs) d = ap (λ (k : ℕ). cond (g x) 1 0 + k) (count-sum g xs d) ∙ sym (sum-first (length xs) (λ i. cond (g (getD (x ∷ xs) i d)) 1 0))
 
-pub taken-sum : (r : List ℕ) → taken r ≡ sumBelow (length r) (λ f. cond (isCopyEntry (getD r f freeEntry)) 1 0)
-taken-sum r = count-sum isCopyEntry r freeEntry
+pub taken-sum : (r : List ℕ) → namingEntries r ≡ sumBelow (length r) (λ f. cond (namesCopy (getD r f freeEntry)) 1 0)
+taken-sum r = count-sum namesCopy r freeEntry
 
 -- ---- copies by their frames
 
@@ -118,19 +118,19 @@ module _ (limit : ℕ) (low : limit ≤ 254) (g : Page) (ok : pageRule limit g �
       rw own (lt-ltb (getD (g .copies) k zeroCopy .frame) 254 (omega arith)))
       ∙ length-in-use s
 
-  page-placed : count placed (inUse g) ≡ framesOf g
+  page-placed : count placed (inUse g) ≡ frameTotal g
   unfolding count
   page-placed = by (absent g) refl
     where
-      by : (b : Bool) → absent g ≡ b → count placed (inUse g) ≡ framesOf g
+      by : (b : Bool) → absent g ≡ b → count placed (inUse g) ≡ frameTotal g
       by true e =
           let z : g .n ≡ 0 = eqb-true (g .n) 0 e in
           ap (λ (n : ℕ). count placed (take n (g .copies))) z ∙ rw z (sym (either (isNull (getD (g .copies) 0 zeroCopy)) 0))
       by false e = standing-placed (standing limit g ok e) (isNull (getD (g .copies) 0 zeroCopy)) refl
 
 -- and of all pages
-pub uses-sum : (limit : ℕ) → limit ≤ 254 → (gs : List Page) → all (pageRule limit) gs ≡ true → sumBelow 254 (λ f. uses f gs) ≡ framesOfAll gs
-unfolding uses framesOfAll
+pub uses-sum : (limit : ℕ) → limit ≤ 254 → (gs : List Page) → all (pageRule limit) gs ≡ true → sumBelow 254 (λ f. uses f gs) ≡ frameTotals gs
+unfolding uses frameTotals
 uses-sum limit low [] e = sum-zero 254
 uses-sum limit low (g ∷ gs) e =
     sum-plus 254 (λ f. count (onFrame f) (inUse g)) (λ f. uses f gs)

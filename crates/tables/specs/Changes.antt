@@ -51,8 +51,8 @@ closeGap (c ∷ cs) zero = cs ++ (freshCopy ∷ [])
 closeGap (c ∷ cs) (suc k) = c ∷ closeGap cs k
 
 -- steps 8 and 9
-abbrev pub markedCopy : Copy → Bool → Copy
-markedCopy c current = record { frame = c .frame; current = current; recent = c .recent }
+abbrev pub withCurrent : Copy → Bool → Copy
+withCurrent c current = record { frame = c .frame; current = current; recent = c .recent }
 
 -- the record of a page after an edit
 unfoldable pub changed : Page → Edit → Page
@@ -74,13 +74,13 @@ changed g (Added frame recent) = withCopy g (newCopy frame recent)
 changed g (Removed k) = withCopies g (g .n - 1) (closeGap (g .copies) k)
 -- steps 8 and 9: CURRENT set or removed
 changed g (Marked k current) =
-    withCopies g (g .n) (set (g .copies) k (markedCopy (getD (g .copies) k zeroCopy) current))
+    withCopies g (g .n) (set (g .copies) k (withCurrent (getD (g .copies) k zeroCopy) current))
 
 -- a change of the tables: page p gets the record g, and frame f is retired; 255 for none
 abbrev pub changeTo : ℕ → Page → ℕ → Change
 changeTo p g f = record { page = p; becomes = g; retires = f }
 
--- the same with the page's record edited
+-- the change in which edit e is made to the record of page p
 abbrev pub edited : Tables → ℕ → Edit → ℕ → Change
 edited t p e f = changeTo p (changed (pageAt t p) e) f
 
@@ -88,8 +88,8 @@ edited t p e f = changeTo p (changed (pageAt t p) e) f
 abbrev pub withRetired : Tables → ℕ → Tables
 withRetired t f = withPages t (t .pages) (set (t .register) f retiredEntry)
 
--- "Each change of the tables takes them and gives back the new ones." Copies come last: a frame that a copy of the page
--- leaves or takes is not retired by the same change.
+-- "Each change of the tables takes them and gives back the new ones." The retired frame is entered first and the page's
+-- copies after it, so that a frame which a copy of the page leaves or takes ends free or held.
 unfoldable pub after : Tables → Change → Tables
 after t change =
     withPages t (set (t .pages) (change .page) (change .becomes)) (registerAfter (t .pages) change (t .register))

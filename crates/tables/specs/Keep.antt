@@ -1,6 +1,7 @@
--- Where the tables need not be moved for an edit, since it is seen at a glance to leave the record as it is: what the
--- exported `keeps` says, and with it the `moved` of a decision. No number, reply or table depends on it:
--- `unchanged-same` proves that such an edit does so.
+-- The edits that are seen at a glance to leave a page's record as it is, so that the tables need not be moved: what the
+-- exported `keeps` says, and with it the `moved` of a decision. Such an edit leaves the record (`leaves-same`): on
+-- sound tables, and in `step`, `answer`, `run` and `fill` on any, no number, reply or table rests on `keeps`. What
+-- `settle` makes of a decision on tables with a wrong register does: where nothing moves, that register stays.
 use Prim.Native.Nat.{ℕ}
 use mathlib.Core.Bool.{Bool, true, false, not, _&&_, _||_}
 use mathlib.Core.List.{List}
@@ -19,17 +20,17 @@ staysRecent c = c .current || not (c .recent)
 abbrev pub agree : Bool → Bool → Bool
 agree a b = (a && b) || (not a && not b)
 
-abbrev pub isMarked : List Copy → ℕ → Bool → Bool
-isMarked cs k current = leb (length cs) k || agree (getD cs k zeroCopy .current) current
+abbrev pub currentIs : List Copy → ℕ → Bool → Bool
+currentIs cs k current = leb (length cs) k || agree (getD cs k zeroCopy .current) current
 
 -- whether the code may leave the record as it is
-unfoldable pub unchanged : Page → Edit → Bool
-unchanged g Kept = true
-unchanged g (Created station) = false
-unchanged g Deleted = false
-unchanged g (Granted station right) = false
-unchanged g Staled = all staysRecent (g .copies)
-unchanged g (Placed frame) = false
-unchanged g (Added frame recent) = false
-unchanged g (Removed k) = false
-unchanged g (Marked k current) = isMarked (g .copies) k current
+unfoldable pub leavesRecord : Page → Edit → Bool
+leavesRecord g Kept = true
+leavesRecord g (Created station) = false
+leavesRecord g Deleted = false
+leavesRecord g (Granted station right) = false
+leavesRecord g Staled = all staysRecent (g .copies)
+leavesRecord g (Placed frame) = false
+leavesRecord g (Added frame recent) = false
+leavesRecord g (Removed k) = false
+leavesRecord g (Marked k current) = currentIs (g .copies) k current

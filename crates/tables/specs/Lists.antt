@@ -19,7 +19,7 @@ unfoldable pub allBelow : ℕ → (ℕ → Bool) → Bool
 allBelow zero f = true
 allBelow (suc n) f = f n && allBelow n f
 
--- of how many numbers below n it holds
+-- of how many numbers below n f holds
 unfoldable pub countBelow : ℕ → (ℕ → Bool) → ℕ
 countBelow zero f = 0
 countBelow (suc n) f = cond (f n) 1 0 + countBelow n f

@@ -31,10 +31,10 @@ onFrame f c = eqb (c .frame) f
 
 -- ---- the register
 
--- The entry of a free frame (0xFFFF) and, document 02, request [5], that of a retired one (0xF0F0). They differ in
--- eight bits from each other and in four or more from the entry of any copy, 0 to 511, so that no flip of one or two
--- bits makes another state of one. 0x3C00 + page, which differs from all of these in four or more, is left for the
--- frame of the unfinished copy of request [10].
+-- The entry of a free frame (0xFFFF) and, document 02, request [5], that of a retired one (0xF0F0). They differ from
+-- each other in eight bits, and from the entry of any copy, 0 to 511, in four or more: a flip of up to three bits never
+-- turns the entry of a free, a held or a retired frame into that of another of these states. 0x3C00 + page, which
+-- differs from all of them in four bits or more, is left for the frame of the unfinished copy of request [10].
 abbrev pub freeEntry : ℕ
 freeEntry = 65535
 
@@ -92,7 +92,7 @@ made p s =
 
 -- ---- one page of the tables
 
--- what stands past the end of an array, where no index in range leads
+-- what `getD` gives past the end of an array; no index in range reaches it
 abbrev pub zeroCopy : Copy
 zeroCopy = record { frame = 0; current = false; recent = false }
 

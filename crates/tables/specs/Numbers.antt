@@ -87,12 +87,12 @@ abbrev pub retired : ℕ
 retired = 20
 
 -- The rows that a message can be turned back with, in the papers' order: 19 is for making tables alone.
-abbrev pub table : List ℕ
-table =
+abbrev pub messageNumbers : List ℕ
+messageNumbers =
     cutShort ∷ foreignVersion ∷ unknownKind ∷ wrongLength ∷ brokenTables ∷ misfitStore ∷ outOfRange ∷ pageStands
     ∷ noPage ∷ noRight ∷ nothingCurrent ∷ noCopy ∷ frameHeld ∷ eightCopies ∷ lastRecent ∷ stale ∷ noFrame ∷ shortBuffer
     ∷ retired ∷ []
 
 -- all rows
-abbrev pub rows : List ℕ
-rows = table ++ (tooManyFrames ∷ [])
+abbrev pub allNumbers : List ℕ
+allNumbers = messageNumbers ++ (tooManyFrames ∷ [])

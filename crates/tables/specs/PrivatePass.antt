@@ -11,23 +11,24 @@ use Rattle.tables.specs.declared.Page.{Page}
 use Rattle.tables.specs.Lists.{all, count}
 use Rattle.tables.specs.Model.{freeEntry, retiredEntry, isRetiredEntry, isNull, inUse, zeroCopy}
 use Rattle.tables.specs.Rules.{copyRule, pageRule}
-use Rattle.tables.specs.Register.{entry}
+use Rattle.tables.specs.Register.{entryFor}
 
 -- the entry of frame f is e; a null copy has no frame
-abbrev pub names : List ℕ → ℕ → ℕ → Bool
-names r f e = cond (ltb f 254) (eqb (getD r f freeEntry) e) true
+abbrev pub entryIs : List ℕ → ℕ → ℕ → Bool
+entryIs r f e = cond (ltb f 254) (eqb (getD r f freeEntry) e) true
 
 -- the entries of copies of page p, numbered from k on, name them
 unfoldable pub entriesAre : List ℕ → ℕ → ℕ → List Copy → Bool
 entriesAre r p k [] = true
-entriesAre r p k (c ∷ cs) = names r (c .frame) (entry p k) && entriesAre r p (k + 1) cs
+entriesAre r p k (c ∷ cs) = entryIs r (c .frame) (entryFor p k) && entriesAre r p (k + 1) cs
 
 -- the copies of a page with n of them, in one pass: each keeps its rule and is named; at the end, whether one is MOST
 -- RECENT, or one before them was
 unfoldable pub scanCopies : ℕ → ℕ → List ℕ → ℕ → ℕ → Bool → List Copy → Bool
 scanCopies limit n r p k recent [] = recent
 scanCopies limit n r p k recent (c ∷ cs) =
-    copyRule limit n c && (names r (c .frame) (entry p k) && scanCopies limit n r p (k + 1) (recent || c .recent) cs)
+    copyRule limit n c && (entryIs r (c .frame) (entryFor p k) && scanCopies limit n r p (k + 1)
+    (recent || c .recent) cs)
 
 abbrev pub scanPage : ℕ → List ℕ → ℕ → Page → Bool
 scanPage limit r p g = pageRule limit g && entriesAre r p 0 (inUse g)
@@ -37,20 +38,20 @@ scanPages limit r p [] = true
 scanPages limit r p (g ∷ gs) = scanPage limit r p g && scanPages limit r (p + 1) gs
 
 -- on how many frames the copies of a page are, where it keeps its rule: a null copy is alone
-abbrev pub framesOf : Page → ℕ
-framesOf g = cond (isNull (getD (g .copies) 0 zeroCopy)) 0 (g .n)
+abbrev pub frameTotal : Page → ℕ
+frameTotal g = cond (isNull (getD (g .copies) 0 zeroCopy)) 0 (g .n)
 
-unfoldable pub framesOfAll : List Page → ℕ
-framesOfAll [] = 0
-framesOfAll (g ∷ gs) = framesOf g + framesOfAll gs
+unfoldable pub frameTotals : List Page → ℕ
+frameTotals [] = 0
+frameTotals (g ∷ gs) = frameTotal g + frameTotals gs
 
 -- an entry that names a copy
-abbrev pub isCopyEntry : ℕ → Bool
-isCopyEntry e = not (eqb e freeEntry) && not (isRetiredEntry e)
+abbrev pub namesCopy : ℕ → Bool
+namesCopy e = not (eqb e freeEntry) && not (isRetiredEntry e)
 
 -- how many entries do
-abbrev pub taken : List ℕ → ℕ
-taken r = count isCopyEntry r
+abbrev pub namingEntries : List ℕ → ℕ
+namingEntries r = count namesCopy r
 
 -- an entry that is not that of a retired frame
 abbrev pub notRetired : ℕ → Bool

@@ -18,31 +18,32 @@ use Rattle.tables.specs.Search.{inPages, isFree}
 -- ---- an entry
 
 -- copy c of page p
-abbrev pub entry : ℕ → ℕ → ℕ
-entry p c = 8 * p + c
+abbrev pub entryFor : ℕ → ℕ → ℕ
+entryFor p c = 8 * p + c
 
 -- the entry of a frame, by its holder
 abbrev pub entryOf : Holder → ℕ
-entryOf (At p c) = entry p c
+entryOf (At p c) = entryFor p c
 entryOf Free = freeEntry
 entryOf Retired = retiredEntry
 
--- the state that an entry tells: below 512 copy e % 8 of page e / 8 is on the frame; else it is retired, or free for
--- every other number
-abbrev pub named : ℕ → Holder
-named e = cond (ltb e 512) (At (e / 8) (e % 8)) (cond (isRetiredEntry e) Retired Free)
+-- the holder that an entry encodes: below 512 copy e % 8 of page e / 8; 61680 a retired frame; any other number a free
+-- one
+abbrev pub holderOfEntry : ℕ → Holder
+holderOfEntry e = cond (ltb e 512) (At (e / 8) (e % 8)) (cond (isRetiredEntry e) Retired Free)
 
 -- "Looking at a frame then reads the register, and gives for every frame what the search gives": `registered-is` proves
 -- that of every sound table.
 abbrev pub registered : Tables → ℕ → Holder
-registered t f = named (entryAt t f)
+registered t f = holderOfEntry (entryAt t f)
 
 -- ---- "Table rules gain that the register is right"
 
--- The entry e of frame f is right, where there are `limit` frames and the search finds h. An entry that says retired: f
--- is below the limit, and no copy is found on it. Any other: it is the entry of the copy that is found, or that of a
--- free frame where none is. So each copy's frame names it, and no other entry names anything (`copy-named`,
--- `named-copy`); and request [5]: "A copy on a retired frame, or a mark past the last frame, breaks the table rules".
+-- Whether e is a right entry of frame f, where there are `limit` frames and the search finds h. A retired entry is
+-- right on a frame below the limit on which no copy is found. Any other entry must be that of the copy found, or the
+-- free entry where none is. So the entry of each copy's frame names that copy, and no other entry names a copy
+-- (`copy-named`, `named-copy`); and request [5]: "A copy on a retired frame, or a mark past the last frame, breaks the
+-- table rules".
 abbrev pub entryRule : ℕ → ℕ → Holder → ℕ → Bool
 entryRule limit f h e = cond (isRetiredEntry e) (isFree h && ltb f limit) (eqb e (entryOf h))
 
@@ -52,23 +53,24 @@ registerRule limit gs r =
 
 -- ---- "Every step maintains it, including the renumbering after a delete"
 
--- the frames of some copies are free
+-- the register with the entries of these copies' frames free
 unfoldable pub vacated : List Copy → List ℕ → List ℕ
 vacated [] r = r
 vacated (c ∷ cs) r = vacated cs (set r (c .frame) freeEntry)
 
--- copies of page p, numbered from k on, are on their frames
+-- the register with the entry of each of these copies of page p, numbered from k on, at its frame
 unfoldable pub occupied : ℕ → ℕ → List Copy → List ℕ → List ℕ
 occupied p k [] r = r
-occupied p k (c ∷ cs) r = occupied p (k + 1) cs (set r (c .frame) (entry p k))
+occupied p k (c ∷ cs) r = occupied p (k + 1) cs (set r (c .frame) (entryFor p k))
 
--- the record of page p, which was g, becomes g′
-abbrev pub moved : ℕ → Page → Page → List ℕ → List ℕ
-moved p g g′ r = occupied p 0 (inUse g′) (vacated (inUse g) r)
+-- the register after the record g of page p is replaced by g′
+abbrev pub reregistered : ℕ → Page → Page → List ℕ → List ℕ
+reregistered p g g′ r = occupied p 0 (inUse g′) (vacated (inUse g) r)
 
 -- the register after a change of the pages gs: a frame number above 253 retires none, and a page number above 63 moves
 -- no copy
 abbrev pub registerAfter : List Page → Change → List ℕ → List ℕ
 registerAfter gs change r =
     let out = set r (change .retires) retiredEntry in
-    cond (ltb (change .page) 64) (moved (change .page) (getD gs (change .page) zeroPage) (change .becomes) out) out
+    cond (ltb (change .page) 64) (reregistered (change .page) (getD gs (change .page) zeroPage)
+    (change .becomes) out) out

@@ -21,8 +21,8 @@ uses f (g ∷ gs) = count (onFrame f) (inUse g) + uses f gs
 unfoldable pub holders : Tables → ℕ → ℕ
 holders t f = uses f (t .pages)
 
--- "A frame is free if no copy has it", and document 02, request [5], if it is not retired; so is a number past the last
--- frame, for which 7 comes first
+-- "A frame is free if no copy has it", and document 02, request [5], if it is not retired. On sound tables a number
+-- from P+S to 254 counts as free too, and 255 where no null copy stands; 7 comes before either is asked for.
 unfoldable pub free : Tables → ℕ → Bool
 free t f = not (retiredAt t f) && eqb (holders t f) 0
 
@@ -30,8 +30,8 @@ free t f = not (retiredAt t f) && eqb (holders t f) 0
 abbrev pub isFresh : Copy → Bool
 isFresh c = isNull c && not (c .current || c .recent)
 
--- of a page with n copies: "CURRENT only with MOST RECENT"; "a null copy only alone, recent and not current"; "frames
--- in range"
+-- of a copy of a page with n copies: "CURRENT only with MOST RECENT"; "a null copy only alone, recent and not current";
+-- "frames in range"
 abbrev pub copyRule : ℕ → ℕ → Copy → Bool
 copyRule limit n c =
     (c .recent || not (c .current))
@@ -66,8 +66,8 @@ unfoldable pub pageRule : ℕ → Page → Bool
 pageRule limit g = shaped g && cond (absent g) (absentRule g) (standingRule limit g)
 
 -- "no frame under two copies"
-unfoldable pub alone : ℕ → (ℕ → ℕ) → Bool
-alone limit held = allBelow limit (λ f. leb (held f) 1)
+unfoldable pub noneShared : ℕ → (ℕ → ℕ) → Bool
+noneShared limit held = allBelow limit (λ f. leb (held f) 1)
 
 -- "P and S in range"
 unfoldable pub sizesRule : Shared → Bool
@@ -80,5 +80,5 @@ pagesRule limit gs = eqb (length gs) 64 && all (pageRule limit) gs
 -- the table rules, each on the fields that it is about; one that is added comes last
 unfoldable pub sound : Tables → Bool
 sound t =
-    sizesRule (t .shared) && (pagesRule (frames t) (t .pages) && (alone (frames t) (holders t)
+    sizesRule (t .shared) && (pagesRule (frames t) (t .pages) && (noneShared (frames t) (holders t)
     && registerRule (frames t) (t .pages) (t .register)))

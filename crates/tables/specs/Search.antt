@@ -23,7 +23,7 @@ unfoldable pub inPages : ℕ → ℕ → List Page → Holder
 inPages f p [] = Free
 inPages f p (g ∷ gs) = inCopies f p 0 (inUse g) (inPages f (p + 1) gs)
 
--- the copy that is on frame f
+-- the first copy on frame f in the order of pages and copies, or free
 abbrev pub searched : Tables → ℕ → Holder
 searched t f = inPages f 0 (t .pages)
 
@@ -39,14 +39,13 @@ shown (At p c) = 1 ∷ p ∷ c ∷ []
 shown Free = 0 ∷ 255 ∷ 255 ∷ []
 shown Retired = 2 ∷ 255 ∷ 255 ∷ []
 
--- what a function promises that tells the holder of a frame, where this is h: the case, and the papers' number and
--- values for it
-pub record Tells (h r : Holder) : Type 0 where
+-- the promise of a function that gives the holder of a frame, which is h: its answer r is h, with the papers' number
+-- and values
+pub record HolderIs (h r : Holder) : Type 0 where
   pub case : r ≡ h
   pub values : shown r ≡ shown h
 
--- whether a look at the frame shows 0; `free-holder` says that this is so exactly where "no copy has it" and it is not
--- retired
+-- whether a look at the frame shows 0: exactly where "no copy has it" and the frame is not retired (`free-holder`)
 abbrev pub isFree : Holder → Bool
 isFree h = eqb (getD (shown h) 0 0) 0
 

@@ -19,8 +19,8 @@ pub const TOO_MANY_FRAMES: u8 = 19;
 // The frame of a null copy.
 pub const NULL_FRAME: u8 = 255;
 
-// The entry in the register of a free frame, and that of a retired one: eight bits apart, and four or more from any
-// copy's.
+// The register's entries of a free frame and of a retired one: they differ in eight bits, and from any copy's in four
+// or more.
 pub(crate) const FREE_ENTRY: u16 = 65535;
 
 pub(crate) const RETIRED_ENTRY: u16 = 61680;

@@ -10,8 +10,8 @@ ghost use Prim.Native.Nat.{_-_, _≤_};
 ghost use lib.ListN.{length, set, getD};
 ghost use Rattle.tables.specs.Lists.{all};
 ghost use Rattle.tables.specs.Model.{freshCopy, freshPage, zeroCopy, inUse};
-ghost use Rattle.tables.specs.Changes.{created, staleCopy, newCopy, withCopy, withCopies, closeGap, markedCopy, changed};
-ghost use Rattle.tables.specs.Keep.{unchanged, staysRecent, isMarked};
+ghost use Rattle.tables.specs.Changes.{created, staleCopy, newCopy, withCopy, withCopies, closeGap, withCurrent, changed};
+ghost use Rattle.tables.specs.Keep.{leavesRecord, staysRecent, currentIs};
 
 fn fresh_copy() -> Copy
     ensures { λ r. ⌜ r ≡ freshCopy ⌝ }
@@ -107,7 +107,7 @@ fn one_less(n: u8) -> u8
     if 0 < n { n - 1 } else { 0 }
 }
 
-// Whether a write would leave every entry's MOST RECENT mark. Branch-free over the eight.
+// Whether a write would leave every entry's MOST RECENT mark. All eight are compared at once.
 fn all_stay_recent(copies: [Copy; 8]) -> bool
     ensures { λ r. ⌜ r ≡ all staysRecent copies ⌝ }
 {
@@ -121,8 +121,8 @@ fn all_stay_recent(copies: [Copy; 8]) -> bool
     ok
 }
 
-fn is_marked(copies: [Copy; 8], copy: u8, current: bool) -> bool
-    ensures { λ r. ⌜ r ≡ isMarked copies copy current ⌝ }
+fn current_is(copies: [Copy; 8], copy: u8, current: bool) -> bool
+    ensures { λ r. ⌜ r ≡ currentIs copies copy current ⌝ }
 {
     let k = copy as usize;
     if k > 7 {
@@ -187,9 +187,9 @@ impl Page {
         self
     }
 
-    fn marked(mut self, copy: u8, current: bool) -> Page
+    fn with_current(mut self, copy: u8, current: bool) -> Page
         ensures { λ r. ⌜ r ≡ withCopies self (self .n)
-            (set (self .copies) copy (markedCopy (getD (self .copies) copy zeroCopy) current)) ⌝ }
+            (set (self .copies) copy (withCurrent (getD (self .copies) copy zeroCopy) current)) ⌝ }
     {
         let k = copy as usize;
         if k < 8 {
@@ -234,7 +234,7 @@ impl Page {
                 self = self.without_copy(copy);
             }
             Edit::Marked { copy, current } => {
-                self = self.marked(copy, current);
+                self = self.with_current(copy, current);
             }
         }
         self
@@ -242,7 +242,7 @@ impl Page {
 
     // Whether the edit is seen at a glance to leave the record as it is: the tables then need not be moved for it.
     pub fn keeps(self, edit: Edit) -> bool
-        ensures { λ r. ⌜ r ≡ unchanged self edit ⌝ }
+        ensures { λ r. ⌜ r ≡ leavesRecord self edit ⌝ }
     {
         let copies = self.copies;
         match edit {
@@ -260,7 +260,7 @@ impl Page {
                 recent: _,
             } => false,
             Edit::Removed { copy: _ } => false,
-            Edit::Marked { copy, current } => is_marked(copies, copy, current),
+            Edit::Marked { copy, current } => current_is(copies, copy, current),
         }
     }
 }

@@ -10,12 +10,12 @@ ghost use lib.Dec.{ltb};
 ghost use lib.ListN.{length, set};
 ghost use Rattle.tables.specs.declared.Holder.the-variants.{Free};
 ghost use Rattle.tables.specs.Model.{inUse};
-ghost use Rattle.tables.specs.Search.{Tells};
-ghost use Rattle.tables.specs.Register.{entry, named, registered, vacated, occupied};
+ghost use Rattle.tables.specs.Search.{HolderIs};
+ghost use Rattle.tables.specs.Register.{entryFor, holderOfEntry, registered, vacated, occupied};
 
 // The entry of a copy of a page.
-pub(crate) fn entry(page: u8, copy: u8) -> u16
-    ensures { λ r. ⌜ r ≡ entry page copy ⌝ }
+pub(crate) fn entry_for(page: u8, copy: u8) -> u16
+    ensures { λ r. ⌜ r ≡ entryFor page copy ⌝ }
 {
     8 * page as u16 + copy as u16
 }
@@ -52,26 +52,26 @@ pub(crate) fn occupy(register: &mut [u16; 254], p: u8, page: Page)
     let n = page.in_use();
     let mut k: usize = 0;
     while k < n {
-        enter(register, page.copies[k].frame, entry(p, k as u8));
+        enter(register, page.copies[k].frame, entry_for(p, k as u8));
         k += 1;
     }
 }
 
 // The holder of a frame by its entry; a number past the register has none.
 fn holder_by(entry: u16, frame: u8) -> Holder
-    ensures { λ r. ⌜ r ≡ cond (ltb frame 254) (named entry) Free ⌝ }
+    ensures { λ r. ⌜ r ≡ cond (ltb frame 254) (holderOfEntry entry) Free ⌝ }
 {
     if frame >= 254 {
         return Holder::Free;
     }
-    Holder::named(entry)
+    Holder::of_entry(entry)
 }
 
 impl Tables {
     // The copy on a frame, or that it is retired, by the register. Behind a reference, so that the tables are not
     // copied.
     pub fn registered(&self, frame: u8) -> Holder
-        ensures { λ r. ⌜ Tells (registered (now (self .entry)) frame) r ⌝ }
+        ensures { λ r. ⌜ HolderIs (registered (now (self .entry)) frame) r ⌝ }
     {
         let entry = self.register[(frame % 254) as usize];
         holder_by(entry, frame)
@@ -80,8 +80,8 @@ impl Tables {
 
 impl Holder {
     // The holder that an entry names.
-    fn named(entry: u16) -> Holder
-        ensures { λ r. ⌜ r ≡ named entry ⌝ }
+    fn of_entry(entry: u16) -> Holder
+        ensures { λ r. ⌜ r ≡ holderOfEntry entry ⌝ }
     {
         if entry < 512 {
             return Holder::At {

@@ -5,7 +5,7 @@ use crate::NULL_FRAME;
 use crate::Page;
 use crate::RETIRED_ENTRY;
 use crate::Tables;
-use crate::register::entry;
+use crate::register::entry_for;
 ghost use mathlib.Core.Path.{_≡_};
 ghost use mathlib.Core.Bool.{false, _&&_};
 ghost use Prim.Native.Nat.{_≤_};
@@ -13,7 +13,7 @@ ghost use lib.ListN.{length, take, drop};
 ghost use Rattle.tables.specs.Lists.{all};
 ghost use Rattle.tables.specs.Model.{inUse};
 ghost use Rattle.tables.specs.Rules.{isFresh, copyRule, atMost, absentRule, standingRule, sound};
-ghost use Rattle.tables.specs.PrivatePass.{names, entriesAre, scanCopies, scanPage, framesOf, entriesOf, notRetired, othersOk};
+ghost use Rattle.tables.specs.PrivatePass.{entryIs, entriesAre, scanCopies, scanPage, frameTotal, entriesOf, notRetired, othersOk};
 
 fn is_fresh(c: Copy) -> bool
     ensures { λ r. ⌜ r ≡ isFresh c ⌝ }
@@ -21,7 +21,7 @@ fn is_fresh(c: Copy) -> bool
     (c.frame == NULL_FRAME) & !(c.current | c.recent)
 }
 
-// Each right at most `top`. Branch-free: one vector comparison.
+// Whether each right is at most `top`; one vector comparison in the compiled code.
 fn rights_ok(rights: [u8; 16], top: u8) -> bool
     ensures { λ r. ⌜ r ≡ all (atMost top) rights ⌝ }
 {
@@ -47,9 +47,9 @@ fn copy_ok(c: Copy, n: u8, limit: u8) -> bool
 }
 
 // The entry of a frame is this one; a null copy has no frame.
-fn names(register: &[u16; 254], frame: u8, entry: u16) -> bool
+fn entry_is(register: &[u16; 254], frame: u8, entry: u16) -> bool
     requires { ⌜ length (now register) ≡ 254 ⌝ }
-    ensures { λ r. ⌜ r ≡ names (now (register .entry)) frame entry ⌝ }
+    ensures { λ r. ⌜ r ≡ entryIs (now (register .entry)) frame entry ⌝ }
 {
     let f = frame as usize;
     if f < 254 {
@@ -71,7 +71,7 @@ fn copies_ok(register: &[u16; 254], p: u8, copies: [Copy; 8], n: u8, limit: u8) 
         if !copy_ok(c, n, limit) {
             return false;
         }
-        if !names(register, c.frame, entry(p, j as u8)) {
+        if !entry_is(register, c.frame, entry_for(p, j as u8)) {
             return false;
         }
         recent = recent | c.recent;
@@ -142,8 +142,8 @@ fn page_ok(register: &[u16; 254], p: u8, g: Page, limit: u8) -> bool
 }
 
 // On how many frames the copies of a page are that keeps its rule.
-fn frames_of(g: Page) -> usize
-    ensures { λ r. ⌜ (r ≡ framesOf g) × (r ≤ 255) ⌝ }
+fn frame_total(g: Page) -> usize
+    ensures { λ r. ⌜ (r ≡ frameTotal g) × (r ≤ 255) ⌝ }
 {
     if g.copies[0].frame == NULL_FRAME {
         return 0;
@@ -151,7 +151,7 @@ fn frames_of(g: Page) -> usize
     g.n as usize
 }
 
-// How many entries are this one. Branch-free, in vectors.
+// How many entries of the register are this one; vector comparisons in the compiled code.
 fn entries_of(register: &[u16; 254], entry: u16) -> u16
     requires { ⌜ length (now register) ≡ 254 ⌝ }
     ensures { λ r. ⌜ (r ≡ entriesOf entry (now (register .entry))) × (r ≤ 254) ⌝ }
@@ -220,7 +220,7 @@ impl Tables {
             if !page_ok(&self.register, i as u8, g, limit) {
                 return false;
             }
-            held += frames_of(g);
+            held += frame_total(g);
             i += 1;
         }
         others_ok(&self.register, held, limit)

@@ -5,7 +5,7 @@ use crate::Tables;
 ghost use mathlib.Core.Path.{_≡_};
 ghost use Rattle.tables.specs.Model.{retiredAt};
 ghost use Rattle.tables.specs.Rules.{free};
-ghost use Rattle.tables.specs.Search.{searched, holderOf, shown, Tells, isFree, isRetired};
+ghost use Rattle.tables.specs.Search.{searched, holderOf, shown, HolderIs, isFree, isRetired};
 
 impl Holder {
     // The three bytes that looking at a frame shows.
@@ -46,7 +46,7 @@ impl Holder {
 impl Tables {
     // The first copy, page by page, that is on the frame.
     pub fn search(self, frame: u8) -> Holder
-        ensures { λ r. ⌜ Tells (searched self frame) r ⌝ }
+        ensures { λ r. ⌜ HolderIs (searched self frame) r ⌝ }
     {
         let mut i: usize = 0;
         'pages: loop {
@@ -83,7 +83,7 @@ impl Tables {
 
     // The copy on the frame by the search, or that the frame is retired.
     pub fn holder(self, frame: u8) -> Holder
-        ensures { λ r. ⌜ Tells (holderOf self frame) r ⌝ }
+        ensures { λ r. ⌜ HolderIs (holderOf self frame) r ⌝ }
         ensures { λ r. ⌜ isFree r ≡ free self frame ⌝ }
     {
         if self.retired_at(frame) {

@@ -23,7 +23,7 @@ use Rattle.steps.specs.declared.Act.the-variants as Act
 use Rattle.steps.specs.declared.Call.{Call}
 use Rattle.steps.specs.Kinds.{names, code, among}
 use Rattle.steps.specs.Calls.{badSpan}
-use Rattle.steps.specs.Stores.{part, splice, framesOf, layAll}
+use Rattle.steps.specs.Stores.{part, splice, framesOf, layFrames}
 use Rattle.steps.specs.Steps.{may, currents, perform, decideOn}
 use Rattle.steps.specs.Effects.{laidFrames, shownOf, State, joined}
 use Rattle.steps.proofs.Blocks.{each-other, each-own}
@@ -40,7 +40,7 @@ module _ (s : State) (f : Flat) (i : Inv s f) where
   -- page p, which stands as b, written
   written : (p : ℕ) → p < 64 → absent (pageAt (s .tables) p) ≡ false → (b : FlatPage) → Alike (joined s) (pageAt (s .tables) p) b
       → (o : ℕ) (bs : List ℕ) → o + length bs ≤ 64
-      → Same (applied s p Staled (layAll (framesOf isCurrent (inUse (pageAt (s .tables) p))) o bs (joined s)))
+      → Same (applied s p Staled (layFrames (framesOf isCurrent (inUse (pageAt (s .tables) p))) o bs (joined s)))
       (set f p (here (record { owner = b .owner; rights = b .rights; bytes = splice (b .bytes) o bs })))
   unfolding changed
   written p near some b own o bs span =
@@ -100,7 +100,7 @@ module _ (s : State) (f : Flat) (i : Inv s f) where
         (page-kept s f i (c .page) (low near))))))))
 
     pub write-agrees : CallAgrees s f (ofKind Write c) bs
-    unfolding decideOn perform reactAs names code among laidFrames layAll splice
+    unfolding decideOn perform reactAs names code among laidFrames layFrames splice
     write-agrees =
         both-number _ _ (ltb 15 (c .station) || ltb 63 (c .page)) outOfRange _ (sym (or-one _)) refl refl (λ e.
         both-number _ _ (badSpan (c .offset) (length bs)) outOfRange _ refl refl refl (λ e′.

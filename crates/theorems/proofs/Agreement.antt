@@ -24,7 +24,7 @@ use Rattle.steps.specs.Steps.{Outcome, refuse, accept, test, guarded, mapped, P
 use Rattle.steps.specs.Effects.{State, joined, Result, carriedOut, left}
 use Rattle.messages.specs.Replies.{reply}
 use Rattle.theorems.specs.Flat.{Flat, FlatPage, Slot, gone, here, slotAt, Reaction, silent, no, yes, unless, onPage, flatKind, react, flatLeft, answersOf, accepts}
-use Rattle.theorems.specs.Demand3.{Holds, numberIn, taken, lacks}
+use Rattle.theorems.specs.Demand3.{Holds, replyNumber, answerIn, lacks}
 use Rattle.steps.proofs.StepLaws.{Good, page-stands}
 use Rattle.theorems.proofs.Holding.{holds-kept}
 
@@ -50,8 +50,9 @@ pub record Inv (s : State) (f : Flat) : Type 0 where
 
 -- ---- an outcome and a reaction
 
--- P says of what is accepted, and of the flat memory after it, that they agree, and `shows` what data it has. The flat memory is f before
--- the call. The first index: the flat memory answers calls of this kind. The second: the call is a read or write of a page with no CURRENT copy.
+-- P says of what is accepted, and of the flat memory after it, that they agree, and `shows` what data it has. The flat
+-- memory is f before the call. The first index: the flat memory answers calls of this kind. The second: the call is a
+-- read or write of a page with no CURRENT copy.
 pub data Agree {A : Type 0} (P : A → Flat → Type 0) (shows : A → List ℕ) (f : Flat) : Bool → Bool → Outcome A → Reaction → Type 0 where
   passed-over : {a : A} → P a f → Agree P shows f false false (accept a) silent
   turned-back : {n : ℕ} → eqb n nothingCurrent ≡ false → Agree P shows f false false (refuse n) silent
@@ -121,8 +122,8 @@ ResultAgrees f = Agree (λ (r : Result). Same (r .state)) dataIn f
 
 module _ {f : Flat} where
   pub says : {kind lack : Bool} {o : Outcome Result} {w : Reaction} → ResultAgrees f kind lack o w
-      → cond (eqb (numberIn (reply o)) nothingCurrent) [] (answersOf w)
-      ≡ cond (not (eqb (numberIn (reply o)) nothingCurrent) && kind) (taken (reply o) ∷ []) []
+      → cond (eqb (replyNumber (reply o)) nothingCurrent) [] (answersOf w)
+      ≡ cond (not (eqb (replyNumber (reply o)) nothingCurrent) && kind) (answerIn (reply o) ∷ []) []
   unfolding reply
   says (passed-over i) = refl
   says (turned-back e) = rw e
@@ -131,7 +132,7 @@ module _ {f : Flat} where
   says kept-back = refl
 
   pub eleven : {kind lack : Bool} {o : Outcome Result} {w : Reaction} → ResultAgrees f kind lack o w
-      → eqb (numberIn (reply o)) nothingCurrent ≡ (accepts w && lack)
+      → eqb (replyNumber (reply o)) nothingCurrent ≡ (accepts w && lack)
   unfolding reply
   eleven (passed-over i) = refl
   eleven (turned-back e) = e
@@ -140,7 +141,7 @@ module _ {f : Flat} where
   eleven kept-back = refl
 
   pub leaves : {kind lack : Bool} {o : Outcome Result} {w : Reaction} (s : State) → Same s f → ResultAgrees f kind lack o w
-      → Same (left s o) (cond (eqb (numberIn (reply o)) nothingCurrent) f (flatLeft f w))
+      → Same (left s o) (cond (eqb (replyNumber (reply o)) nothingCurrent) f (flatLeft f w))
   unfolding reply
   leaves s i (passed-over k) = k
   leaves s i (turned-back e) = rw e i

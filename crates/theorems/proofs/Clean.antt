@@ -1,4 +1,5 @@
--- Cards leave the mill clean. In order: one message; the messages of a file; a card, whose bytes are those of its frames.
+-- Cards leave the mill clean. In order: one message; the messages of a file; a card, whose bytes are those of its
+-- frames.
 use Prim.Native.Nat.{ℕ, zero, suc, _+_, _-_, _*_, _≤_, _<_}
 use mathlib.Core.Path.{_≡_, refl, sym, ap, ap₂, _∙_}
 use mathlib.Core.Bool.{Bool, true, false, not, _||_, cond, or-true, or-false}

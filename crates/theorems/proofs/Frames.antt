@@ -1,4 +1,5 @@
--- No message changes how many frames the tables have, or how long the stores are. What each call keeps, each message keeps.
+-- No message changes how many frames the tables have, or how long the stores are. What each call keeps, each message
+-- keeps.
 use Prim.Native.Nat.{ℕ}
 use mathlib.Core.Path.{_≡_, refl, _∙_}
 use mathlib.Core.Bool.{Bool, true, false}

@@ -16,16 +16,16 @@ use Rattle.tables.proofs.ListLaws.{and-right, and-intro, all-first, all-rest, c
 use Rattle.tables.proofs.RuleLaws.{GoodCopy, good-copy, current-placed, current-frame}
 use Rattle.tables.proofs.UsesLaws.{on-own}
 use Rattle.tables.proofs.ChangeLaws.{without}
-use Rattle.steps.specs.Stores.{splice, block, held, zeros}
+use Rattle.steps.specs.Stores.{splice, block, contents, zeros}
 use Rattle.steps.specs.Steps.{firstCurrent}
 use Rattle.theorems.specs.Demand3.{Holds}
 use Rattle.steps.proofs.Blocks.{oneOn}
 
 -- what `Holds` says of one copy
 abbrev pub HoldsOne : List ℕ → Copy → List ℕ → Type 0
-HoldsOne st c bs = c .recent ≡ true → held st c ≡ bs
+HoldsOne st c bs = c .recent ≡ true → contents st c ≡ bs
 
-pub held-framed : (st : List ℕ) (c : Copy) → isNull c ≡ false → held st c ≡ block st (c .frame)
+pub held-framed : (st : List ℕ) (c : Copy) → isNull c ≡ false → contents st c ≡ block st (c .frame)
 held-framed st c e = rw e
 
 -- ---- other copies, the same stores

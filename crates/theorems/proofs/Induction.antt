@@ -7,14 +7,14 @@ use Rattle.steps.specs.Effects.{State}
 use Rattle.messages.specs.Replies.{replyIn}
 use Rattle.messages.specs.Run.{Sent, asked, bytesOf, Turn, turnOf, leftBy, turnsOf, endOf}
 use Rattle.theorems.specs.Flat.{Flat, Answer, answersOf}
-use Rattle.theorems.specs.Demand3.{eleven, sentIn, elevens, reaction, flatAfter, flatEnd, flatAnswers, answered, taken, runAnswers, due, dues}
+use Rattle.theorems.specs.Demand3.{eleven, sentIn, elevens, reaction, flatAfter, flatEnd, flatAnswers, isAnswered, answerIn, runAnswers, due, dues}
 
 -- what one turn adds to the two lists
 abbrev pub flatSays : Flat → Sent → Bool → List Answer
 flatSays f x e = cond e [] (answersOf (reaction f x))
 
 abbrev pub runSays : ℕ → Turn → List Answer
-runSays room t = cond (not (eleven room t) && answered (asked (t .sent))) (taken (replyIn room (t .outcome)) ∷ []) []
+runSays room t = cond (not (eleven room t) && isAnswered (asked (t .sent))) (answerIn (replyIn room (t .outcome)) ∷ []) []
 
 -- Inv relates the state and the flat memory
 module _ (Inv : State → Flat → Type 0) (room : ℕ) where

@@ -11,6 +11,8 @@ pub mod Caller
 pub mod Refusals
 pub mod Searched
 pub mod Together
+pub mod Unmoved
+pub mod Laid
 pub mod Clean
 pub mod Retired
 pub mod Written

@@ -1,4 +1,5 @@
--- The calls that the flat memory passes over leave every page alike: copies are made, deleted and marked, and nothing that it holds changes.
+-- The calls that the flat memory passes over leave every page alike: copies are made, deleted and marked, and nothing
+-- that it holds changes.
 use Prim.Native.Nat.{ℕ, _+_, _*_, _≤_, _<_}
 use mathlib.Core.Path.{_≡_, refl, sym, _∙_, subst}
 use mathlib.Core.Logic.{_≢_}
@@ -19,7 +20,7 @@ use Rattle.tables.specs.Model.{frames, isNull, inUse, absent, pageAt, zeroCopy,
 use Rattle.tables.specs.Rules.{holders, copyRule}
 use Rattle.tables.specs.Search.{isFree, isRetired}
 use Rattle.tables.specs.Register.{registered}
-use Rattle.tables.specs.Changes.{withCopies, newCopy, markedCopy, changed}
+use Rattle.tables.specs.Changes.{withCopies, newCopy, withCurrent, changed}
 use Rattle.tables.proofs.RuleLaws.{StandingPage, not-absent, length-in-use, copy-at, Sound, sound-of, few-frames}
 use Rattle.tables.proofs.UsesLaws.{holders-at, holders-two, other-frame}
 use Rattle.tables.proofs.HolderLaws.{free-nobody}
@@ -32,7 +33,7 @@ use Rattle.steps.specs.declared.Call.{Call}
 use Rattle.steps.specs.declared.Lay.the-variants.{Zeros, Duplicate}
 use Rattle.steps.specs.Kinds.{names, code, among}
 use Rattle.steps.specs.Calls.{outside}
-use Rattle.steps.specs.Stores.{block, lay, held, zeros, layAll}
+use Rattle.steps.specs.Stores.{block, layFrame, contents, zeros, layFrames}
 use Rattle.steps.specs.Steps.{Outcome, Plan, test, guarded, editing, retiring, laying, copyAt, recents, lacksCopy, copying, perform, decideOn, pageFor, viewOf}
 use Rattle.steps.specs.Effects.{laidFrames, State, joined, carriedOut}
 use Rattle.steps.proofs.Blocks.{block-lay-whole, block-lay-other}
@@ -77,40 +78,40 @@ module _ {limit : ℕ} {g : Page} (d : StandingPage limit g) (st : List ℕ) (k 
   unfolding changed
   marked-alike less b x =
       recopied-alike st st g _ _ x (not-absent d) (not-absent d) (λ bs e.
-      rw (in-use-marked g k b less) (holds-set st bs (inUse g) k (markedCopy (copyAt g k) b) (holds-copy less bs e) e))
+      rw (in-use-marked g k b less) (holds-set st bs (inUse g) k (withCurrent (copyAt g k) b) (holds-copy less bs e) e))
 
 -- a copy of copy k made on frame f, which no copy of the page has
 module _ {limit : ℕ} (small : limit < 255) {g : Page} (d : StandingPage limit g) (st : List ℕ) (long : length st ≡ 64 * limit)
     (k : ℕ) (less : k < g .n) (f : ℕ) (near : f < limit) (spare : count (onFrame f) (inUse g) ≡ 0) where
   abbrev bytes : List ℕ
-  bytes = held st (copyAt g k)
+  bytes = contents st (copyAt g k)
 
   wide : length bytes ≡ 64
   wide = length-held d st long k less
 
-  new-holds : (r : Bool) (bs : List ℕ) → (r ≡ true → bytes ≡ bs) → HoldsOne (lay st f 0 bytes) (newCopy f r) bs
+  new-holds : (r : Bool) (bs : List ℕ) → (r ≡ true → bytes ≡ bs) → HoldsOne (layFrame st f 0 bytes) (newCopy f r) bs
   new-holds r bs h e =
-      held-framed (lay st f 0 bytes) (newCopy f r) (ne-eqb f 255 (omega arith)) ∙ block-lay-whole st f (omega arith) bytes wide ∙ h e
+      held-framed (layFrame st f 0 bytes) (newCopy f r) (ne-eqb f 255 (omega arith)) ∙ block-lay-whole st f (omega arith) bytes wide ∙ h e
 
-  old-hold : (bs : List ℕ) → Holds st (inUse g) bs → Holds (lay st f 0 bytes) (inUse g) bs
+  old-hold : (bs : List ℕ) → Holds st (inUse g) bs → Holds (layFrame st f 0 bytes) (inUse g) bs
   old-hold bs =
-      holds-kept limit (g .n) st (lay st f 0 bytes) bs (inUse g) (d .copies-ok) (λ y l used.
+      holds-kept limit (g .n) st (layFrame st f 0 bytes) bs (inUse g) (d .copies-ok) (λ y l used.
       block-lay-other st f (omega arith) 0 bytes (omega (arith, wide)) y (other-frame f y (inUse g) spare used))
 
-  placed-alike : isNull (copyAt g k) ≡ true → (x : Slot) → AlikeSlot st g x → AlikeSlot (lay st f 0 bytes) (changed g (Placed f)) x
+  placed-alike : isNull (copyAt g k) ≡ true → (x : Slot) → AlikeSlot st g x → AlikeSlot (layFrame st f 0 bytes) (changed g (Placed f)) x
   unfolding changed
   placed-alike z x =
-      recopied-alike st (lay st f 0 bytes) g _ _ x (not-absent d) (not-absent d) (λ bs e.
-      rw (in-use-placed g f (d .some)) (holds-set (lay st f 0 bytes) bs (inUse g) 0 (newCopy f true)
+      recopied-alike st (layFrame st f 0 bytes) g _ _ x (not-absent d) (not-absent d) (λ bs e.
+      rw (in-use-placed g f (d .some)) (holds-set (layFrame st f 0 bytes) bs (inUse g) 0 (newCopy f true)
       (new-holds true bs (λ _. holds-copy d st k less bs e (copy-at d k less .null-recent z))) (old-hold bs e)))
 
-  added-alike : g .n < 8 → (x : Slot) → AlikeSlot st g x → AlikeSlot (lay st f 0 bytes) (changed g (Added f (copyAt g k .recent))) x
+  added-alike : g .n < 8 → (x : Slot) → AlikeSlot st g x → AlikeSlot (layFrame st f 0 bytes) (changed g (Added f (copyAt g k .recent))) x
   added-alike room x =
       let c : Copy = newCopy f (copyAt g k .recent) in
       let plus = added g f (copyAt g k .recent) room in
       let used : take (g .n + 1) (set (g .copies) (g .n) c) ≡ inUse g ++ (c ∷ []) = rw plus at (in-use-added g (d .copies-long) f (copyAt g k .recent) room) in
-      rw plus (recopied-alike st (lay st f 0 bytes) g _ _ x (not-absent d) (ne-eqb (g .n + 1) 0 (omega arith)) (λ bs e.
-      rw used (holds-last (lay st f 0 bytes) bs (inUse g) c (new-holds (copyAt g k .recent) bs (holds-copy d st k less bs e)) (old-hold bs e))))
+      rw plus (recopied-alike st (layFrame st f 0 bytes) g _ _ x (not-absent d) (ne-eqb (g .n + 1) 0 (omega arith)) (λ bs e.
+      rw used (holds-last (layFrame st f 0 bytes) bs (inUse g) c (new-holds (copyAt g k .recent) bs (holds-copy d st k less bs e)) (old-hold bs e))))
 
 -- ---- the calls
 
@@ -150,18 +151,18 @@ module _ (s : State) (f : Flat) (i : Inv s f) (c : Call) (bs : List ℕ) where
       (h (page-stands (i .good) p near some) (slotAt f p) (i .same .alike p near)) (stores-kept s p)
 
   pub look-page-agrees : CallAgrees s f (ofKind LookPage c) bs
-  unfolding decideOn perform reactAs names code among laidFrames layAll
+  unfolding decideOn perform reactAs names code among laidFrames layFrames
   look-page-agrees =
       alone-range (frames (s .tables)) (length bs) (ofKind LookPage c) (perform (viewOf (s .tables) (ofKind LookPage c)) (ofKind LookPage c) (length bs) LookPage) (λ r.
       alone (absent page) noPage refl (λ _. passed-over (page-kept s f i p near)))
 
   pub look-frame-agrees : CallAgrees s f (ofKind LookFrame c) bs
-  unfolding decideOn perform reactAs names code among laidFrames layAll
+  unfolding decideOn perform reactAs names code among laidFrames layFrames
   look-frame-agrees =
       alone-number _ (leb (frames (s .tables)) (c .frame)) outOfRange _ refl refl (λ _. passed-over (page-kept s f i p near))
 
   pub retire-agrees : CallAgrees s f (ofKind Retire c) bs
-  unfolding decideOn perform reactAs names code among laidFrames layAll
+  unfolding decideOn perform reactAs names code among laidFrames layFrames
   retire-agrees =
       alone-number _ (leb (frames (s .tables)) (c .frame)) outOfRange _ refl refl (λ _. by (isRetired (registered (s .tables) (c .frame))))
     where
@@ -173,7 +174,7 @@ module _ (s : State) (f : Flat) (i : Inv s f) (c : Call) (bs : List ℕ) where
           alone (not (isFree (registered (s .tables) (c .frame)))) frameHeld refl (λ _. passed-over (page-retired s f i p near (c .frame)))
 
   pub set-current-agrees : CallAgrees s f (ofKind SetCurrent c) bs
-  unfolding decideOn perform reactAs names code among laidFrames layAll
+  unfolding decideOn perform reactAs names code among laidFrames layFrames
   set-current-agrees =
       alone-range (frames (s .tables)) (length bs) (ofKind SetCurrent c) (perform (viewOf (s .tables) (ofKind SetCurrent c)) (ofKind SetCurrent c) (length bs) SetCurrent) (λ r.
       alone-copy page (c .copy) (λ some less.
@@ -181,7 +182,7 @@ module _ (s : State) (f : Flat) (i : Inv s f) (c : Call) (bs : List ℕ) where
       passed-over (moved some (Marked (c .copy) true) (λ d. marked-alike d (joined s) (c .copy) less true))))))
 
   pub remove-current-agrees : CallAgrees s f (ofKind RemoveCurrent c) bs
-  unfolding decideOn perform reactAs names code among laidFrames layAll
+  unfolding decideOn perform reactAs names code among laidFrames layFrames
   remove-current-agrees =
       alone-range (frames (s .tables)) (length bs) (ofKind RemoveCurrent c) (perform (viewOf (s .tables) (ofKind RemoveCurrent c)) (ofKind RemoveCurrent c) (length bs) RemoveCurrent) (λ r.
       alone-copy page (c .copy) (λ some less.
@@ -189,7 +190,7 @@ module _ (s : State) (f : Flat) (i : Inv s f) (c : Call) (bs : List ℕ) where
 
   -- copy k of the page deleted, and its frame cleared, which no other copy has
   deleted : absent page ≡ false → RemoveOk page (c .copy)
-      → Same (applied s p (Removed (c .copy)) (lay (joined s) (copyAt page (c .copy) .frame) 0 zeros)) f
+      → Same (applied s p (Removed (c .copy)) (layFrame (joined s) (copyAt page (c .copy) .frame) 0 zeros)) f
   deleted some a =
       page-moved s f i p near (Removed (c .copy)) _
       (removed-alike d (joined s) (c .copy) a _ (λ y l used. others y (λ e.
@@ -212,11 +213,11 @@ module _ (s : State) (f : Flat) (i : Inv s f) (c : Call) (bs : List ℕ) where
       low : x < frames (s .tables)
       low = copy-at d (c .copy) (a .in-use) .placed (removed-placed d (c .copy) a)
 
-      others : (y : ℕ) → x ≢ y → block (lay (joined s) x 0 zeros) y ≡ block (joined s) y
+      others : (y : ℕ) → x ≢ y → block (layFrame (joined s) x 0 zeros) y ≡ block (joined s) y
       others = block-lay-other (joined s) x (omega (arith, low, joined-long (i .good))) 0 zeros (omega arith)
 
   pub delete-copy-agrees : CallAgrees s f (ofKind DeleteCopy c) bs
-  unfolding decideOn perform reactAs names code among laidFrames layAll
+  unfolding decideOn perform reactAs names code among laidFrames layFrames
   delete-copy-agrees =
       alone-range (frames (s .tables)) (length bs) (ofKind DeleteCopy c) (perform (viewOf (s .tables) (ofKind DeleteCopy c)) (ofKind DeleteCopy c) (length bs) DeleteCopy) (λ r.
       alone-copy page (c .copy) (λ some less.
@@ -237,8 +238,8 @@ module _ (s : State) (f : Flat) (i : Inv s f) (c : Call) (bs : List ℕ) where
     long = joined-long (i .good)
 
     -- the edit e with the copy's bytes laid on the frame
-    placed : (e : Edit) → AlikeSlot (lay (joined s) (c .frame) 0 (held (joined s) (copyAt page (c .copy)))) (changed page e) (slotAt f p)
-        → Same (applied s p e (lay (joined s) (c .frame) 0 (held (joined s) (copyAt page (c .copy))))) f
+    placed : (e : Edit) → AlikeSlot (layFrame (joined s) (c .frame) 0 (contents (joined s) (copyAt page (c .copy)))) (changed page e) (slotAt f p)
+        → Same (applied s p e (layFrame (joined s) (c .frame) 0 (contents (joined s) (copyAt page (c .copy))))) f
     placed e own =
         page-moved s f i p near e _ own
         (λ q ne y l used. block-lay-other (joined s) (c .frame) (omega (arith, long)) 0 _
@@ -256,13 +257,13 @@ module _ (s : State) (f : Flat) (i : Inv s f) (c : Call) (bs : List ℕ) where
 
     copying-agrees : Agree (λ (plan : Plan). Same (carriedOut s (ofKind MakeCopy c) bs plan .state))
         (λ (plan : Plan). carriedOut s (ofKind MakeCopy c) bs plan .data-out) f false false (copying (copyAt page (c .copy)) (c .frame)) silent
-    unfolding laidFrames layAll
+    unfolding laidFrames layFrames
     copying-agrees = go (isNull (copyAt page (c .copy))) refl
       where
-        laid : (e : Edit) (b : List ℕ) → held (joined s) (copyAt page (c .copy)) ≡ b
-            → AlikeSlot (lay (joined s) (c .frame) 0 (held (joined s) (copyAt page (c .copy)))) (changed page e) (slotAt f p)
-            → Same (applied s p e (lay (joined s) (c .frame) 0 b)) f
-        laid e b h own = subst (λ (l : List ℕ). Same (applied s p e (lay (joined s) (c .frame) 0 l)) f) h (placed e own)
+        laid : (e : Edit) (b : List ℕ) → contents (joined s) (copyAt page (c .copy)) ≡ b
+            → AlikeSlot (layFrame (joined s) (c .frame) 0 (contents (joined s) (copyAt page (c .copy)))) (changed page e) (slotAt f p)
+            → Same (applied s p e (layFrame (joined s) (c .frame) 0 b)) f
+        laid e b h own = subst (λ (l : List ℕ). Same (applied s p e (layFrame (joined s) (c .frame) 0 l)) f) h (placed e own)
 
         go : (z : Bool) → isNull (copyAt page (c .copy)) ≡ z
             → Agree (λ (plan : Plan). Same (carriedOut s (ofKind MakeCopy c) bs plan .state))

@@ -18,7 +18,7 @@ use Rattle.tables.proofs.UsesLaws.{holders-two}
 use Rattle.steps.specs.declared.Kind.the-variants.{Create, DeletePage, Grant}
 use Rattle.steps.specs.declared.Call.{Call}
 use Rattle.steps.specs.Kinds.{names, code, among}
-use Rattle.steps.specs.Stores.{zeros, framesOf, layAll}
+use Rattle.steps.specs.Stores.{zeros, framesOf, layFrames}
 use Rattle.steps.specs.Steps.{test, Plan, editing, owns, isPlaced, perform, decideOn, pageFor}
 use Rattle.steps.specs.Effects.{laidFrames, State, joined, carriedOut}
 use Rattle.steps.proofs.Blocks.{each-other}
@@ -36,7 +36,7 @@ module _ (s : State) (f : Flat) (i : Inv s f) (c : Call) (bs : List ℕ) where
   near-by e = let k = ltb-false 63 (c .page) (or-right (ltb 15 (c .station)) _ e) in omega arith
 
   pub create-agrees : CallAgrees s f (ofKind Create c) bs
-  unfolding decideOn perform reactAs names code among changed created laidFrames layAll
+  unfolding decideOn perform reactAs names code among changed created laidFrames layFrames
   create-agrees =
       both-number _ _ (ltb 15 (c .station) || ltb 63 (c .page)) outOfRange _ (sym (or-one _)) refl refl (λ e.
       let near = near-by e in
@@ -53,14 +53,14 @@ module _ (s : State) (f : Flat) (i : Inv s f) (c : Call) (bs : List ℕ) where
       go near (here b) e = rw (lt-ltb (c .page) 64 near, e .0) (both-refuse refl)
 
   pub delete-agrees : CallAgrees s f (ofKind DeletePage c) bs
-  unfolding decideOn perform reactAs names code among changed freshPage laidFrames layAll
+  unfolding decideOn perform reactAs names code among changed freshPage laidFrames layFrames
   delete-agrees =
       both-number _ _ (ltb 15 (c .station) || ltb 63 (c .page)) outOfRange _ (sym (or-one _)) refl refl (λ e.
       let near = near-by e in
       rw (lt-ltb (c .page) 64 near)
       (on-page _ (joined s) page (slotAt f (c .page)) (i .same .alike (c .page) near) _ (λ b some own.
       both-lack _ (owns page (c .station)) _ (ap (λ (o : ℕ). not (eqb o (c .station))) (own .owners)) (λ _.
-      both-accept refl (page-changed s f i (c .page) near Deleted (layAll (framesOf isPlaced (inUse page)) 0 zeros (joined s)) gone refl
+      both-accept refl (page-changed s f i (c .page) near Deleted (layFrames (framesOf isPlaced (inUse page)) 0 zeros (joined s)) gone refl
       (λ q d y l used.
       let once = sound-of (s .tables) (i .good .tables-sound) .once y l in
       let two = holders-two (s .tables) y (c .page) q (λ e. d (sym e)) in
@@ -68,7 +68,7 @@ module _ (s : State) (f : Flat) (i : Inv s f) (c : Call) (bs : List ℕ) where
       (placed-within (page-stands (i .good) (c .page) near some)) y (omega arith)))))))
 
   pub grant-agrees : CallAgrees s f (ofKind Grant c) bs
-  unfolding decideOn perform reactAs names code among changed laidFrames layAll
+  unfolding decideOn perform reactAs names code among changed laidFrames layFrames
   grant-agrees =
       both-either _ (ltb 15 (c .station) || ltb 63 (c .page)) (ltb 15 (c .other) || ltb 2 (c .right)) outOfRange _ refl refl (λ e.
       let near = near-by e in

@@ -1,14 +1,15 @@
--- Demand 1, in order: the number of a message; what a refusal leaves; one message, from the contracts; every turn of a run.
+-- Demand 1, in order: the number of a message; what a refusal leaves; one message, from the contracts; every turn of a
+-- run; its tally.
 use Prim.Native.Nat.{ℕ, _+_, _≤_, _<_, min}
 use mathlib.Core.Path.{_≡_, refl, sym, ap, _∙_}
-use mathlib.Core.Bool.{Bool, true, false, not}
+use mathlib.Core.Bool.{Bool, true, false, not, cond}
 use mathlib.Core.List.{List, [], _∷_}
 use mathlib.Core.Logic.{_≢_}
 use native.Mathlib.Omega.{arith}
 use lib.ListN.{length}
 use lib.Dec.{ltb, eqb}
 use borrow.Author.Tests.{lt-ltb, ne-eqb}
-use Rattle.tables.specs.Lists.{all}
+use Rattle.tables.specs.Lists.{all, count}
 use Rattle.tables.specs.Numbers.{accepted, shortBuffer}
 use Rattle.tables.proofs.ListLaws.{all-listed}
 use Rattle.steps.specs.Stores.{over}
@@ -19,10 +20,12 @@ use Rattle.steps.proofs.StepLaws.{step-number}
 use Rattle.messages.specs.declared.Parsed.{Parsed}
 use Rattle.messages.specs.declared.Tally.{Tally}
 use Rattle.messages.specs.Promises.{sentAlone}
-use Rattle.messages.specs.Replies.{reply, replyIn, upTo, counted}
-use Rattle.messages.specs.Run.{Sent, asked, bytesOf, respond, answer, turnOf, leftBy, messagesOf, turnsOf, endOf, replies}
+use Rattle.messages.specs.Replies.{reply, replyIn, upTo, counted, isRefusal}
+use Rattle.messages.specs.Run.{Sent, asked, bytesOf, respond, answer, turnOf, leftBy, messagesOf, turnsOf, endOf, replies, tally}
+use Rattle.messages.proofs.TurnLaws.{answer-told}
 use Rattle.messages.proofs.ParseLaws.{ownNumbers, Known, bad, good, asked-known}
-use Rattle.theorems.specs.Demand1.{allowed, refusalIn, refusedOnce, OneMessage, TurnObeys, next, TurnsObey, Demand1}
+use Rattle.theorems.specs.Demand1.{allowed, refusalIn, refusedOnce, OneMessage, TurnObeys, next, TurnsObey}
+use Rattle.theorems.specs.Demand1.{TallyObeys, WithinLimit, Demand1}
 
 -- ---- the number
 
@@ -119,9 +122,39 @@ module _ (room : ℕ) where
       let s′ = leftBy room s x in
       (rw (next-found xs s′) (turn-obeys s x), turns-obey xs s′)
 
+-- what is laid is laid by an accepted one
+laid-accepted : (o : Outcome Result) → laidBy o ≡ cond (not (eqb (numberOf o) accepted)) 0 (laidBy o)
+laid-accepted (refuse n) = go (eqb n accepted)
+  where
+    go : (b : Bool) → _≡_ {A = ℕ} 0 (cond (not b) 0 0)
+    go true = refl
+    go false = refl
+laid-accepted (accept r) = refl
+
+pub tally-obeys : (room : ℕ) (xs : List Sent) (s : State) (n : Tally) → WithinLimit n
+    → TallyObeys (turnsOf room s xs) n (tally (turnsOf room s xs) n)
+unfolding turnsOf tally upTo count
+tally-obeys room [] s n low =
+    record {
+      messages-counted = omega (arith, low .0);
+      refusals-counted = omega (arith, low .1);
+      laid-counted = omega (arith, low .2);
+    }
+tally-obeys room (x ∷ xs) s n low =
+    let o = answer room s x in
+    let n₁ = counted n (isRefusal o) (laidBy o) in
+    let k = tally-obeys room xs (leftBy room s x) n₁ (omega arith, omega arith, omega arith) in
+    let refused = ap {B = ℕ} (λ (b : Bool). cond b 1 0) (answer-told room s x) in
+    record {
+      messages-counted = omega (arith, k .messages-counted);
+      refusals-counted = omega (arith, k .refusals-counted, refused);
+      laid-counted = omega (arith, k .laid-counted, laid-accepted o);
+    }
+
 pub demand1 : Demand1
 demand1 =
     record {
       message = one-message;
       runs = λ room file s. record { starts = next-found room (messagesOf file) s; turns = turns-obey room (messagesOf file) s };
+      tallies = λ room file s n low. tally-obeys room (messagesOf file) s n low;
     }

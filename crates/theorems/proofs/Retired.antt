@@ -18,7 +18,7 @@ use Rattle.tables.specs.Lists.{countBelow}
 use Rattle.tables.specs.Search.{isRetired}
 use Rattle.tables.specs.Register.{registered}
 use Rattle.tables.specs.Changes.{changed, edited, withRetired, after}
-use Rattle.tables.specs.Keep.{unchanged}
+use Rattle.tables.specs.Keep.{leavesRecord}
 use Rattle.tables.proofs.KeepLaws.{kept-after}
 use Rattle.tables.proofs.Allowed.{MayRetire}
 use Rattle.tables.proofs.RuleLaws.{sound-of, few-frames, retired-low, retired-bare}
@@ -28,7 +28,7 @@ use Rattle.steps.specs.declared.Kind.{Kind}
 use Rattle.steps.specs.declared.Kind.the-variants.{Retire}
 use Rattle.steps.specs.declared.Call.{Call}
 use Rattle.steps.specs.Kinds.{frame, names, kinds, code, among, has, kindNumber, isRetire, kindOf}
-use Rattle.steps.specs.Stores.{block, zeros, layAll}
+use Rattle.steps.specs.Stores.{block, zeros, layFrames}
 use Rattle.steps.specs.Steps.{Outcome, refuse, accept, test, mapped, Plan, planOf, noWork, pageFor, viewOf, rulesNumber, decideAny}
 use Rattle.steps.specs.Effects.{bit, laidFrames, State, joined, Result, carriedOut, step, left}
 use Rattle.steps.proofs.KindLaws.{kind-numbered}
@@ -39,7 +39,7 @@ use Rattle.messages.specs.declared.Parsed.{Parsed}
 use Rattle.messages.specs.declared.Parsed.the-variants.{Refused, Asked}
 use Rattle.messages.specs.Run.{Sent, asked, bytesOf, respond, answer, leftBy, turnsOf, endOf, messagesOf}
 use Rattle.theorems.specs.Clean.{isHeld, everHeld}
-use Rattle.theorems.specs.Retired.{threeNumbers, retires, everRetired, NeverAgain, onlyRetired, RetiredFrames}
+use Rattle.theorems.specs.Retired.{threeNumbers, retiresFrame, everRetired, NeverAgain, onlyRetired, RetiredFrames}
 use Rattle.theorems.proofs.Frames.{left-frames, end-frames}
 use Rattle.theorems.proofs.Sound.{message-sound, messages-sound}
 use Rattle.theorems.proofs.Clean.{messages-clean}
@@ -92,28 +92,28 @@ module _ (t : Tables) (x f : ℕ) (long : length (t .register) ≡ 254) where
   marked true false low e = retired-more t x f (rw long (low refl))
 
 call-retired : (s : State) (f : ℕ) (c : Call) (bs : List ℕ)
-    → retiredAt (left s (step s c bs) .tables) f ≡ (retiredAt (s .tables) f || retires (Asked c) (step s c bs) f)
+    → retiredAt (left s (step s c bs) .tables) f ≡ (retiredAt (s .tables) f || retiresFrame (Asked c) (step s c bs) f)
 unfolding step
 call-retired s f c bs = go _ (sure s c bs)
   where
     go : (o : Outcome Plan) → IfAccepted (Sure s c bs) o
         → retiredAt (left s (mapped (carriedOut s c bs) o) .tables) f
-        ≡ (retiredAt (s .tables) f || retires (Asked c) (mapped (carriedOut s c bs) o) f)
+        ≡ (retiredAt (s .tables) f || retiresFrame (Asked c) (mapped (carriedOut s c bs) o) f)
     go (refuse n) k = sym (or-false (retiredAt (s .tables) f))
     go (accept plan) (if-accepted u) =
         let t = s .tables in
         let ok = sound-of t (u .good .tables-sound) in
         retired-after t (pageFor c) (plan .edit) (plan .retires) (page-near c) (u .good .tables-sound) (u .plan-ok .allowed) (u .plan-ok .may-retire) f
-        ∙ rw (u .plan-ok .marks, registered-retired t (c .frame))
+        ∙ rw (u .plan-ok .retires-is, registered-retired t (c .frame))
         (marked t (c .frame) f (ok .right .register-long) (isRetire (c .kind)) (retiredAt t (c .frame)) (retired-near s c bs plan u) refl)
 
 message-marks : (room : ℕ) (s : State) (x : Sent) (f : ℕ)
-    → retiredAt (leftBy room s x .tables) f ≡ (retiredAt (s .tables) f || retires (asked x) (answer room s x) f)
+    → retiredAt (leftBy room s x .tables) f ≡ (retiredAt (s .tables) f || retiresFrame (asked x) (answer room s x) f)
 unfolding answer
 message-marks room s x f = behind (ltb room 70) (asked x)
   where
     behind : (b : Bool) (a : Parsed) → retiredAt (left s (test b shortBuffer (respond s a (bytesOf x))) .tables) f
-        ≡ (retiredAt (s .tables) f || retires a (test b shortBuffer (respond s a (bytesOf x))) f)
+        ≡ (retiredAt (s .tables) f || retiresFrame a (test b shortBuffer (respond s a (bytesOf x))) f)
     behind true (Refused n) = sym (or-false (retiredAt (s .tables) f))
     behind true (Asked c) = sym (or-false (retiredAt (s .tables) f))
     behind false (Refused n) = sym (or-false (retiredAt (s .tables) f))
@@ -121,7 +121,7 @@ message-marks room s x f = behind (ltb room 70) (asked x)
 
 -- a retire that is accepted retires its frame and does nothing else: the record of page 0 is put back as it was
 call-alone : (s : State) (c : Call) (bs : List ℕ) (r : Result) → isRetire (c .kind) ≡ true → step s c bs ≡ accept r → r ≡ onlyRetired s (c .frame)
-unfolding step changed unchanged laidFrames layAll
+unfolding step changed leavesRecord laidFrames layFrames
 call-alone s c bs r k e =
     go (decideAny (s .tables) (length (s .fast)) (length (s .slow)) c (length bs)) (sure s c bs)
     (past-number (rulesNumber (s .tables) (length (s .fast)) (length (s .slow))) (rules-listed (s .tables) (length (s .fast)) (length (s .slow))) (λ _.
@@ -179,7 +179,7 @@ module _ (room f : ℕ) where
   messages-retired (x ∷ xs) s =
       messages-retired xs (leftBy room s x)
       ∙ ap (λ (b : Bool). b || everRetired (turnsOf room (leftBy room s x) xs) f) (message-marks room s x f)
-      ∙ or-assoc (retiredAt (s .tables) f) (retires (asked x) (answer room s x) f) _
+      ∙ or-assoc (retiredAt (s .tables) f) (retiresFrame (asked x) (answer room s x) f) _
 
   messages-bare : (xs : List Sent) (s : State) → sound (s .tables) ≡ true → f < frames (s .tables) → retiredAt (s .tables) f ≡ true
       → (everHeld (turnsOf room s xs) f ≡ false) × (isHeld (endOf room s xs .tables) f ≡ false)
@@ -234,7 +234,7 @@ retired-frames =
       runs = λ room file s.
           record {
             add-up = adds-up room (messagesOf file) s;
-            retired-told = λ f. messages-retired room f (messagesOf file) s;
+            retired-exactly = λ f. messages-retired room f (messagesOf file) s;
             never-again = λ ok f. never-again room f (messagesOf file) s ok;
           };
       retire-alone = call-alone;

@@ -1,4 +1,5 @@
--- The register changes no answer: a step on any tables and stores is what it is with the search in place of the register.
+-- The register changes no answer: a step on any tables and stores is what it is with the search in place of the
+-- register.
 use Prim.Native.Nat.{ℕ}
 use mathlib.Core.Bool.{Bool, true, false, _&&_, cond, true≢false}
 use mathlib.Core.List.{List}

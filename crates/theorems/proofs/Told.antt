@@ -1,5 +1,5 @@
--- The replies of request [4]. In order: the number of a refusal; a refusal and an accepted reply at the front of bytes; the reply to a message;
--- what a kind byte says; the request.
+-- The replies of request [4]. In order: the number of a refusal; a refusal and an accepted reply at the front of bytes;
+-- the reply to a message; what a kind byte says; the request.
 use Prim.Native.Nat.{ℕ, _+_, _*_, _/_, _%_, _≤_}
 use mathlib.Core.Path.{_≡_, refl, sym, ap, subst, _∙_}
 use mathlib.Core.Bool.{true, false, not}
@@ -10,7 +10,7 @@ use lib.Seq.{take-at}
 use lib.Dec.{eqb}
 use borrow.Author.Tests.{le-leb, le-ltb, ne-eqb, not-true}
 use Rattle.tables.specs.Lists.{all, listed}
-use Rattle.tables.specs.Numbers.{table, rows}
+use Rattle.tables.specs.Numbers.{messageNumbers, allNumbers}
 use Rattle.tables.proofs.ListLaws.{all-listed}
 use Rattle.steps.specs.declared.Kind.{Kind}
 use Rattle.steps.specs.declared.Call.{Call}
@@ -32,18 +32,19 @@ use Rattle.theorems.specs.Stations.{OfKind, ReplyTold, RepliesTold, repl
 
 -- ---- a reply at the front of bytes
 
--- what a message may come to, of a call of kind `kind`: turned back with a number of the table, or accepted with data of the kind's form
+-- what a message may come to, of a call of kind `kind`: turned back with a number of the table, or accepted with data
+-- of the kind's form
 abbrev Tells : ℕ → Outcome Result → Type 0
 Tells kind o = IfAccepted (λ (r : Result). (formed (tells (kindOf kind)) (r .data-out) ≡ true) × (r .laid ≤ 512)) o
 
 -- a number of the table of messages is one of the whole table, and not 0
-in-rows : (n : ℕ) → listed n table ≡ true → listed n rows ≡ true
+in-rows : (n : ℕ) → listed n messageNumbers ≡ true → listed n allNumbers ≡ true
 unfolding all
-in-rows n e = all-listed (λ (m : ℕ). listed m rows) table n refl e
+in-rows n e = all-listed (λ (m : ℕ). listed m allNumbers) messageNumbers n refl e
 
-not-accepted : (n : ℕ) → listed n table ≡ true → eqb n 0 ≡ false
+not-accepted : (n : ℕ) → listed n messageNumbers ≡ true → eqb n 0 ≡ false
 unfolding all
-not-accepted n e = not-true (eqb n 0) (all-listed (λ (m : ℕ). not (eqb m 0)) table n refl e)
+not-accepted n e = not-true (eqb n 0) (all-listed (λ (m : ℕ). not (eqb m 0)) messageNumbers n refl e)
 
 told-at : (kind : ℕ) (o : Outcome Result) (rest : List ℕ) → isUnknown kind ≡ false → Tells kind o → ReplyTold readReply kind (reply o ++ rest) o
 unfolding reply isReply part
@@ -72,7 +73,7 @@ unfolding answer all
 tells-of room s x kind h k = rw (le-ltb room 70 h) (go (asked x) (asked-known x) refl)
   where
     go : (p : Parsed) → Known p → asked x ≡ p → Tells kind (respond s p (bytesOf x))
-    go (Refused n) (bad one row) e = if-refused (all-listed (λ (m : ℕ). listed m table) ownNumbers n refl row)
+    go (Refused n) (bad one row) e = if-refused (all-listed (λ (m : ℕ). listed m messageNumbers) ownNumbers n refl row)
     go (Asked c) good e =
         subst (λ (q : Kind). IfAccepted (λ (r : Result). (formed (tells q) (r .data-out) ≡ true) × (r .laid ≤ 512)) (step s c (bytesOf x))) (k .same c e)
         (step-formed s c (bytesOf x))

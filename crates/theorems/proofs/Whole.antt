@@ -1,5 +1,6 @@
--- Demand 3: beside a run over any call file the flat memory gives the same answers, 11 comes exactly where due, and both end with the same pages.
--- One turn keeps the agreement of state and flat memory (kind by kind in Owners, Access and Moves); Induction goes through the file.
+-- Demand 3: beside a run over any call file the flat memory gives the same answers, 11 comes exactly where due, and
+-- both end with the same pages. One turn keeps the agreement of state and flat memory (kind by kind in Owners, Access
+-- and Moves); Induction goes through the file.
 use Prim.Native.Nat.{ℕ, _*_, _≤_, _<_}
 use mathlib.Core.Path.{_≡_, refl, sym, ap, _∙_}
 use mathlib.Core.Bool.{Bool, false, not, _&&_}
@@ -23,7 +24,7 @@ use Rattle.messages.specs.declared.Parsed.{Parsed}
 use Rattle.messages.specs.declared.Parsed.the-variants.{Refused, Asked}
 use Rattle.messages.specs.Run.{Sent, asked, bytesOf, respond, answer, messagesOf, turnsOf, endOf}
 use Rattle.theorems.specs.Flat.{Flat, Slot, gone, here, slotAt, none, flatKind, react, reactTo, accepts}
-use Rattle.theorems.specs.Demand3.{flatAfter, answered, lacks, due, SameSlot, AgreesOn, Demand3}
+use Rattle.theorems.specs.Demand3.{flatAfter, isAnswered, lacks, due, SameSlot, AgreesOn, Demand3}
 use Rattle.messages.proofs.ParseLaws.{ownNumbers, Known, bad, asked-known}
 use Rattle.theorems.proofs.Agreement.{AlikeSlot, turned-back, ResultAgrees, says, eleven, leaves, ofKind, CallAgrees, carried-agrees, Inv}
 use Rattle.theorems.proofs.Owners.{create-agrees, delete-agrees, grant-agrees}
@@ -59,7 +60,7 @@ module _ (s : State) (f : Flat) (i : Inv s f) where
   lacksIn (Refused n) = false
   lacksIn (Asked c) = lacks (s .tables) c
 
-  parsed-agrees : (a : Parsed) (bs : List ℕ) → Known a → ResultAgrees f (answered a) (lacksIn a) (respond s a bs) (reactTo f a bs)
+  parsed-agrees : (a : Parsed) (bs : List ℕ) → Known a → ResultAgrees f (isAnswered a) (lacksIn a) (respond s a bs) (reactTo f a bs)
   unfolding reactTo all
   parsed-agrees (Refused n) bs (bad some own) = turned-back (not-true _ (all-listed (λ m. not (eqb m nothingCurrent)) ownNumbers n refl own))
   parsed-agrees (Asked c) bs k = step-agrees c bs

@@ -1,4 +1,5 @@
--- The calls of request [4]. In order: a message at the front of bytes; a call written and parsed; a message parsed and written again.
+-- The calls of request [4]. In order: a message at the front of bytes; a call written and parsed; a message parsed and
+-- written again.
 use Prim.Native.Nat.{ℕ, _+_, _*_, _/_, _%_, _≤_}
 use mathlib.Core.Path.{_≡_, refl, sym, ap, subst, _∙_}
 use mathlib.Core.Bool.{Bool, true, false, cond}
@@ -26,7 +27,7 @@ use Rattle.messages.specs.Run.{whole}
 use Rattle.messages.specs.Promises.{sentBy, sentAlone}
 use Rattle.messages.proofs.ParseLaws.{AskedBy, asked-by}
 use Rattle.stations.specs.declared.Written.{Written}
-use Rattle.stations.specs.Writer.{body, messageOf, named, written}
+use Rattle.stations.specs.Writer.{body, messageOf, canonical, written}
 use Rattle.stations.specs.Promises.{Wrote}
 use Rattle.stations.specs.Private.{places, atPlaces}
 use Rattle.stations.proofs.WriterLaws.{count, ending, ending-is, count-least, three-singles, short-message, length-fits, kind-laws, named-made, four-long, values-of, values-are, values-count, written-inside, wrote-same}
@@ -49,12 +50,12 @@ module _ (c : Call) (bs : List ℕ) (i : InRange c bs) where
   body-long : length (body c bs) ≡ 2 + (count k + length (ending k bs))
   body-long = let n = values-count c bs in omega arith
 
-  parsed : parse (body c bs) ≡ Asked (named c)
+  parsed : parse (body c bs) ≡ Asked (canonical c)
   unfolding parse callOf
   parsed =
       let m : List ℕ = body c bs in
       let long = body-long in
-      let fits = length-fits (named c) bs i in
+      let fits = length-fits (canonical c) bs i in
       let none : eqb (length m) 0 ≡ false = ne-eqb (length m) 0 (λ (z : length m ≡ 0). omega arith) in
       let one : eqb (length m) 1 ≡ false = ne-eqb (length m) 1 (λ (z : length m ≡ 1). omega arith) in
       rw (none, one, number-known k, kind-numbered k, le-ltb (length m) (leastLength k) (omega (arith, fits .0)), le-ltb (mostLength k) (length m) (omega (arith, fits .1)))
@@ -69,7 +70,7 @@ module _ (c : Call) (bs : List ℕ) (i : InRange c bs) where
   -- it is short
   pub body-short : length (body c bs) ≤ 69
   unfolding callOf
-  body-short = let short = short-message (named c) bs i in omega (arith, body-long)
+  body-short = let short = short-message (canonical c) bs i in omega (arith, body-long)
 
   -- what the writer leaves
   pub left-by : (out out′ : List ℕ) (r : Written) → 71 ≤ length out → Wrote (written (length out) c bs) out out′ r → Wrote (accept (messageOf c bs)) out out′ r
@@ -160,8 +161,8 @@ messages-kept m l c out out′ r sent asked within h w =
     let a = asked-by m c asked in
     let is = again m c a in
     let bs = writeBytes m in
-    let plain : named c ≡ c =
-    subst (λ (d : Call). named d ≡ d) (a .call) (named-made (kindOf (getD m 1 0)) (drop 2 m) bs) in
+    let plain : canonical c ≡ c =
+    subst (λ (d : Call). canonical d ≡ d) (a .call) (named-made (kindOf (getD m 1 0)) (drop 2 m) bs) in
     let i : InRange c bs = subst (λ (d : Call). outside 254 (length bs) d ≡ accepted) (sym plain) within in
     let same = ap length is in
     let short = body-short c bs i in

@@ -11,7 +11,7 @@ use Rattle.tables.specs.declared.Page.{Page}
 use Rattle.tables.specs.declared.Tables.{Tables}
 use Rattle.tables.specs.Lists.{all, count, allBelow}
 use Rattle.tables.specs.Model.{freeEntry, freshCopy, freshPage, freshTables, withPages}
-use Rattle.tables.specs.Rules.{uses, holders, standingRule, absentRule, pageRule, alone, sizesRule, pagesRule, sound}
+use Rattle.tables.specs.Rules.{uses, holders, standingRule, absentRule, pageRule, noneShared, sizesRule, pagesRule, sound}
 use Rattle.tables.specs.Search.{inCopies, inPages}
 use Rattle.tables.specs.Register.{registerRule, vacated, occupied}
 use Rattle.tables.specs.Changes.{changeTo, withRetired, after}
@@ -28,57 +28,75 @@ use Rattle.messages.specs.Replies.{upTo, counted}
 use Rattle.messages.specs.Run.{cut, whole, answer}
 use Rattle.theorems.specs.Flat.{none, reactAs, reactTo, Answer, answersOf}
 use Rattle.theorems.specs.Demand3.{reaction}
-use Rattle.theorems.specs.Cases.{state₀, runOn, rightTurn, repliesOf, replies₁, Case, _↝_, refused, laying, fileOf, eightMade}
+use Rattle.theorems.specs.Cases.{state₀, runOn, rightTurn, repliesOf, replies₁, Case, _↝_, answersIn, refusedWith, laidReply, fileOf, eightMade}
 
 -- ---- on the end state of the worked example
 
 abbrev pub bordering : Case
 bordering =
     -- a look at a held frame: 1, page, copy
-    ((0 ∷ 3 ∷ 1 ∷ 11 ∷ 0 ∷ [])
+    (0x00 ∷ 0x03 ∷ 0x01 ∷ 0x0B ∷ 0x00 ∷ []) ↝ (0x00 ∷ 0x07 ∷ 0x01 ∷ 0x00 ∷ 0x00 ∷ 0x00 ∷ 0x01 ∷ 0x05 ∷ 0x00 ∷ [])
     -- a second set current of the same copy, and remove current of a null copy: accepted, no change
-    ∷ (0 ∷ 4 ∷ 1 ∷ 8 ∷ 5 ∷ 0 ∷ []) ∷ (0 ∷ 4 ∷ 1 ∷ 1 ∷ 3 ∷ 6 ∷ []) ∷ (0 ∷ 4 ∷ 1 ∷ 9 ∷ 6 ∷ 0 ∷ [])
-    ∷ (0 ∷ 3 ∷ 1 ∷ 10 ∷ 6 ∷ []) ∷ (0 ∷ 3 ∷ 1 ∷ 10 ∷ 5 ∷ [])
+    ∷ (0x00 ∷ 0x04 ∷ 0x01 ∷ 0x08 ∷ 0x05 ∷ 0x00 ∷ []) ↝ laidReply 0
+    ∷ (0x00 ∷ 0x04 ∷ 0x01 ∷ 0x01 ∷ 0x03 ∷ 0x06 ∷ []) ↝ laidReply 0
+    ∷ (0x00 ∷ 0x04 ∷ 0x01 ∷ 0x09 ∷ 0x06 ∷ 0x00 ∷ []) ↝ laidReply 0
+    ∷ (0x00 ∷ 0x03 ∷ 0x01 ∷ 0x0A ∷ 0x06 ∷ [])
+    ↝ (0x00 ∷ 0x08 ∷ 0x01 ∷ 0x00 ∷ 0x00 ∷ 0x00 ∷ 0x01 ∷ 0xFF ∷ 0x00 ∷ 0x01 ∷ [])
+    ∷ (0x00 ∷ 0x03 ∷ 0x01 ∷ 0x0A ∷ 0x05 ∷ [])
+    ↝ (0x00 ∷ 0x08 ∷ 0x01 ∷ 0x00 ∷ 0x00 ∷ 0x00 ∷ 0x01 ∷ 0x00 ∷ 0x01 ∷ 0x01 ∷ [])
     -- 2 before 3; 3 before 4; 4 before 7; 7 before 8
-    ∷ (0 ∷ 2 ∷ 2 ∷ 13 ∷ []) ∷ (0 ∷ 2 ∷ 1 ∷ 13 ∷ []) ∷ (0 ∷ 4 ∷ 1 ∷ 10 ∷ 64 ∷ 64 ∷ []) ∷ (0 ∷ 4 ∷ 1 ∷ 1 ∷ 16 ∷ 5 ∷ [])
+    ∷ (0x00 ∷ 0x02 ∷ 0x02 ∷ 0x0D ∷ []) ↝ refusedWith 2
+    ∷ (0x00 ∷ 0x02 ∷ 0x01 ∷ 0x0D ∷ []) ↝ refusedWith 3
+    ∷ (0x00 ∷ 0x04 ∷ 0x01 ∷ 0x0A ∷ 0x40 ∷ 0x40 ∷ []) ↝ refusedWith 4
+    ∷ (0x00 ∷ 0x04 ∷ 0x01 ∷ 0x01 ∷ 0x10 ∷ 0x05 ∷ []) ↝ refusedWith 7
     -- 7 before 9 and 12, in kinds 6 to 12
-    ∷ (0 ∷ 5 ∷ 1 ∷ 6 ∷ 64 ∷ 9 ∷ 0 ∷ []) ∷ (0 ∷ 5 ∷ 1 ∷ 6 ∷ 7 ∷ 9 ∷ 8 ∷ []) ∷ (0 ∷ 4 ∷ 1 ∷ 7 ∷ 64 ∷ 9 ∷ [])
-    ∷ (0 ∷ 4 ∷ 1 ∷ 8 ∷ 64 ∷ 9 ∷ []) ∷ (0 ∷ 4 ∷ 1 ∷ 9 ∷ 64 ∷ 9 ∷ []) ∷ (0 ∷ 3 ∷ 1 ∷ 10 ∷ 64 ∷ [])
-    ∷ (0 ∷ 3 ∷ 1 ∷ 11 ∷ 8 ∷ []) ∷ (0 ∷ 3 ∷ 1 ∷ 12 ∷ 8 ∷ [])
+    ∷ (0x00 ∷ 0x05 ∷ 0x01 ∷ 0x06 ∷ 0x40 ∷ 0x09 ∷ 0x00 ∷ []) ↝ refusedWith 7
+    ∷ (0x00 ∷ 0x05 ∷ 0x01 ∷ 0x06 ∷ 0x07 ∷ 0x09 ∷ 0x08 ∷ []) ↝ refusedWith 7
+    ∷ (0x00 ∷ 0x04 ∷ 0x01 ∷ 0x07 ∷ 0x40 ∷ 0x09 ∷ []) ↝ refusedWith 7
+    ∷ (0x00 ∷ 0x04 ∷ 0x01 ∷ 0x08 ∷ 0x40 ∷ 0x09 ∷ []) ↝ refusedWith 7
+    ∷ (0x00 ∷ 0x04 ∷ 0x01 ∷ 0x09 ∷ 0x40 ∷ 0x09 ∷ []) ↝ refusedWith 7
+    ∷ (0x00 ∷ 0x03 ∷ 0x01 ∷ 0x0A ∷ 0x40 ∷ []) ↝ refusedWith 7
+    ∷ (0x00 ∷ 0x03 ∷ 0x01 ∷ 0x0B ∷ 0x08 ∷ []) ↝ refusedWith 7
+    ∷ (0x00 ∷ 0x03 ∷ 0x01 ∷ 0x0C ∷ 0x08 ∷ []) ↝ refusedWith 7
     -- 9 before 12, in kinds 6 to 9
-    ∷ (0 ∷ 5 ∷ 1 ∷ 6 ∷ 7 ∷ 9 ∷ 0 ∷ []) ∷ (0 ∷ 4 ∷ 1 ∷ 7 ∷ 7 ∷ 9 ∷ []) ∷ (0 ∷ 4 ∷ 1 ∷ 8 ∷ 7 ∷ 9 ∷ [])
-    ∷ (0 ∷ 4 ∷ 1 ∷ 9 ∷ 7 ∷ 9 ∷ [])
+    ∷ (0x00 ∷ 0x05 ∷ 0x01 ∷ 0x06 ∷ 0x07 ∷ 0x09 ∷ 0x00 ∷ []) ↝ refusedWith 9
+    ∷ (0x00 ∷ 0x04 ∷ 0x01 ∷ 0x07 ∷ 0x07 ∷ 0x09 ∷ []) ↝ refusedWith 9
+    ∷ (0x00 ∷ 0x04 ∷ 0x01 ∷ 0x08 ∷ 0x07 ∷ 0x09 ∷ []) ↝ refusedWith 9
+    ∷ (0x00 ∷ 0x04 ∷ 0x01 ∷ 0x09 ∷ 0x07 ∷ 0x09 ∷ []) ↝ refusedWith 9
     -- 12 before 13; 12 before 15; 12 before 17
-    ∷ (0 ∷ 5 ∷ 1 ∷ 6 ∷ 5 ∷ 1 ∷ 0 ∷ []) ∷ (0 ∷ 4 ∷ 1 ∷ 7 ∷ 5 ∷ 1 ∷ []) ∷ (0 ∷ 4 ∷ 1 ∷ 8 ∷ 6 ∷ 1 ∷ []) ∷ [])
-    ↝ ((0 ∷ 7 ∷ 1 ∷ 0 ∷ 0 ∷ 0 ∷ 1 ∷ 5 ∷ 0 ∷ [])
-    ∷ laying 0 ∷ laying 0 ∷ laying 0 ∷ (0 ∷ 8 ∷ 1 ∷ 0 ∷ 0 ∷ 0 ∷ 1 ∷ 255 ∷ 0 ∷ 1 ∷ [])
-    ∷ (0 ∷ 8 ∷ 1 ∷ 0 ∷ 0 ∷ 0 ∷ 1 ∷ 0 ∷ 1 ∷ 1 ∷ [])
-    ∷ refused 2 ∷ refused 3 ∷ refused 4 ∷ refused 7
-    ∷ refused 7 ∷ refused 7 ∷ refused 7 ∷ refused 7 ∷ refused 7 ∷ refused 7 ∷ refused 7 ∷ refused 7
-    ∷ refused 9 ∷ refused 9 ∷ refused 9 ∷ refused 9
-    ∷ refused 12 ∷ refused 12 ∷ refused 12 ∷ [])
+    ∷ (0x00 ∷ 0x05 ∷ 0x01 ∷ 0x06 ∷ 0x05 ∷ 0x01 ∷ 0x00 ∷ []) ↝ refusedWith 12
+    ∷ (0x00 ∷ 0x04 ∷ 0x01 ∷ 0x07 ∷ 0x05 ∷ 0x01 ∷ []) ↝ refusedWith 12
+    ∷ (0x00 ∷ 0x04 ∷ 0x01 ∷ 0x08 ∷ 0x06 ∷ 0x01 ∷ []) ↝ refusedWith 12
+    ∷ []
 
-pub bordering-replies : repliesOf state₀ (fileOf bordering) ≡ replies₁ ++ bordering .answers
+pub bordering-replies : repliesOf state₀ (fileOf bordering) ≡ replies₁ ++ answersIn bordering
 unfolding runOn flatten
 bordering-replies = refl
 
--- "write its length times the number of current copies": eight copies, 13 before 14 and 12 before both; all CURRENT,
--- and 64 bytes
+-- "write its length times the number of current copies": 64 bytes written to eight CURRENT copies
 abbrev pub sixtyFour : List ℕ
 sixtyFour = replicate 32 0x41 ++ replicate 32 0x37
 
 abbrev pub widest : Case
 widest =
-    (eightMade ++ ((0 ∷ 5 ∷ 1 ∷ 6 ∷ 5 ∷ 0 ∷ 7 ∷ []) ∷ (0 ∷ 5 ∷ 1 ∷ 6 ∷ 5 ∷ 8 ∷ 7 ∷ [])
-    ∷ (0 ∷ 4 ∷ 1 ∷ 8 ∷ 5 ∷ 1 ∷ []) ∷ (0 ∷ 4 ∷ 1 ∷ 8 ∷ 5 ∷ 2 ∷ []) ∷ (0 ∷ 4 ∷ 1 ∷ 8 ∷ 5 ∷ 3 ∷ [])
-    ∷ (0 ∷ 4 ∷ 1 ∷ 8 ∷ 5 ∷ 4 ∷ []) ∷ (0 ∷ 4 ∷ 1 ∷ 8 ∷ 5 ∷ 5 ∷ [])
-    ∷ (0 ∷ 4 ∷ 1 ∷ 8 ∷ 5 ∷ 6 ∷ []) ∷ (0 ∷ 4 ∷ 1 ∷ 8 ∷ 5 ∷ 7 ∷ [])
-    ∷ (0 ∷ 69 ∷ 1 ∷ 5 ∷ 3 ∷ 5 ∷ 0 ∷ sixtyFour) ∷ []))
-    ↝ (replicate 7 (laying 64)
-    ++ (refused 13 ∷ refused 12 ∷ (replicate 7 (laying 0) ++ ((0 ∷ 4 ∷ 1 ∷ 0 ∷ 2 ∷ 0 ∷ []) ∷ []))))
+    eightMade
+    -- 13 before 14, and 12 before both
+    ++ ((0x00 ∷ 0x05 ∷ 0x01 ∷ 0x06 ∷ 0x05 ∷ 0x00 ∷ 0x07 ∷ []) ↝ refusedWith 13
+    ∷ (0x00 ∷ 0x05 ∷ 0x01 ∷ 0x06 ∷ 0x05 ∷ 0x08 ∷ 0x07 ∷ []) ↝ refusedWith 12
+    -- all CURRENT
+    ∷ (0x00 ∷ 0x04 ∷ 0x01 ∷ 0x08 ∷ 0x05 ∷ 0x01 ∷ []) ↝ laidReply 0
+    ∷ (0x00 ∷ 0x04 ∷ 0x01 ∷ 0x08 ∷ 0x05 ∷ 0x02 ∷ []) ↝ laidReply 0
+    ∷ (0x00 ∷ 0x04 ∷ 0x01 ∷ 0x08 ∷ 0x05 ∷ 0x03 ∷ []) ↝ laidReply 0
+    ∷ (0x00 ∷ 0x04 ∷ 0x01 ∷ 0x08 ∷ 0x05 ∷ 0x04 ∷ []) ↝ laidReply 0
+    ∷ (0x00 ∷ 0x04 ∷ 0x01 ∷ 0x08 ∷ 0x05 ∷ 0x05 ∷ []) ↝ laidReply 0
+    ∷ (0x00 ∷ 0x04 ∷ 0x01 ∷ 0x08 ∷ 0x05 ∷ 0x06 ∷ []) ↝ laidReply 0
+    ∷ (0x00 ∷ 0x04 ∷ 0x01 ∷ 0x08 ∷ 0x05 ∷ 0x07 ∷ []) ↝ laidReply 0
+    -- 64 bytes written
+    ∷ (0x00 ∷ 0x45 ∷ 0x01 ∷ 0x05 ∷ 0x03 ∷ 0x05 ∷ 0x00 ∷ sixtyFour) ↝ (0x00 ∷ 0x04 ∷ 0x01 ∷ 0x00 ∷ 0x02 ∷ 0x00 ∷ [])
+    ∷ [])
 
 -- 512 bytes laid: every frame holds them
-pub widest-replies : repliesOf state₀ (fileOf widest) ≡ replies₁ ++ widest .answers
+pub widest-replies : repliesOf state₀ (fileOf widest) ≡ replies₁ ++ answersIn widest
 unfolding runOn flatten
 widest-replies = refl
 
@@ -180,7 +198,9 @@ pub rules-kept :
     (withFive (recordOf 3 2 2 two) ∷ withFive (recordOf 15 0 8 onEach)
     ∷ withFive (recordOf 0 0 1 (copyOn 255 false true ∷ [])) ∷ [])
     ≡ replicate 3 true
-unfolding sound sizesRule pagesRule alone allBelow all count holders uses pageRule standingRule absentRule registerRule inPages inCopies freshTables freshPage after vacated occupied
+unfolding sound sizesRule pagesRule noneShared allBelow all count holders uses pageRule standingRule absentRule
+    registerRule
+    inPages inCopies freshTables freshPage after vacated occupied
 rules-kept = refl
 
 abbrev pub wrongTables : List Tables
@@ -211,7 +231,9 @@ wrongTables =
     ∷ withRetired (withFive (recordOf 3 2 2 two)) 0 ∷ withRetired (withFive (recordOf 3 2 2 two)) 8 ∷ []
 
 pub rules-broken : map sound wrongTables ≡ replicate 22 false
-unfolding sound sizesRule pagesRule alone allBelow all count holders uses pageRule standingRule absentRule registerRule inPages inCopies freshTables freshPage after vacated occupied
+unfolding sound sizesRule pagesRule noneShared allBelow all count holders uses pageRule standingRule absentRule
+    registerRule
+    inPages inCopies freshTables freshPage after vacated occupied
 rules-broken = refl
 
 -- ---- "It passes over kinds 6 to 11", and kind 12
@@ -225,10 +247,10 @@ ofEachKind =
     ∷ (1 ∷ 6 ∷ 5 ∷ 0 ∷ 0 ∷ []) ∷ (1 ∷ 7 ∷ 5 ∷ 0 ∷ []) ∷ (1 ∷ 8 ∷ 5 ∷ 0 ∷ []) ∷ (1 ∷ 9 ∷ 5 ∷ 0 ∷ []) ∷ (1 ∷ 10 ∷ 5 ∷ [])
     ∷ (1 ∷ 11 ∷ 0 ∷ []) ∷ (1 ∷ 12 ∷ 0 ∷ []) ∷ (1 ∷ 10 ∷ 64 ∷ []) ∷ []
 
-abbrev pub numbered : ℕ → List Answer
-numbered n = record { number = n; bytes = [] } ∷ []
+abbrev pub bareAnswers : ℕ → List Answer
+bareAnswers n = record { number = n; bytes = [] } ∷ []
 
 pub kinds-answered : map (λ (m : List ℕ). answersOf (reaction none (whole m))) ofEachKind
-    ≡ (numbered 0 ∷ numbered 9 ∷ numbered 9 ∷ numbered 9 ∷ numbered 9 ∷ replicate 8 [])
+    ≡ (bareAnswers 0 ∷ bareAnswers 9 ∷ bareAnswers 9 ∷ bareAnswers 9 ∷ bareAnswers 9 ∷ replicate 8 [])
 unfolding reactTo reactAs parse names kinds code among argument callOf
 kinds-answered = refl

@@ -6,15 +6,15 @@ use mathlib.Core.List.{List, [], _∷_, _++_, map, flatten}
 use lib.ListN.{replicate, set}
 use Rattle.tables.specs.Lists.{all, count, allBelow}
 use Rattle.tables.specs.Model.{retiredEntry, freeEntry, freshPage, freshTables}
-use Rattle.tables.specs.Rules.{uses, holders, standingRule, absentRule, pageRule, alone, sizesRule, pagesRule, sound}
+use Rattle.tables.specs.Rules.{uses, holders, standingRule, absentRule, pageRule, noneShared, sizesRule, pagesRule, sound}
 use Rattle.tables.specs.Search.{inCopies, inPages}
 use Rattle.tables.specs.Register.{registerRule, vacated, occupied}
 use Rattle.tables.specs.Changes.{created, closeGap, changed, withRetired, after}
-use Rattle.tables.specs.Keep.{unchanged}
-use Rattle.steps.specs.Stores.{part, splice, zeros, fits, framesOf, layAll}
+use Rattle.tables.specs.Keep.{leavesRecord}
+use Rattle.steps.specs.Stores.{part, splice, zeros, fits, framesOf, layFrames}
 use Rattle.steps.specs.Kinds.{names, kinds, code, among, leastLength, mostLength, argument, callOf}
 use Rattle.steps.specs.Steps.{Outcome, firstCurrent, perform, decideOn}
-use Rattle.steps.specs.Effects.{entries, laidFrames, shownOf, State, joined, Result, step}
+use Rattle.steps.specs.Effects.{copiesShown, laidFrames, shownOf, State, joined, Result, step}
 use Rattle.messages.specs.Messages.{parse}
 use Rattle.messages.specs.Replies.{reply}
 use Rattle.messages.specs.Run.{Sent, split, messagesOf, turnsOf, endOf, answer, Run, run, replies}
@@ -39,27 +39,47 @@ state₀ = record { tables = freshTables 4 4; fast = replicate 256 0xEE; slow = 
 
 abbrev pub file₁ : List ℕ
 file₁ =
-    0 ∷ 4 ∷ 1 ∷ 1 ∷ 3 ∷ 5 ∷ 0 ∷ 5 ∷ 1 ∷ 6 ∷ 5 ∷ 0 ∷ 0 ∷ 0 ∷ 4 ∷ 1 ∷ 8 ∷ 5 ∷ 0 ∷ 0 ∷ 7 ∷ 1 ∷ 5 ∷ 3 ∷ 5 ∷ 0 ∷ 0x41 ∷ 0x37 ∷ 0 ∷ 6
-    ∷ 1 ∷ 4 ∷ 3 ∷ 5 ∷ 0 ∷ 3 ∷ 0 ∷ 3 ∷ 1 ∷ 0xA ∷ 5 ∷ []
+    -- create page 5 by station 3: created
+    (0x00 ∷ 0x04 ∷ 0x01 ∷ 0x01 ∷ 0x03 ∷ 0x05 ∷ [])
+    -- make copy of copy 0 to frame 0: 64 laid
+    ++ (0x00 ∷ 0x05 ∷ 0x01 ∷ 0x06 ∷ 0x05 ∷ 0x00 ∷ 0x00 ∷ [])
+    -- set current 0: current
+    ++ (0x00 ∷ 0x04 ∷ 0x01 ∷ 0x08 ∷ 0x05 ∷ 0x00 ∷ [])
+    -- write 41 37 at offset 0: 2 laid
+    ++ (0x00 ∷ 0x07 ∷ 0x01 ∷ 0x05 ∷ 0x03 ∷ 0x05 ∷ 0x00 ∷ 0x41 ∷ 0x37 ∷ [])
+    -- read offset 0 count 3: three bytes
+    ++ (0x00 ∷ 0x06 ∷ 0x01 ∷ 0x04 ∷ 0x03 ∷ 0x05 ∷ 0x00 ∷ 0x03 ∷ [])
+    -- look at page 5: one copy on frame 0
+    ++ (0x00 ∷ 0x03 ∷ 0x01 ∷ 0x0A ∷ 0x05 ∷ [])
 
 -- the run with the least reply buffer; to open it is to open all that it computes by
 unfoldable pub runOn : State → List ℕ → Run
-unfolding messagesOf split turnsOf endOf answer parse names kinds code among argument callOf step decideOn laidFrames shownOf sound sizesRule pagesRule alone allBelow all count holders uses pageRule standingRule absentRule fits freshTables freshPage after changed unchanged created closeGap inPages inCopies registerRule vacated occupied perform firstCurrent entries framesOf layAll splice part reply
+unfolding messagesOf split turnsOf endOf answer parse names kinds code among argument callOf step decideOn laidFrames
+    shownOf sound sizesRule pagesRule noneShared allBelow all count holders uses pageRule standingRule absentRule fits
+    freshTables freshPage after changed leavesRecord created closeGap inPages inCopies registerRule vacated occupied
+    perform firstCurrent copiesShown framesOf layFrames splice part reply
 runOn s file = run 70 file s
 
 -- one turn of it
 unfoldable pub rightTurn : State → Sent → Outcome Result
-unfolding answer parse names kinds code among argument callOf step decideOn laidFrames shownOf sound sizesRule pagesRule alone allBelow all count holders uses pageRule standingRule absentRule fits freshTables freshPage after changed unchanged created closeGap inPages inCopies registerRule vacated occupied perform firstCurrent entries framesOf layAll splice part reply
+unfolding answer parse names kinds code among argument callOf step decideOn laidFrames shownOf sound sizesRule pagesRule
+    noneShared allBelow all count holders uses pageRule standingRule absentRule fits freshTables freshPage after changed
+    leavesRecord created closeGap inPages inCopies registerRule vacated occupied perform firstCurrent copiesShown
+    framesOf layFrames splice part reply
 rightTurn s x = answer 70 s x
 
 abbrev pub repliesOf : State → List ℕ → List (List ℕ)
 repliesOf s file = replies 70 (runOn s file .turns)
 
--- created; 64 laid; current; 2 laid; three bytes; one copy on frame 0
 abbrev pub replies₁ : List (List ℕ)
 replies₁ =
-    (0 ∷ 4 ∷ 1 ∷ 0 ∷ 0 ∷ 0 ∷ []) ∷ (0 ∷ 4 ∷ 1 ∷ 0 ∷ 0 ∷ 0x40 ∷ []) ∷ (0 ∷ 4 ∷ 1 ∷ 0 ∷ 0 ∷ 0 ∷ []) ∷ (0 ∷ 4 ∷ 1 ∷ 0 ∷ 0 ∷ 2 ∷ [])
-    ∷ (0 ∷ 7 ∷ 1 ∷ 0 ∷ 0 ∷ 0 ∷ 0x41 ∷ 0x37 ∷ 0 ∷ []) ∷ (0 ∷ 8 ∷ 1 ∷ 0 ∷ 0 ∷ 0 ∷ 1 ∷ 0 ∷ 1 ∷ 1 ∷ []) ∷ []
+    (0x00 ∷ 0x04 ∷ 0x01 ∷ 0x00 ∷ 0x00 ∷ 0x00 ∷ [])
+    ∷ (0x00 ∷ 0x04 ∷ 0x01 ∷ 0x00 ∷ 0x00 ∷ 0x40 ∷ [])
+    ∷ (0x00 ∷ 0x04 ∷ 0x01 ∷ 0x00 ∷ 0x00 ∷ 0x00 ∷ [])
+    ∷ (0x00 ∷ 0x04 ∷ 0x01 ∷ 0x00 ∷ 0x00 ∷ 0x02 ∷ [])
+    ∷ (0x00 ∷ 0x07 ∷ 0x01 ∷ 0x00 ∷ 0x00 ∷ 0x00 ∷ 0x41 ∷ 0x37 ∷ 0x00 ∷ [])
+    ∷ (0x00 ∷ 0x08 ∷ 0x01 ∷ 0x00 ∷ 0x00 ∷ 0x00 ∷ 0x01 ∷ 0x00 ∷ 0x01 ∷ 0x01 ∷ [])
+    ∷ []
 
 pub worked : repliesOf state₀ file₁ ≡ replies₁
 unfolding runOn
@@ -67,50 +87,64 @@ worked = refl
 
 -- ---- the starred cases
 
--- a case: messages sent after those of the worked example, and the replies to them
-pub record Case : Type 0 where
-  pub messages : List (List ℕ)
-  pub answers : List (List ℕ)
+-- a message, and the reply to it
+pub record MessageReply : Type 0 where
+  pub message : List ℕ
+  pub answer : List ℕ
 
 infix 80 _↝_
-abbrev pub _↝_ : List (List ℕ) → List (List ℕ) → Case
-messages ↝ answers = record { messages = messages; answers = answers }
+abbrev pub _↝_ : List ℕ → List ℕ → MessageReply
+message ↝ answer = record { message = message; answer = answer }
 
--- "A refusal is 00 04 01 nn 00 00"; an accepted reply without data states the bytes laid
-abbrev pub refused : ℕ → List ℕ
-refused n = 0 ∷ 4 ∷ 1 ∷ n ∷ 0 ∷ 0 ∷ []
+-- a case: messages sent one after the other after those of the worked example
+abbrev pub Case : Type 0
+Case = List MessageReply
 
-abbrev pub laying : ℕ → List ℕ
-laying n = 0 ∷ 4 ∷ 1 ∷ 0 ∷ 0 ∷ n ∷ []
+abbrev pub messagesIn : Case → List (List ℕ)
+messagesIn c = map (λ (m : MessageReply). m .message) c
+
+abbrev pub answersIn : Case → List (List ℕ)
+answersIn c = map (λ (m : MessageReply). m .answer) c
+
+-- "A refusal is 00 04 01 nn 00 00"; an accepted reply without data states the bytes laid, here below 256
+abbrev pub refusedWith : ℕ → List ℕ
+refusedWith n = 0x00 ∷ 0x04 ∷ 0x01 ∷ n ∷ 0x00 ∷ 0x00 ∷ []
+
+abbrev pub laidReply : ℕ → List ℕ
+laidReply n = 0x00 ∷ 0x04 ∷ 0x01 ∷ 0x00 ∷ 0x00 ∷ n ∷ []
 
 -- "each on that end state anew, by station 3 and on page 5 where no other is named"
 abbrev pub cases : List Case
 cases =
     -- read offset 63 count 1 gives 00; count 2 there: 7
-    ((0 ∷ 6 ∷ 1 ∷ 4 ∷ 3 ∷ 5 ∷ 63 ∷ 1 ∷ []) ∷ []) ↝ ((0 ∷ 5 ∷ 1 ∷ 0 ∷ 0 ∷ 0 ∷ 0 ∷ []) ∷ [])
-    ∷ ((0 ∷ 6 ∷ 1 ∷ 4 ∷ 3 ∷ 5 ∷ 63 ∷ 2 ∷ []) ∷ []) ↝ (refused 7 ∷ [])
+    ((0x00 ∷ 0x06 ∷ 0x01 ∷ 0x04 ∷ 0x03 ∷ 0x05 ∷ 0x3F ∷ 0x01 ∷ [])
+    ↝ (0x00 ∷ 0x05 ∷ 0x01 ∷ 0x00 ∷ 0x00 ∷ 0x00 ∷ 0x00 ∷ []) ∷ [])
+    ∷ ((0x00 ∷ 0x06 ∷ 0x01 ∷ 0x04 ∷ 0x03 ∷ 0x05 ∷ 0x3F ∷ 0x02 ∷ []) ↝ refusedWith 7 ∷ [])
     -- frame 7 copied to: accepted; frame 8: 7; frame 0: 13
-    ∷ ((0 ∷ 5 ∷ 1 ∷ 6 ∷ 5 ∷ 0 ∷ 7 ∷ []) ∷ []) ↝ (laying 64 ∷ [])
-    ∷ ((0 ∷ 5 ∷ 1 ∷ 6 ∷ 5 ∷ 0 ∷ 8 ∷ []) ∷ []) ↝ (refused 7 ∷ [])
-    ∷ ((0 ∷ 5 ∷ 1 ∷ 6 ∷ 5 ∷ 0 ∷ 0 ∷ []) ∷ []) ↝ (refused 13 ∷ [])
+    ∷ ((0x00 ∷ 0x05 ∷ 0x01 ∷ 0x06 ∷ 0x05 ∷ 0x00 ∷ 0x07 ∷ []) ↝ laidReply 64 ∷ [])
+    ∷ ((0x00 ∷ 0x05 ∷ 0x01 ∷ 0x06 ∷ 0x05 ∷ 0x00 ∷ 0x08 ∷ []) ↝ refusedWith 7 ∷ [])
+    ∷ ((0x00 ∷ 0x05 ∷ 0x01 ∷ 0x06 ∷ 0x05 ∷ 0x00 ∷ 0x00 ∷ []) ↝ refusedWith 13 ∷ [])
     -- delete copy 0: 15; station 4 reads: 10; create page 5: 8
-    ∷ ((0 ∷ 4 ∷ 1 ∷ 7 ∷ 5 ∷ 0 ∷ []) ∷ []) ↝ (refused 15 ∷ [])
-    ∷ ((0 ∷ 6 ∷ 1 ∷ 4 ∷ 4 ∷ 5 ∷ 0 ∷ 1 ∷ []) ∷ []) ↝ (refused 10 ∷ [])
-    ∷ ((0 ∷ 4 ∷ 1 ∷ 1 ∷ 3 ∷ 5 ∷ []) ∷ []) ↝ (refused 8 ∷ [])
+    ∷ ((0x00 ∷ 0x04 ∷ 0x01 ∷ 0x07 ∷ 0x05 ∷ 0x00 ∷ []) ↝ refusedWith 15 ∷ [])
+    ∷ ((0x00 ∷ 0x06 ∷ 0x01 ∷ 0x04 ∷ 0x04 ∷ 0x05 ∷ 0x00 ∷ 0x01 ∷ []) ↝ refusedWith 10 ∷ [])
+    ∷ ((0x00 ∷ 0x04 ∷ 0x01 ∷ 0x01 ∷ 0x03 ∷ 0x05 ∷ []) ↝ refusedWith 8 ∷ [])
     -- copy 1 made, then a write: set current 1 gives 16
-    ∷ ((0 ∷ 5 ∷ 1 ∷ 6 ∷ 5 ∷ 0 ∷ 1 ∷ []) ∷ (0 ∷ 6 ∷ 1 ∷ 5 ∷ 3 ∷ 5 ∷ 0 ∷ 9 ∷ []) ∷ (0 ∷ 4 ∷ 1 ∷ 8 ∷ 5 ∷ 1 ∷ []) ∷ [])
-    ↝ (laying 64 ∷ laying 1 ∷ refused 16 ∷ [])
+    ∷ ((0x00 ∷ 0x05 ∷ 0x01 ∷ 0x06 ∷ 0x05 ∷ 0x00 ∷ 0x01 ∷ []) ↝ laidReply 64
+    ∷ (0x00 ∷ 0x06 ∷ 0x01 ∷ 0x05 ∷ 0x03 ∷ 0x05 ∷ 0x00 ∷ 0x09 ∷ []) ↝ laidReply 1
+    ∷ (0x00 ∷ 0x04 ∷ 0x01 ∷ 0x08 ∷ 0x05 ∷ 0x01 ∷ []) ↝ refusedWith 16 ∷ [])
     -- remove current 0, then read: 11
-    ∷ ((0 ∷ 4 ∷ 1 ∷ 9 ∷ 5 ∷ 0 ∷ []) ∷ (0 ∷ 6 ∷ 1 ∷ 4 ∷ 3 ∷ 5 ∷ 0 ∷ 1 ∷ []) ∷ []) ↝ (laying 0 ∷ refused 11 ∷ [])
+    ∷ ((0x00 ∷ 0x04 ∷ 0x01 ∷ 0x09 ∷ 0x05 ∷ 0x00 ∷ []) ↝ laidReply 0
+    ∷ (0x00 ∷ 0x06 ∷ 0x01 ∷ 0x04 ∷ 0x03 ∷ 0x05 ∷ 0x00 ∷ 0x01 ∷ []) ↝ refusedWith 11 ∷ [])
     -- page 6 created, set current 0: 17
-    ∷ ((0 ∷ 4 ∷ 1 ∷ 1 ∷ 3 ∷ 6 ∷ []) ∷ (0 ∷ 4 ∷ 1 ∷ 8 ∷ 6 ∷ 0 ∷ []) ∷ []) ↝ (laying 0 ∷ refused 17 ∷ [])
+    ∷ ((0x00 ∷ 0x04 ∷ 0x01 ∷ 0x01 ∷ 0x03 ∷ 0x06 ∷ []) ↝ laidReply 0
+    ∷ (0x00 ∷ 0x04 ∷ 0x01 ∷ 0x08 ∷ 0x06 ∷ 0x00 ∷ []) ↝ refusedWith 17 ∷ [])
     ∷ []
 
 -- one file of the worked example's messages and the case's, and every reply of its run
 abbrev pub fileOf : Case → List ℕ
-fileOf c = file₁ ++ flatten (c .messages)
+fileOf c = file₁ ++ flatten (messagesIn c)
 
-pub starred : map (λ (c : Case). repliesOf state₀ (fileOf c)) cases ≡ map (λ (c : Case). replies₁ ++ c .answers) cases
+pub starred : map (λ (c : Case). repliesOf state₀ (fileOf c)) cases ≡ map (λ (c : Case). replies₁ ++ answersIn c) cases
 unfolding runOn flatten
 starred = refl
 
@@ -120,11 +154,17 @@ starred = refl
 -- by a station that does not own it and by its owner; page 6 is created and deleted with its null copy.
 abbrev pub deleting : Case
 deleting =
-    ((0 ∷ 5 ∷ 1 ∷ 6 ∷ 5 ∷ 0 ∷ 4 ∷ []) ∷ (0 ∷ 5 ∷ 1 ∷ 6 ∷ 5 ∷ 0 ∷ 1 ∷ []) ∷ (0 ∷ 4 ∷ 1 ∷ 7 ∷ 5 ∷ 0 ∷ []) ∷ (0 ∷ 4 ∷ 1 ∷ 7 ∷ 5 ∷ 2 ∷ [])
-    ∷ (0 ∷ 4 ∷ 1 ∷ 2 ∷ 4 ∷ 5 ∷ []) ∷ (0 ∷ 4 ∷ 1 ∷ 2 ∷ 3 ∷ 5 ∷ []) ∷ (0 ∷ 4 ∷ 1 ∷ 1 ∷ 3 ∷ 6 ∷ []) ∷ (0 ∷ 4 ∷ 1 ∷ 2 ∷ 3 ∷ 6 ∷ []) ∷ [])
-    ↝ (laying 64 ∷ laying 64 ∷ laying 64 ∷ refused 12 ∷ refused 10 ∷ laying 128 ∷ laying 0 ∷ laying 0 ∷ [])
+    (0x00 ∷ 0x05 ∷ 0x01 ∷ 0x06 ∷ 0x05 ∷ 0x00 ∷ 0x04 ∷ []) ↝ laidReply 64
+    ∷ (0x00 ∷ 0x05 ∷ 0x01 ∷ 0x06 ∷ 0x05 ∷ 0x00 ∷ 0x01 ∷ []) ↝ laidReply 64
+    ∷ (0x00 ∷ 0x04 ∷ 0x01 ∷ 0x07 ∷ 0x05 ∷ 0x00 ∷ []) ↝ laidReply 64
+    ∷ (0x00 ∷ 0x04 ∷ 0x01 ∷ 0x07 ∷ 0x05 ∷ 0x02 ∷ []) ↝ refusedWith 12
+    ∷ (0x00 ∷ 0x04 ∷ 0x01 ∷ 0x02 ∷ 0x04 ∷ 0x05 ∷ []) ↝ refusedWith 10
+    ∷ (0x00 ∷ 0x04 ∷ 0x01 ∷ 0x02 ∷ 0x03 ∷ 0x05 ∷ []) ↝ laidReply 128
+    ∷ (0x00 ∷ 0x04 ∷ 0x01 ∷ 0x01 ∷ 0x03 ∷ 0x06 ∷ []) ↝ laidReply 0
+    ∷ (0x00 ∷ 0x04 ∷ 0x01 ∷ 0x02 ∷ 0x03 ∷ 0x06 ∷ []) ↝ laidReply 0
+    ∷ []
 
-pub deleting-replies : repliesOf state₀ (fileOf deleting) ≡ replies₁ ++ deleting .answers
+pub deleting-replies : repliesOf state₀ (fileOf deleting) ≡ replies₁ ++ answersIn deleting
 unfolding runOn flatten
 deleting-replies = refl
 
@@ -135,43 +175,62 @@ unfolding runOn flatten
 deleting-stores = refl
 
 -- copies on frames 1 to 7
-abbrev pub eightMade : List (List ℕ)
+abbrev pub eightMade : Case
 eightMade =
-    (0 ∷ 5 ∷ 1 ∷ 6 ∷ 5 ∷ 0 ∷ 1 ∷ []) ∷ (0 ∷ 5 ∷ 1 ∷ 6 ∷ 5 ∷ 0 ∷ 2 ∷ []) ∷ (0 ∷ 5 ∷ 1 ∷ 6 ∷ 5 ∷ 0 ∷ 3 ∷ []) ∷ (0 ∷ 5 ∷ 1 ∷ 6 ∷ 5 ∷ 0 ∷ 4 ∷ [])
-    ∷ (0 ∷ 5 ∷ 1 ∷ 6 ∷ 5 ∷ 0 ∷ 5 ∷ []) ∷ (0 ∷ 5 ∷ 1 ∷ 6 ∷ 5 ∷ 0 ∷ 6 ∷ []) ∷ (0 ∷ 5 ∷ 1 ∷ 6 ∷ 5 ∷ 0 ∷ 7 ∷ []) ∷ []
+    (0x00 ∷ 0x05 ∷ 0x01 ∷ 0x06 ∷ 0x05 ∷ 0x00 ∷ 0x01 ∷ []) ↝ laidReply 64
+    ∷ (0x00 ∷ 0x05 ∷ 0x01 ∷ 0x06 ∷ 0x05 ∷ 0x00 ∷ 0x02 ∷ []) ↝ laidReply 64
+    ∷ (0x00 ∷ 0x05 ∷ 0x01 ∷ 0x06 ∷ 0x05 ∷ 0x00 ∷ 0x03 ∷ []) ↝ laidReply 64
+    ∷ (0x00 ∷ 0x05 ∷ 0x01 ∷ 0x06 ∷ 0x05 ∷ 0x00 ∷ 0x04 ∷ []) ↝ laidReply 64
+    ∷ (0x00 ∷ 0x05 ∷ 0x01 ∷ 0x06 ∷ 0x05 ∷ 0x00 ∷ 0x05 ∷ []) ↝ laidReply 64
+    ∷ (0x00 ∷ 0x05 ∷ 0x01 ∷ 0x06 ∷ 0x05 ∷ 0x00 ∷ 0x06 ∷ []) ↝ laidReply 64
+    ∷ (0x00 ∷ 0x05 ∷ 0x01 ∷ 0x06 ∷ 0x05 ∷ 0x00 ∷ 0x07 ∷ []) ↝ laidReply 64
+    ∷ []
 
 -- a page with eight copies: 512 bytes laid
 abbrev pub deletingEight : Case
 deletingEight =
-    (eightMade ++ ((0 ∷ 4 ∷ 1 ∷ 2 ∷ 3 ∷ 5 ∷ []) ∷ [])) ↝ (replicate 7 (laying 64) ++ ((0 ∷ 4 ∷ 1 ∷ 0 ∷ 2 ∷ 0 ∷ []) ∷ []))
+    eightMade
+    ++ ((0x00 ∷ 0x04 ∷ 0x01 ∷ 0x02 ∷ 0x03 ∷ 0x05 ∷ []) ↝ (0x00 ∷ 0x04 ∷ 0x01 ∷ 0x00 ∷ 0x02 ∷ 0x00 ∷ []) ∷ [])
 
-pub eight-replies : repliesOf state₀ (fileOf deletingEight) ≡ replies₁ ++ deletingEight .answers
+pub eight-replies : repliesOf state₀ (fileOf deletingEight) ≡ replies₁ ++ answersIn deletingEight
 unfolding runOn flatten
 eight-replies = refl
 
 -- ---- document 02, request [5]: retired frames
 
--- Frame 7, the last one, is retired and looked at; a copy is made on it, of copy 0 and of a copy that the page does not
--- have; it is retired again; frame 0, which is held, and frame 8 are to be retired; page 6 is created and its null copy
--- brought to frame 7; page 5 is deleted, and frames 7 and 0 are looked at; a retire that is too long, and kind 13.
-abbrev pub retiring : Case
-retiring =
-    ((0 ∷ 3 ∷ 1 ∷ 0xC ∷ 7 ∷ []) ∷ (0 ∷ 3 ∷ 1 ∷ 0xB ∷ 7 ∷ []) ∷ (0 ∷ 5 ∷ 1 ∷ 6 ∷ 5 ∷ 0 ∷ 7 ∷ []) ∷ (0 ∷ 5 ∷ 1 ∷ 6 ∷ 5 ∷ 1 ∷ 7 ∷ [])
-    ∷ (0 ∷ 3 ∷ 1 ∷ 0xC ∷ 7 ∷ []) ∷ (0 ∷ 3 ∷ 1 ∷ 0xC ∷ 0 ∷ []) ∷ (0 ∷ 3 ∷ 1 ∷ 0xC ∷ 8 ∷ []) ∷ (0 ∷ 4 ∷ 1 ∷ 1 ∷ 3 ∷ 6 ∷ [])
-    ∷ (0 ∷ 5 ∷ 1 ∷ 6 ∷ 6 ∷ 0 ∷ 7 ∷ []) ∷ (0 ∷ 4 ∷ 1 ∷ 2 ∷ 3 ∷ 5 ∷ []) ∷ (0 ∷ 3 ∷ 1 ∷ 0xB ∷ 7 ∷ []) ∷ (0 ∷ 3 ∷ 1 ∷ 0xB ∷ 0 ∷ [])
-    ∷ (0 ∷ 4 ∷ 1 ∷ 0xC ∷ 1 ∷ 1 ∷ []) ∷ (0 ∷ 3 ∷ 1 ∷ 0xD ∷ 1 ∷ []) ∷ [])
-    ↝ (laying 0 ∷ (0 ∷ 7 ∷ 1 ∷ 0 ∷ 0 ∷ 0 ∷ 2 ∷ 255 ∷ 255 ∷ []) ∷ refused 20 ∷ refused 12 ∷ laying 0 ∷ refused 13 ∷ refused 7 ∷ laying 0
-    ∷ refused 20 ∷ laying 64 ∷ (0 ∷ 7 ∷ 1 ∷ 0 ∷ 0 ∷ 0 ∷ 2 ∷ 255 ∷ 255 ∷ []) ∷ (0 ∷ 7 ∷ 1 ∷ 0 ∷ 0 ∷ 0 ∷ 0 ∷ 255 ∷ 255 ∷ []) ∷ refused 4 ∷ refused 3 ∷ [])
+abbrev pub retireCase : Case
+retireCase =
+    -- frame 7, the last one, is retired and looked at
+    (0x00 ∷ 0x03 ∷ 0x01 ∷ 0x0C ∷ 0x07 ∷ []) ↝ laidReply 0
+    ∷ (0x00 ∷ 0x03 ∷ 0x01 ∷ 0x0B ∷ 0x07 ∷ []) ↝ (0x00 ∷ 0x07 ∷ 0x01 ∷ 0x00 ∷ 0x00 ∷ 0x00 ∷ 0x02 ∷ 0xFF ∷ 0xFF ∷ [])
+    -- a copy is made on frame 7: of copy 0, and of a copy that the page does not have
+    ∷ (0x00 ∷ 0x05 ∷ 0x01 ∷ 0x06 ∷ 0x05 ∷ 0x00 ∷ 0x07 ∷ []) ↝ refusedWith 20
+    ∷ (0x00 ∷ 0x05 ∷ 0x01 ∷ 0x06 ∷ 0x05 ∷ 0x01 ∷ 0x07 ∷ []) ↝ refusedWith 12
+    -- frame 7 is retired again; frame 0 is held; there is no frame 8
+    ∷ (0x00 ∷ 0x03 ∷ 0x01 ∷ 0x0C ∷ 0x07 ∷ []) ↝ laidReply 0
+    ∷ (0x00 ∷ 0x03 ∷ 0x01 ∷ 0x0C ∷ 0x00 ∷ []) ↝ refusedWith 13
+    ∷ (0x00 ∷ 0x03 ∷ 0x01 ∷ 0x0C ∷ 0x08 ∷ []) ↝ refusedWith 7
+    -- page 6 is created, and its null copy brought to frame 7
+    ∷ (0x00 ∷ 0x04 ∷ 0x01 ∷ 0x01 ∷ 0x03 ∷ 0x06 ∷ []) ↝ laidReply 0
+    ∷ (0x00 ∷ 0x05 ∷ 0x01 ∷ 0x06 ∷ 0x06 ∷ 0x00 ∷ 0x07 ∷ []) ↝ refusedWith 20
+    -- page 5 is deleted, and frames 7 and 0 are looked at
+    ∷ (0x00 ∷ 0x04 ∷ 0x01 ∷ 0x02 ∷ 0x03 ∷ 0x05 ∷ []) ↝ laidReply 64
+    ∷ (0x00 ∷ 0x03 ∷ 0x01 ∷ 0x0B ∷ 0x07 ∷ []) ↝ (0x00 ∷ 0x07 ∷ 0x01 ∷ 0x00 ∷ 0x00 ∷ 0x00 ∷ 0x02 ∷ 0xFF ∷ 0xFF ∷ [])
+    ∷ (0x00 ∷ 0x03 ∷ 0x01 ∷ 0x0B ∷ 0x00 ∷ []) ↝ (0x00 ∷ 0x07 ∷ 0x01 ∷ 0x00 ∷ 0x00 ∷ 0x00 ∷ 0x00 ∷ 0xFF ∷ 0xFF ∷ [])
+    -- a retire that is too long, and kind 13
+    ∷ (0x00 ∷ 0x04 ∷ 0x01 ∷ 0x0C ∷ 0x01 ∷ 0x01 ∷ []) ↝ refusedWith 4
+    ∷ (0x00 ∷ 0x03 ∷ 0x01 ∷ 0x0D ∷ 0x01 ∷ []) ↝ refusedWith 3
+    ∷ []
 
-pub retiring-replies : repliesOf state₀ (fileOf retiring) ≡ replies₁ ++ retiring .answers
+pub retiring-replies : repliesOf state₀ (fileOf retireCase) ≡ replies₁ ++ answersIn retireCase
 unfolding runOn flatten
 retiring-replies = refl
 
 -- frame 7 is retired, every other one free, and of the stores only frame 0 is other than at the start: the delete
 -- cleared it
 pub retiring-leaves :
-    (runOn state₀ (fileOf retiring) .final .tables .register ≡ set (replicate 254 freeEntry) 7 retiredEntry)
-    × (joined (runOn state₀ (fileOf retiring) .final) ≡ (zeros ++ replicate 192 0xEE) ++ replicate 256 0xDD)
+    (runOn state₀ (fileOf retireCase) .final .tables .register ≡ set (replicate 254 freeEntry) 7 retiredEntry)
+    × (joined (runOn state₀ (fileOf retireCase) .final) ≡ (zeros ++ replicate 192 0xEE) ++ replicate 256 0xDD)
 unfolding runOn flatten
 retiring-leaves = (refl, refl)
 
@@ -181,27 +240,43 @@ stateNine = record { tables = freshTables 5 4; fast = replicate 320 0xEE; slow =
 
 abbrev pub retiringNinth : Case
 retiringNinth =
-    (eightMade ++ ((0 ∷ 5 ∷ 1 ∷ 6 ∷ 5 ∷ 0 ∷ 8 ∷ []) ∷ (0 ∷ 3 ∷ 1 ∷ 0xC ∷ 8 ∷ []) ∷ (0 ∷ 5 ∷ 1 ∷ 6 ∷ 5 ∷ 0 ∷ 8 ∷ []) ∷ []))
-    ↝ (replicate 7 (laying 64) ++ (refused 14 ∷ laying 0 ∷ refused 20 ∷ []))
+    eightMade
+    ++ ((0x00 ∷ 0x05 ∷ 0x01 ∷ 0x06 ∷ 0x05 ∷ 0x00 ∷ 0x08 ∷ []) ↝ refusedWith 14
+    ∷ (0x00 ∷ 0x03 ∷ 0x01 ∷ 0x0C ∷ 0x08 ∷ []) ↝ laidReply 0
+    ∷ (0x00 ∷ 0x05 ∷ 0x01 ∷ 0x06 ∷ 0x05 ∷ 0x00 ∷ 0x08 ∷ []) ↝ refusedWith 20
+    ∷ [])
 
-pub ninth-replies : repliesOf stateNine (fileOf retiringNinth) ≡ replies₁ ++ retiringNinth .answers
+pub ninth-replies : repliesOf stateNine (fileOf retiringNinth) ≡ replies₁ ++ answersIn retiringNinth
 unfolding runOn flatten
 ninth-replies = refl
 
 -- of the tables that the worked example leaves: the last frame retired, one past it, and the frame of the copy
-pub retired-tested : map (λ (f : ℕ). sound (withRetired (runOn state₀ file₁ .final .tables) f)) (7 ∷ 8 ∷ 253 ∷ 0 ∷ []) ≡ (true ∷ false ∷ false ∷ false ∷ [])
-unfolding runOn sound sizesRule pagesRule alone allBelow all count holders uses pageRule standingRule absentRule registerRule inPages inCopies
+pub retired-tested :
+    map (λ (f : ℕ). sound (withRetired (runOn state₀ file₁ .final .tables) f)) (7 ∷ 8 ∷ 253 ∷ 0 ∷ [])
+    ≡ (true ∷ false ∷ false ∷ false ∷ [])
+unfolding runOn sound sizesRule pagesRule noneShared allBelow all count holders uses pageRule standingRule absentRule
+    registerRule inPages inCopies
 retired-tested = refl
 
 -- ---- the flat memory beside the worked example, a read answered 11 after it and a delete by another station
 
 abbrev pub file₂ : List ℕ
-file₂ = file₁ ++ (0 ∷ 4 ∷ 1 ∷ 9 ∷ 5 ∷ 0 ∷ 0 ∷ 6 ∷ 1 ∷ 4 ∷ 3 ∷ 5 ∷ 0 ∷ 1 ∷ 0 ∷ 4 ∷ 1 ∷ 2 ∷ 4 ∷ 5 ∷ [])
+file₂ =
+    file₁
+    -- remove current 0
+    ++ (0x00 ∷ 0x04 ∷ 0x01 ∷ 0x09 ∷ 0x05 ∷ 0x00 ∷ [])
+    -- read offset 0 count 1
+    ++ (0x00 ∷ 0x06 ∷ 0x01 ∷ 0x04 ∷ 0x03 ∷ 0x05 ∷ 0x00 ∷ 0x01 ∷ [])
+    -- delete page 5 by station 4
+    ++ (0x00 ∷ 0x04 ∷ 0x01 ∷ 0x02 ∷ 0x04 ∷ 0x05 ∷ [])
 
 abbrev pub expected : List Answer
 expected =
-    record { number = 0; bytes = [] } ∷ record { number = 0; bytes = [] } ∷ record { number = 0; bytes = 0x41 ∷ 0x37 ∷ 0 ∷ [] }
-    ∷ record { number = 10; bytes = [] } ∷ []
+    record { number = 0; bytes = [] }
+    ∷ record { number = 0; bytes = [] }
+    ∷ record { number = 0; bytes = 0x41 ∷ 0x37 ∷ 0x00 ∷ [] }
+    ∷ record { number = 10; bytes = [] }
+    ∷ []
 
 pub flat-side : flatAnswers none (messagesOf file₂) (elevens 70 (runOn state₀ file₂ .turns)) ≡ expected
 unfolding flatAnswers flatAfter reactAs reactTo runOn messagesOf split parse names kinds code among argument callOf

@@ -44,9 +44,9 @@ NoneHeld t = EachSlow t (λ f. isHeld t f ≡ false)
 -- of a run r from state s
 pub record LeftClean (s : State) (r : Run) : Type 0 where
   pub frames-cleared : Cleared s r
-  -- so a card that is blank stays so, from one run to the next
+  -- a run leaves a blank card blank
   pub stays-blank : Blank s → Blank (r .final)
-  -- and one that is blank at the start, and that no copy has at the end, is all zeros there, if the stores fit
+  -- a card that is blank at the start, and that no copy is on at the end, is all zeros there, if the stores fit
   pub card-cleared : length (s .fast) ≡ 64 * s .tables .shared .p → length (s .slow) ≡ 64 * s .tables .shared .s
       → Blank s → NoneHeld (r .final .tables) → r .final .slow ≡ replicate (64 * s .tables .shared .s) 0
 

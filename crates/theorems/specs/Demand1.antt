@@ -1,7 +1,7 @@
 -- Demand 1: any message is answered with 0 or a number of the table; a refused one changes nothing and gets the fixed
 -- reply. It is said of what the code gives: of whatever meets the contracts of `answer` and `count`, and of the turns
--- and replies of a run.
-use Prim.Native.Nat.{ℕ, _≤_, _<_}
+-- and replies of a run, and its tally.
+use Prim.Native.Nat.{ℕ, _+_, _≤_, _<_}
 use mathlib.Core.Path.{_≡_}
 use mathlib.Core.Bool.{Bool, true, not, cond}
 use mathlib.Core.List.{List, [], _∷_}
@@ -9,21 +9,21 @@ use mathlib.Core.Logic.{_≢_}
 use lib.ListN.{length}
 use lib.Dec.{ltb, eqb}
 use Rattle.tables.specs.declared.Tables.{Tables}
-use Rattle.tables.specs.Lists.{listed}
-use Rattle.tables.specs.Numbers.{accepted, shortBuffer, table}
+use Rattle.tables.specs.Lists.{count, listed}
+use Rattle.tables.specs.Numbers.{accepted, shortBuffer, messageNumbers}
 use Rattle.steps.specs.Stores.{over}
 use Rattle.steps.specs.Steps.{numberOf}
-use Rattle.steps.specs.Effects.{State}
+use Rattle.steps.specs.Effects.{State, laidBy}
 use Rattle.steps.specs.Promises.{stateOf}
 use Rattle.messages.specs.declared.Answered.{Answered}
 use Rattle.messages.specs.declared.Tally.{Tally}
 use Rattle.messages.specs.Promises.{sentAlone, Replied}
 use Rattle.messages.specs.Replies.{upTo, counted}
-use Rattle.messages.specs.Run.{Turn, answer, Run, run, replies}
+use Rattle.messages.specs.Run.{Turn, answer, Run, run, replies, tally}
 
 -- a number that a message may be answered with
 abbrev pub allowed : ℕ → Bool
-allowed n = listed n (accepted ∷ table)
+allowed n = listed n (accepted ∷ messageNumbers)
 
 -- "A refusal is 00 04 01 nn 00 00"; 18: "reply buffer below 70 bytes; nothing is written"
 abbrev pub refusalIn : ℕ → ℕ → List ℕ
@@ -91,6 +91,27 @@ pub record RunObeys (room : ℕ) (s : State) (w : Run) (rs : List (List ℕ)) : 
   pub starts : next (w .turns) (w .final) ≡ s
   pub turns : TurnsObey room (w .turns) rs (w .final)
 
+-- ---- the tally of a run
+
+abbrev pub isRefused : Turn → Bool
+isRefused t = not (eqb (numberOf (t .outcome)) accepted)
+
+-- the bytes laid by the turns that were not refused
+abbrev pub laidAccepted : List Turn → ℕ
+laidAccepted [] = 0
+laidAccepted (t ∷ ts) = cond (isRefused t) 0 (laidBy (t .outcome)) + laidAccepted ts
+
+-- Of turns ts, between the tallies n before them and n′ after: each is one message more, each refused one is one
+-- refusal more and lays nothing; "each number stops at 4294967295".
+pub record TallyObeys (ts : List Turn) (n n′ : Tally) : Type 0 where
+  pub messages-counted : n′ .messages ≡ upTo (n .messages) (length ts)
+  pub refusals-counted : n′ .refusals ≡ upTo (n .refusals) (count isRefused ts)
+  pub laid-counted : n′ .laid ≡ upTo (n .laid) (laidAccepted ts)
+
+-- no number of a tally is above its limit: one that was lent above it would stay so until a message counts
+abbrev pub WithinLimit : Tally → Type 0
+WithinLimit n = (n .messages ≤ 4294967295) × (n .refusals ≤ 4294967295) × (n .laid ≤ 4294967295)
+
 -- ---- the demand
 
 pub record Demand1 : Type 0 where
@@ -98,3 +119,5 @@ pub record Demand1 : Type 0 where
   -- of any file, on any tables and stores
   pub runs : (room : ℕ) (file : List ℕ) (s : State) → RunObeys room s (run room file s)
       (replies room (run room file s .turns))
+  pub tallies : (room : ℕ) (file : List ℕ) (s : State) (n : Tally) → WithinLimit n
+      → TallyObeys (run room file s .turns) n (tally (run room file s .turns) n)

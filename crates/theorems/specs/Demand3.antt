@@ -14,7 +14,7 @@ use Rattle.tables.specs.Model.{inUse, absent, pageAt, freshTables}
 use Rattle.tables.specs.Rules.{isRecent}
 use Rattle.steps.specs.declared.Call.{Call}
 use Rattle.steps.specs.Kinds.{kindNumber}
-use Rattle.steps.specs.Stores.{held}
+use Rattle.steps.specs.Stores.{contents}
 use Rattle.steps.specs.Steps.{currents}
 use Rattle.steps.specs.Effects.{State, joined}
 use Rattle.messages.specs.declared.Parsed.{Parsed}
@@ -26,12 +26,12 @@ use Rattle.theorems.specs.Flat.{Flat, FlatPage, Slot, gone, here, slotAt
 -- ---- what the flat memory learns of a run
 
 -- the number of a reply: its fourth byte
-abbrev pub numberIn : List ℕ → ℕ
-numberIn r = getD r 3 0
+abbrev pub replyNumber : List ℕ → ℕ
+replyNumber r = getD r 3 0
 
 -- whether a turn's message was answered 11
 abbrev pub eleven : ℕ → Turn → Bool
-eleven room t = eqb (numberIn (replyIn room (t .outcome))) nothingCurrent
+eleven room t = eqb (replyNumber (replyIn room (t .outcome))) nothingCurrent
 
 abbrev pub sentIn : Turn → Sent
 sentIn t = t .sent
@@ -62,18 +62,18 @@ flatAnswers f (x ∷ xs) (e ∷ es) = cond e [] (answersOf (reaction f x)) ++ fl
 -- ---- "the run's replies to those same messages": those of the kinds that the flat memory answers, 1 to 5, and not
 -- answered 11
 
-abbrev pub answered : Parsed → Bool
-answered (Refused n) = false
-answered (Asked c) = flatKind c
+abbrev pub isAnswered : Parsed → Bool
+isAnswered (Refused n) = false
+isAnswered (Asked c) = flatKind c
 
 -- "each reply taken as its number and the bytes after its first six"
-abbrev pub taken : List ℕ → Answer
-taken r = record { number = numberIn r; bytes = drop 6 r }
+abbrev pub answerIn : List ℕ → Answer
+answerIn r = record { number = replyNumber r; bytes = drop 6 r }
 
 unfoldable pub runAnswers : ℕ → List Turn → List Answer
 runAnswers room [] = []
 runAnswers room (t ∷ ts) =
-    cond (not (eleven room t) && answered (asked (t .sent))) (taken (replyIn room (t .outcome)) ∷ []) []
+    cond (not (eleven room t) && isAnswered (asked (t .sent))) (answerIn (replyIn room (t .outcome)) ∷ []) []
     ++ runAnswers room ts
 
 -- ---- number 11 exactly where the flat memory would accept and nothing is current
@@ -94,10 +94,10 @@ dues room f (t ∷ ts) =
 
 -- ---- at the end: the same pages, owners and rights, and every MOST RECENT copy holds its page's flat bytes
 
--- "A copy holds the bytes at its frame in the run's stores"; one without a frame counts as 64 zeros (`held`)
+-- "A copy holds the bytes at its frame in the run's stores"; one without a frame counts as 64 zeros (`contents`)
 abbrev pub Holds : List ℕ → List Copy → List ℕ → Type 0
 Holds st [] bs = Unit {0}
-Holds st (c ∷ cs) bs = (c .recent ≡ true → held st c ≡ bs) × Holds st cs bs
+Holds st (c ∷ cs) bs = (c .recent ≡ true → contents st c ≡ bs) × Holds st cs bs
 
 pub record SamePage (st : List ℕ) (g : Page) (b : FlatPage) : Type 0 where
   pub owners : g .owner ≡ b .owner
@@ -128,7 +128,7 @@ pub record AgreesOn (p s room : ℕ) (xs : List Sent) (r : Run) : Type 0 where
       → SameSlot (joined (r .final)) (pageAt (r .final .tables) q)
       (slotAt (flatEnd none xs (elevens room (r .turns))) q)
 
--- over those of a file
+-- `AgreesOn` over the messages of a file
 abbrev pub Agrees : ℕ → ℕ → ℕ → List ℕ → Run → Type 0
 Agrees p s room file r = AgreesOn p s room (messagesOf file) r
 

@@ -51,7 +51,7 @@ farGrant c = ltb 15 (c .other) || ltb 2 (c .right)
 abbrev pub farSpan : ℕ → ℕ → Bool
 farSpan start n = ltb 63 start || (eqb n 0 || ltb 64 (start + n))
 
--- what else number 7 is for, by the kind's number k: "where a write's count is the number of its bytes"
+-- the rest of 7, for kind k: "where a write's count is the number of its bytes"
 abbrev pub farRest : ℕ → Call → List ℕ → Bool
 farRest k c bs =
     cond (eqb k 3) (farGrant c)

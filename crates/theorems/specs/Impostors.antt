@@ -12,7 +12,7 @@ use Rattle.tables.specs.Model.{freeEntry, isRetiredEntry, retiredAt, absent, in
 use Rattle.tables.specs.Rules.{uses, holders, free}
 use Rattle.steps.specs.declared.Call.{Call}
 use Rattle.steps.specs.Kinds.{offset, bytes, copy, frame, names, kinds, code, among, has, argument, callOf}
-use Rattle.steps.specs.Stores.{part, splice, block, lay, zeros}
+use Rattle.steps.specs.Stores.{part, splice, block, layFrame, zeros}
 use Rattle.steps.specs.Steps.{Outcome, refuse, accept, copyAt, firstCurrent}
 use Rattle.steps.specs.Effects.{State, joined, Result, left}
 use Rattle.messages.specs.declared.Parsed.{Parsed}
@@ -80,8 +80,10 @@ abbrev pub refusing : Kernel
 refusing s x = refuse noPage
 
 pub refusing-flat : flatSide refusing
-    ≡ (record { number = 0; bytes = [] } ∷ record { number = 0; bytes = [] } ∷ record { number = 0; bytes = 0x41 ∷ 0x37 ∷ 0 ∷ [] } ∷ [])
-unfolding turnsBy messagesOf split rightTurn parse names kinds code among argument callOf flatAnswers flatAfter reactAs reactTo
+    ≡ (record { number = 0; bytes = [] } ∷ record { number = 0; bytes = [] }
+    ∷ record { number = 0; bytes = 0x41 ∷ 0x37 ∷ 0 ∷ [] } ∷ [])
+unfolding turnsBy messagesOf split rightTurn parse names kinds code among argument callOf flatAnswers flatAfter reactAs
+    reactTo
 refusing-flat = refl
 
 pub refusing-run : runSide refusing
@@ -100,8 +102,10 @@ unfolding turnsBy messagesOf split rightTurn parse names kinds code among argume
 constant-run = refl
 
 pub constant-flat : flatSide constant
-    ≡ (record { number = 0; bytes = [] } ∷ record { number = 0; bytes = [] } ∷ record { number = 0; bytes = 0x41 ∷ 0x37 ∷ 0 ∷ [] } ∷ [])
-unfolding turnsBy messagesOf split rightTurn parse names kinds code among argument callOf flatAnswers flatAfter reactAs reactTo
+    ≡ (record { number = 0; bytes = [] } ∷ record { number = 0; bytes = [] }
+    ∷ record { number = 0; bytes = 0x41 ∷ 0x37 ∷ 0 ∷ [] } ∷ [])
+unfolding turnsBy messagesOf split rightTurn parse names kinds code among argument callOf flatAnswers flatAfter reactAs
+    reactTo
 constant-flat = refl
 
 -- ---- "serves the first message and then only acknowledges"
@@ -110,7 +114,8 @@ abbrev pub tired : Kernel
 tired s x = cond (absent (pageAt (s .tables) 5)) (rightTurn s x) (acknowledged s 0)
 
 pub tired-replies : repliesBy tired
-    ≡ ((0 ∷ 4 ∷ 1 ∷ 0 ∷ 0 ∷ 0 ∷ []) ∷ (0 ∷ 4 ∷ 1 ∷ 0 ∷ 0 ∷ 0 ∷ []) ∷ (0 ∷ 4 ∷ 1 ∷ 0 ∷ 0 ∷ 0 ∷ []) ∷ (0 ∷ 4 ∷ 1 ∷ 0 ∷ 0 ∷ 0 ∷ [])
+    ≡ ((0 ∷ 4 ∷ 1 ∷ 0 ∷ 0 ∷ 0 ∷ []) ∷ (0 ∷ 4 ∷ 1 ∷ 0 ∷ 0 ∷ 0 ∷ []) ∷ (0 ∷ 4 ∷ 1 ∷ 0 ∷ 0 ∷ 0 ∷ [])
+    ∷ (0 ∷ 4 ∷ 1 ∷ 0 ∷ 0 ∷ 0 ∷ [])
     ∷ (0 ∷ 4 ∷ 1 ∷ 0 ∷ 0 ∷ 0 ∷ []) ∷ (0 ∷ 4 ∷ 1 ∷ 0 ∷ 0 ∷ 0 ∷ []) ∷ [])
 unfolding turnsBy messagesOf split rightTurn parse names kinds code among argument callOf
 tired-replies = refl
@@ -129,7 +134,8 @@ dropping s x = except (λ c. has copy (c .kind)) (λ c. acknowledged s (cond (ha
 -- the write and the read find nothing CURRENT, and the look finds the null copy
 pub dropping-replies : repliesBy dropping
     ≡ ((0 ∷ 4 ∷ 1 ∷ 0 ∷ 0 ∷ 0 ∷ []) ∷ (0 ∷ 4 ∷ 1 ∷ 0 ∷ 0 ∷ 0x40 ∷ []) ∷ (0 ∷ 4 ∷ 1 ∷ 0 ∷ 0 ∷ 0 ∷ [])
-    ∷ (0 ∷ 4 ∷ 1 ∷ 11 ∷ 0 ∷ 0 ∷ []) ∷ (0 ∷ 4 ∷ 1 ∷ 11 ∷ 0 ∷ 0 ∷ []) ∷ (0 ∷ 8 ∷ 1 ∷ 0 ∷ 0 ∷ 0 ∷ 1 ∷ 255 ∷ 0 ∷ 1 ∷ []) ∷ [])
+    ∷ (0 ∷ 4 ∷ 1 ∷ 11 ∷ 0 ∷ 0 ∷ []) ∷ (0 ∷ 4 ∷ 1 ∷ 11 ∷ 0 ∷ 0 ∷ []) ∷ (0 ∷ 8 ∷ 1 ∷ 0 ∷ 0 ∷ 0 ∷ 1 ∷ 255 ∷ 0 ∷ 1 ∷ [])
+    ∷ [])
 unfolding turnsBy messagesOf split rightTurn parse names kinds code among argument callOf
 dropping-replies = refl
 
@@ -143,7 +149,8 @@ abbrev pub inventing : Kernel
 inventing s x = inflated (rightTurn s x)
 
 pub inventing-replies : repliesBy inventing
-    ≡ ((0 ∷ 4 ∷ 1 ∷ 0 ∷ 0 ∷ 1 ∷ []) ∷ (0 ∷ 4 ∷ 1 ∷ 0 ∷ 0 ∷ 1 ∷ []) ∷ (0 ∷ 4 ∷ 1 ∷ 0 ∷ 0 ∷ 1 ∷ []) ∷ (0 ∷ 4 ∷ 1 ∷ 0 ∷ 0 ∷ 1 ∷ [])
+    ≡ ((0 ∷ 4 ∷ 1 ∷ 0 ∷ 0 ∷ 1 ∷ []) ∷ (0 ∷ 4 ∷ 1 ∷ 0 ∷ 0 ∷ 1 ∷ []) ∷ (0 ∷ 4 ∷ 1 ∷ 0 ∷ 0 ∷ 1 ∷ [])
+    ∷ (0 ∷ 4 ∷ 1 ∷ 0 ∷ 0 ∷ 1 ∷ [])
     ∷ (0 ∷ 7 ∷ 1 ∷ 0 ∷ 0 ∷ 1 ∷ 0x41 ∷ 0x37 ∷ 0 ∷ []) ∷ (0 ∷ 8 ∷ 1 ∷ 0 ∷ 0 ∷ 1 ∷ 1 ∷ 0 ∷ 1 ∷ 1 ∷ []) ∷ [])
 unfolding turnsBy messagesOf split rightTurn parse names kinds code among argument callOf
 inventing-replies = refl
@@ -163,7 +170,8 @@ early-replies = refl
 
 -- the flat memory stops there too, and its answers agree: demand 3's `messages` rules it out, and in Witness3 it alone
 pub early-answers : flatAnswers none (messagesOf file₁) (elevens 70 earlyTurns) ≡ runAnswers 70 earlyTurns
-unfolding turnsBy messagesOf split rightTurn parse names kinds code among argument callOf flatAnswers flatAfter reactAs reactTo runAnswers
+unfolding turnsBy messagesOf split rightTurn parse names kinds code among argument callOf flatAnswers flatAfter reactAs
+    reactTo runAnswers
 early-answers = refl
 
 pub early-messages : map sentIn earlyTurns ≡ messagesOf file₁ → ⊥
@@ -205,33 +213,41 @@ withStores (accept r) st p =
 abbrev pub sparing : Kernel
 sparing s x =
     except (λ c. has bytes (c .kind))
-    (λ c. withStores (rightTurn s x) (lay (joined s) (firstCurrent (inUse (pageAt (s .tables) (c .page)))) (c .offset) (bytesOf x))
+    (λ c. withStores (rightTurn s x) (layFrame (joined s) (firstCurrent (inUse (pageAt (s .tables) (c .page))))
+    (c .offset) (bytesOf x))
     (length (s .fast))) s x (asked x)
 
 -- two current copies, a write of 9, the first no longer current, a read
 abbrev pub twoCurrent : List ℕ
 twoCurrent =
-    0 ∷ 4 ∷ 1 ∷ 1 ∷ 3 ∷ 5 ∷ 0 ∷ 5 ∷ 1 ∷ 6 ∷ 5 ∷ 0 ∷ 0 ∷ 0 ∷ 4 ∷ 1 ∷ 8 ∷ 5 ∷ 0 ∷ 0 ∷ 5 ∷ 1 ∷ 6 ∷ 5 ∷ 0 ∷ 1 ∷ 0 ∷ 4 ∷ 1 ∷ 8 ∷ 5 ∷ 1
+    0 ∷ 4 ∷ 1 ∷ 1 ∷ 3 ∷ 5 ∷ 0 ∷ 5 ∷ 1 ∷ 6 ∷ 5 ∷ 0 ∷ 0 ∷ 0 ∷ 4 ∷ 1 ∷ 8 ∷ 5 ∷ 0 ∷ 0 ∷ 5 ∷ 1 ∷ 6 ∷ 5 ∷ 0 ∷ 1 ∷ 0 ∷ 4 ∷ 1
+    ∷ 8 ∷ 5 ∷ 1
     ∷ 0 ∷ 6 ∷ 1 ∷ 5 ∷ 3 ∷ 5 ∷ 0 ∷ 9 ∷ 0 ∷ 4 ∷ 1 ∷ 9 ∷ 5 ∷ 0 ∷ 0 ∷ 6 ∷ 1 ∷ 4 ∷ 3 ∷ 5 ∷ 0 ∷ 1 ∷ []
 
-pub sparing-flat : flatAnswers none (messagesOf twoCurrent) (elevens 70 (turnsBy sparing state₀ (messagesOf twoCurrent)))
-    ≡ (record { number = 0; bytes = [] } ∷ record { number = 0; bytes = [] } ∷ record { number = 0; bytes = 9 ∷ [] } ∷ [])
-unfolding turnsBy messagesOf split rightTurn parse names kinds code among argument callOf flatAnswers flatAfter reactAs reactTo splice firstCurrent
+pub sparing-flat : flatAnswers none (messagesOf twoCurrent)
+    (elevens 70 (turnsBy sparing state₀ (messagesOf twoCurrent)))
+    ≡ (record { number = 0; bytes = [] } ∷ record { number = 0; bytes = [] } ∷ record { number = 0; bytes = 9 ∷ [] }
+    ∷ [])
+unfolding turnsBy messagesOf split rightTurn parse names kinds code among argument callOf flatAnswers flatAfter reactAs
+    reactTo splice firstCurrent
 sparing-flat = refl
 
 pub sparing-run : runAnswers 70 (turnsBy sparing state₀ (messagesOf twoCurrent))
-    ≡ (record { number = 0; bytes = [] } ∷ record { number = 0; bytes = [] } ∷ record { number = 0; bytes = 0 ∷ [] } ∷ [])
+    ≡ (record { number = 0; bytes = [] } ∷ record { number = 0; bytes = [] } ∷ record { number = 0; bytes = 0 ∷ [] }
+    ∷ [])
 unfolding turnsBy messagesOf split rightTurn parse names kinds code among argument callOf runAnswers splice firstCurrent
 sparing-run = refl
 
 -- "taking a free frame's old bytes for zeros": a copy is made and nothing is laid
 abbrev pub trusting : Kernel
 trusting s x =
-    except (λ c. has copy (c .kind) && has frame (c .kind)) (λ c. withStores (rightTurn s x) (joined s) (length (s .fast))) s x (asked x)
+    except (λ c. has copy (c .kind) && has frame (c .kind))
+    (λ c. withStores (rightTurn s x) (joined s) (length (s .fast))) s x (asked x)
 
 -- the third byte that the worked example reads was never written
 pub trusting-run : runSide trusting
-    ≡ (record { number = 0; bytes = [] } ∷ record { number = 0; bytes = [] } ∷ record { number = 0; bytes = 0x41 ∷ 0x37 ∷ 0xEE ∷ [] } ∷ [])
+    ≡ (record { number = 0; bytes = [] } ∷ record { number = 0; bytes = [] }
+    ∷ record { number = 0; bytes = 0x41 ∷ 0x37 ∷ 0xEE ∷ [] } ∷ [])
 unfolding turnsBy messagesOf split rightTurn parse names kinds code among argument callOf runAnswers
 trusting-run = refl
 
@@ -248,7 +264,8 @@ sends kind (whole m) = eqb (getD m 1 0) kind
 
 -- the right kernel, but for the stores that an accepted delete page leaves
 abbrev pub deletingTo : (State → Outcome Result → List ℕ) → Kernel
-deletingTo stores s x = cond (sends 2 x) (withStores (rightTurn s x) (stores s (rightTurn s x)) (length (s .fast))) (rightTurn s x)
+deletingTo stores s x = cond (sends 2 x) (withStores (rightTurn s x) (stores s (rightTurn s x)) (length (s .fast)))
+    (rightTurn s x)
 
 -- With P = 2 and S = 1, page 5 is made, copied to frame 0, set current and written, so that its bytes begin with 9; it
 -- is copied to frame 2, and deleted.
@@ -257,7 +274,8 @@ state₄ = record { tables = freshTables 2 1; fast = replicate 128 0xEE; slow = 
 
 abbrev pub file₄ : List ℕ
 file₄ =
-    0 ∷ 4 ∷ 1 ∷ 1 ∷ 3 ∷ 5 ∷ 0 ∷ 5 ∷ 1 ∷ 6 ∷ 5 ∷ 0 ∷ 0 ∷ 0 ∷ 4 ∷ 1 ∷ 8 ∷ 5 ∷ 0 ∷ 0 ∷ 6 ∷ 1 ∷ 5 ∷ 3 ∷ 5 ∷ 0 ∷ 9 ∷ 0 ∷ 5 ∷ 1 ∷ 6 ∷ 5 ∷ 0 ∷ 2
+    0 ∷ 4 ∷ 1 ∷ 1 ∷ 3 ∷ 5 ∷ 0 ∷ 5 ∷ 1 ∷ 6 ∷ 5 ∷ 0 ∷ 0 ∷ 0 ∷ 4 ∷ 1 ∷ 8 ∷ 5 ∷ 0 ∷ 0 ∷ 6 ∷ 1 ∷ 5 ∷ 3 ∷ 5 ∷ 0 ∷ 9 ∷ 0 ∷ 5
+    ∷ 1 ∷ 6 ∷ 5 ∷ 0 ∷ 2
     ∷ 0 ∷ 4 ∷ 1 ∷ 2 ∷ 3 ∷ 5 ∷ []
 
 -- the first byte of each frame at its end
@@ -286,7 +304,7 @@ slow-only-leaves = refl
 
 -- only the first frame of a deleted page is filled
 abbrev pub firstOnly : Kernel
-firstOnly = deletingTo (λ s o. lay (joined s) (copyAt (pageAt (s .tables) 5) 0 .frame) 0 zeros)
+firstOnly = deletingTo (λ s o. layFrame (joined s) (copyAt (pageAt (s .tables) 5) 0 .frame) 0 zeros)
 
 pub first-only-leaves : firsts firstOnly ≡ (0 ∷ 0xEE ∷ 9 ∷ [])
 unfolding endBy messagesOf split rightTurn parse names kinds code among argument callOf part splice
@@ -294,7 +312,7 @@ first-only-leaves = refl
 
 -- a frame that no copy ever had is filled too
 abbrev pub overFilling : Kernel
-overFilling = deletingTo (λ s o. lay (joined (left s o)) 1 0 zeros)
+overFilling = deletingTo (λ s o. layFrame (joined (left s o)) 1 0 zeros)
 
 pub over-filling-leaves : firsts overFilling ≡ (0 ∷ 0 ∷ 0 ∷ [])
 unfolding endBy messagesOf split rightTurn parse names kinds code among argument callOf part splice
@@ -303,7 +321,8 @@ over-filling-leaves = refl
 -- bytes that remain change no answer: those of the run are the flat memory's
 pub remaining-unseen : flatAnswers none (messagesOf file₄) (elevens 70 (turnsBy remaining state₄ (messagesOf file₄)))
     ≡ runAnswers 70 (turnsBy remaining state₄ (messagesOf file₄))
-unfolding turnsBy messagesOf split rightTurn parse names kinds code among argument callOf flatAnswers flatAfter reactAs reactTo runAnswers
+unfolding turnsBy messagesOf split rightTurn parse names kinds code among argument callOf flatAnswers flatAfter reactAs
+    reactTo runAnswers
 remaining-unseen = refl
 
 -- ---- document 02, request [5]: wrong retires
@@ -312,19 +331,21 @@ remaining-unseen = refl
 -- deleted.
 abbrev pub retiring : List Sent
 retiring =
-    whole (1 ∷ 1 ∷ 3 ∷ 5 ∷ []) ∷ whole (1 ∷ 6 ∷ 5 ∷ 0 ∷ 0 ∷ []) ∷ whole (1 ∷ 0xC ∷ 1 ∷ []) ∷ whole (1 ∷ 0xC ∷ 0 ∷ []) ∷ []
+    whole (1 ∷ 1 ∷ 3 ∷ 5 ∷ []) ∷ whole (1 ∷ 6 ∷ 5 ∷ 0 ∷ 0 ∷ []) ∷ whole (1 ∷ 0xC ∷ 1 ∷ []) ∷ whole (1 ∷ 0xC ∷ 0 ∷ [])
+    ∷ []
 
 abbrev pub retiringAll : List Sent
 retiringAll = retiring ++ (whole (1 ∷ 2 ∷ 3 ∷ 5 ∷ []) ∷ [])
 
--- which frames are retired at the end, and which `retired-told` says
+-- which frames are retired at the end, and which `retired-exactly` says
 abbrev pub retiredBy : Kernel → List Bool
 retiredBy k = map (λ f. retiredAt (endBy k state₄ retiringAll .tables) f) (0 ∷ 1 ∷ 2 ∷ [])
 
 abbrev pub toldBy : Kernel → List Bool
 toldBy k = map (λ f. everRetired (turnsBy k state₄ retiringAll) f) (0 ∷ 1 ∷ 2 ∷ [])
 
-pub right-retired : (retiredBy rightTurn ≡ (false ∷ true ∷ false ∷ [])) × (toldBy rightTurn ≡ (false ∷ true ∷ false ∷ []))
+pub right-retired : (retiredBy rightTurn ≡ (false ∷ true ∷ false ∷ []))
+    × (toldBy rightTurn ≡ (false ∷ true ∷ false ∷ []))
 unfolding endBy turnsBy rightTurn parse names kinds code among argument callOf
 right-retired = (refl, refl)
 
@@ -351,7 +372,8 @@ forgetting s x = cond (sends 2 x) (forget (rightTurn s x)) (rightTurn s x)
           data-out = r .data-out;
         })
 
-pub forgetting-retired : (retiredBy forgetting ≡ (false ∷ false ∷ false ∷ [])) × (toldBy forgetting ≡ (false ∷ true ∷ false ∷ []))
+pub forgetting-retired : (retiredBy forgetting ≡ (false ∷ false ∷ false ∷ []))
+    × (toldBy forgetting ≡ (false ∷ true ∷ false ∷ []))
 unfolding endBy turnsBy rightTurn parse names kinds code among argument callOf
 forgetting-retired = (refl, refl)
 

@@ -1,11 +1,13 @@
 pub mod Flat
 pub mod Demand1
 pub mod Demand3
-pub mod Held
+pub mod Caller
 pub mod Clean
 pub mod Searched
 pub mod Sound
 pub mod Together
+pub mod Unmoved
+pub mod Laid
 pub mod Retired
 pub mod Stations
 pub mod Cases
@@ -17,4 +19,5 @@ pub mod Witness1
 pub mod WitnessClean
 pub mod WitnessRetired
 pub mod WitnessStations
-pub mod WitnessHeld
+pub mod WitnessCaller
+pub mod WitnessSteps

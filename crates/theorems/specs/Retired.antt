@@ -25,15 +25,15 @@ abbrev pub threeNumbers : Tables → ℕ
 threeNumbers t = countBelow (frames t) (free t) + countBelow (frames t) (isHeld t) + countBelow (frames t) (retiredAt t)
 
 -- "Kind 12, retire (frame)": a message that asks for it, and was accepted
-abbrev pub retires : Parsed → Outcome Result → ℕ → Bool
-retires (Refused n) o f = false
-retires (Asked c) (refuse n) f = false
-retires (Asked c) (accept r) f = isRetire (c .kind) && eqb (c .frame) f
+abbrev pub retiresFrame : Parsed → Outcome Result → ℕ → Bool
+retiresFrame (Refused n) o f = false
+retiresFrame (Asked c) (refuse n) f = false
+retiresFrame (Asked c) (accept r) f = isRetire (c .kind) && eqb (c .frame) f
 
--- one of the turns was such
+-- one of the turns retired frame f
 abbrev pub everRetired : List Turn → ℕ → Bool
 everRetired [] f = false
-everRetired (t ∷ ts) f = retires (asked (t .sent)) (t .outcome) f || everRetired ts f
+everRetired (t ∷ ts) f = retiresFrame (asked (t .sent)) (t .outcome) f || everRetired ts f
 
 -- ".. so that it never takes a copy again", of frame f in turns that end with a state: from a turn that finds it
 -- retired it is held in no state to the end, and holds there the bytes that it had
@@ -61,7 +61,7 @@ pub record KeepsRetired (s : State) (r : Run) : Type 0 where
   pub add-up : sound (s .tables) ≡ true → threeNumbers (r .final .tables) ≡ s .tables .shared .p + s .tables .shared .s
   -- on any tables, sound or not: the retired frames are those of the start and those that a message retired, so none is
   -- ever taken back
-  pub retired-told : (f : ℕ) → retiredAt (r .final .tables) f ≡ (retiredAt (s .tables) f || everRetired (r .turns) f)
+  pub retired-exactly : (f : ℕ) → retiredAt (r .final .tables) f ≡ (retiredAt (s .tables) f || everRetired (r .turns) f)
   pub never-again : sound (s .tables) ≡ true → (f : ℕ) → NeverAgain f (r .turns) (r .final)
 
 pub record RetiredFrames : Type 0 where

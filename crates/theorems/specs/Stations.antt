@@ -24,7 +24,7 @@ use Rattle.messages.specs.Promises.{sentAlone}
 use Rattle.stations.specs.declared.Written.{Written}
 use Rattle.stations.specs.declared.Reading.{Reading}
 use Rattle.stations.specs.declared.Reading.the-variants.{Reply}
-use Rattle.stations.specs.Writer.{named, written, writtenAs}
+use Rattle.stations.specs.Writer.{canonical, written, writtenAs}
 use Rattle.stations.specs.Reader.{readReply}
 use Rattle.stations.specs.Promises.{Wrote}
 
@@ -45,7 +45,7 @@ ReplyReader = ℕ → List ℕ → Reading
 -- a call within document 01's ranges, with a write's bytes bs: no argument that its kind names is too large, with
 -- frames up to 253
 abbrev pub InRange : Call → List ℕ → Type 0
-InRange c bs = outside 254 (length bs) (named c) ≡ accepted
+InRange c bs = outside 254 (length bs) (canonical c) ≡ accepted
 
 -- what is read of bytes l with a message at their front that was written of call c: the call with what its kind names,
 -- which is c itself where it has no other arguments (`plain`), and a write's bytes
@@ -53,7 +53,7 @@ pub record CallRead (c : Call) (bs l : List ℕ) : Type 0 where
   -- the bytes after the length
   pub message : List ℕ
   pub sent : sentAlone l ≡ whole message
-  pub same-call : parse message ≡ Asked (named c)
+  pub same-call : parse message ≡ Asked (canonical c)
   pub same-bytes : has bytes (c .kind) ≡ true → writeBytes message ≡ bs
 
 -- "Every call within document 01's ranges, written and read, is the same call": it is accepted, and so it is read of
@@ -88,8 +88,8 @@ MessagesKept writes =
 
 -- ---- replies
 
--- `kind` is a known kind, and that of the call that the message asks for, if it asks for one: so is the kind byte of
--- every message that has a known one (`kind-byte`), and of one cut short every known kind (`of-cut`)
+-- `kind` is known, and is the kind of the call that the message asks for, if it asks for one. The known kind byte of a
+-- message is such a kind (`kind-byte`), and for a message cut short every known kind is (`of-cut`).
 pub record OfKind (kind : ℕ) (x : Sent) : Type 0 where
   pub known : isUnknown kind ≡ false
   pub same : (c : Call) → asked x ≡ Asked c → c .kind ≡ kindOf kind
@@ -136,7 +136,7 @@ PastUnread reads =
 pub record ExchangeOf (writes : Writer) (writesAs : KindWriter) (reads : ReplyReader) : Type 0 where
   pub calls : CallsKept writes
   -- a call that a message can ask for has no arguments but those that its kind names
-  pub plain : (k : Kind) (arguments : List ℕ) → named (callOf k arguments) ≡ callOf k arguments
+  pub plain : (k : Kind) (arguments : List ℕ) → canonical (callOf k arguments) ≡ callOf k arguments
   pub by-kind : KindsWritten writes writesAs
   pub messages : MessagesKept writes
   pub kind-byte : (m : List ℕ) → isUnknown (getD m 1 0) ≡ false → OfKind (getD m 1 0) (whole m)

@@ -1,5 +1,5 @@
--- Demand 1: for each field of `Obeys`, `TurnObeys` and `RunObeys` a wrong answer or turn that this field rules out and
--- no other does, and the numbers that it allows, computed.
+-- Demand 1: for each field of `Obeys`, `TurnObeys`, `RunObeys` and `TallyObeys` a wrong answer, turn or tally that this
+-- field rules out and no other does, the numbers that it allows, and the least that it asks for. Computed.
 use Prim.Native.Nat.{ℕ, _<_}
 use mathlib.Core.Path.{_≡_, refl, ap}
 use mathlib.Core.Bool.{true, false, false≢true, true≢false}
@@ -8,7 +8,7 @@ use mathlib.Core.Logic.{_≢_}
 use native.Mathlib.Omega.{arith}
 use lib.ListN.{length, getD, set, replicate}
 use lib.Dec.{eqb}
-use Rattle.tables.specs.Lists.{allBelow, countBelow}
+use Rattle.tables.specs.Lists.{count, allBelow, countBelow}
 use Rattle.tables.specs.Numbers.{accepted, shortBuffer}
 use Rattle.tables.specs.Model.{absent, freshPage, freshTables, pageAt}
 use Rattle.tables.specs.Changes.{created, after}
@@ -18,9 +18,10 @@ use Rattle.steps.specs.Effects.{State}
 use Rattle.messages.specs.declared.Answered.{Answered}
 use Rattle.messages.specs.declared.Tally.{Tally}
 use Rattle.messages.specs.Replies.{upTo}
-use Rattle.messages.specs.Run.{whole, Turn, Run}
-use Rattle.theorems.specs.Demand1.{allowed, refusalIn, Loan, refusedOnce, Obeys, TurnObeys, next, TurnsObey}
-use Rattle.theorems.specs.Witness3.{But, fastBytes, slowBytes, start, made}
+use Rattle.messages.specs.Run.{whole, Turn, Run, run, replies, tally}
+use Rattle.theorems.specs.Demand1.{allowed, refusalIn, Loan, refusedOnce, Obeys, TurnObeys, next, TurnsObey, RunObeys}
+use Rattle.theorems.specs.Demand1.{isRefused, laidAccepted, TallyObeys, Demand1}
+use Rattle.theorems.specs.Witness3.{But, file₃, fastBytes, slowBytes, start, broken, made, first, second}
 
 -- ---- one message
 
@@ -87,7 +88,8 @@ module _ (w : Tried) where
         len-fixed = k len-fixed;
       }
 
-pub each-part : (X : Part → Type 0) → X in-table → X short → X unchanged → X none-laid → X tallied → X fixed → X len-fixed → (i : Part) → X i
+pub each-part : (X : Part → Type 0) → X in-table → X short → X unchanged → X none-laid → X tallied → X fixed
+    → X len-fixed → (i : Part) → X i
 each-part X a b c d e f g in-table = a
 each-part X a b c d e f g short = b
 each-part X a b c d e f g unchanged = c
@@ -97,8 +99,8 @@ each-part X a b c d e f g fixed = f
 each-part X a b c d e f g len-fixed = g
 
 -- A read of an absent page: 9. The reply buffer has 70 bytes of 0xAA, and seven messages came before.
-abbrev pub slip : List ℕ
-slip = replicate 70 0xAA
+abbrev pub buffer₇₀ : List ℕ
+buffer₇₀ = replicate 70 0xAA
 
 abbrev pub tallyOf : ℕ → ℕ → ℕ → Tally
 tallyOf m n laid = record { messages = m; refusals = n; laid = laid }
@@ -115,21 +117,22 @@ tried out r s out′ laid =
     }
 
 abbrev pub nine : List ℕ
-nine = over (0 ∷ 4 ∷ 1 ∷ 9 ∷ 0 ∷ 0 ∷ []) slip
+nine = over (0 ∷ 4 ∷ 1 ∷ 9 ∷ 0 ∷ 0 ∷ []) buffer₇₀
 
 abbrev pub wrongAnswer : Part → Tried
 -- a number that is for making tables
-wrongAnswer in-table = tried slip (told 19 6 0) start (over (0 ∷ 4 ∷ 1 ∷ 19 ∷ 0 ∷ 0 ∷ []) slip) 5
+wrongAnswer in-table = tried buffer₇₀ (told 19 6 0) start (over (0 ∷ 4 ∷ 1 ∷ 19 ∷ 0 ∷ 0 ∷ []) buffer₇₀) 5
 -- 9 where 18 comes first
 wrongAnswer short = tried [] (told 9 0 0) start [] 5
 -- a byte of the fast store changed
-wrongAnswer unchanged = tried slip (told 9 6 0) (record { tables = start .tables; fast = set fastBytes 0 0; slow = slowBytes }) nine 5
+wrongAnswer unchanged = tried buffer₇₀ (told 9 6 0)
+    (record { tables = start .tables; fast = set fastBytes 0 0; slow = slowBytes }) nine 5
 -- bytes laid: told, or tallied, or in the reply
-wrongAnswer none-laid = tried slip (told 9 6 64) start nine 5
-wrongAnswer tallied = tried slip (told 9 6 0) start nine 69
-wrongAnswer fixed = tried slip (told 9 6 0) start (over (0 ∷ 4 ∷ 1 ∷ 9 ∷ 0 ∷ 64 ∷ []) slip) 5
+wrongAnswer none-laid = tried buffer₇₀ (told 9 6 64) start nine 5
+wrongAnswer tallied = tried buffer₇₀ (told 9 6 0) start nine 69
+wrongAnswer fixed = tried buffer₇₀ (told 9 6 0) start (over (0 ∷ 4 ∷ 1 ∷ 9 ∷ 0 ∷ 64 ∷ []) buffer₇₀) 5
 -- the whole buffer told to be the reply
-wrongAnswer len-fixed = tried slip (told 9 70 0) start nine 5
+wrongAnswer len-fixed = tried buffer₇₀ (told 9 70 0) start nine 5
 
 abbrev pub PartRow : Part → Part → Type 0
 PartRow i j = But (eqb (partPlace i) (partPlace j)) (Tells (wrongAnswer i) j)
@@ -137,25 +140,32 @@ PartRow i j = But (eqb (partPlace i) (partPlace j)) (Tells (wrongAnswer i) j)
 is-nine : 9 ≢ accepted
 is-nine e = omega arith
 
-roomy : {A : Type 0} → length slip < 70 → A
+roomy : {A : Type 0} → length buffer₇₀ < 70 → A
 roomy h = absurd (omega arith)
 
 pub part-alone : (i j : Part) → PartRow i j
 unfolding upTo freshTables
-part-alone in-table = each-part (PartRow in-table) false≢true roomy (λ _. refl) (λ _. refl) (λ _. refl) (λ _. refl) (λ _. refl)
+part-alone in-table = each-part (PartRow in-table) false≢true roomy (λ _. refl) (λ _. refl) (λ _. refl) (λ _. refl)
+    (λ _. refl)
 part-alone short =
-    each-part (PartRow short) refl (λ k. omega (arith, k (omega arith))) (λ _. refl) (λ _. refl) (λ _. refl) (λ _. refl) (λ _. refl)
+    each-part (PartRow short) refl (λ k. omega (arith, k (omega arith))) (λ _. refl) (λ _. refl) (λ _. refl) (λ _. refl)
+    (λ _. refl)
 part-alone unchanged =
-    each-part (PartRow unchanged) refl roomy (λ k. true≢false (ap (λ (s : State). eqb (getD (s .fast) 0 1) 0) (k is-nine))) (λ _. refl) (λ _. refl)
+    each-part (PartRow unchanged) refl roomy (λ k. true≢false
+    (ap (λ (s : State). eqb (getD (s .fast) 0 1) 0) (k is-nine))) (λ _. refl) (λ _. refl)
     (λ _. refl) (λ _. refl)
-part-alone none-laid = each-part (PartRow none-laid) refl roomy (λ _. refl) (λ k. omega (arith, k is-nine)) (λ _. refl) (λ _. refl) (λ _. refl)
+part-alone none-laid = each-part (PartRow none-laid) refl roomy (λ _. refl) (λ k. omega (arith, k is-nine)) (λ _. refl)
+    (λ _. refl) (λ _. refl)
 part-alone tallied =
-    each-part (PartRow tallied) refl roomy (λ _. refl) (λ _. refl) (λ k. false≢true (ap (λ (n : Tally). eqb (n .laid) 5) (k is-nine))) (λ _. refl) (λ _. refl)
+    each-part (PartRow tallied) refl roomy (λ _. refl) (λ _. refl)
+    (λ k. false≢true (ap (λ (n : Tally). eqb (n .laid) 5) (k is-nine))) (λ _. refl) (λ _. refl)
 part-alone fixed =
-    each-part (PartRow fixed) refl roomy (λ _. refl) (λ _. refl) (λ _. refl) (λ k. false≢true (ap (λ (l : List ℕ). eqb (getD l 5 0) 0) (k is-nine)))
+    each-part (PartRow fixed) refl roomy (λ _. refl) (λ _. refl) (λ _. refl)
+    (λ k. false≢true (ap (λ (l : List ℕ). eqb (getD l 5 0) 0) (k is-nine)))
     (λ _. refl)
 part-alone len-fixed =
-    each-part (PartRow len-fixed) refl roomy (λ _. refl) (λ _. refl) (λ _. refl) (λ _. refl) (λ k. omega (arith, k is-nine))
+    each-part (PartRow len-fixed) refl roomy (λ _. refl) (λ _. refl) (λ _. refl) (λ _. refl)
+    (λ k. omega (arith, k is-nine))
 
 -- ---- the turns of a run
 
@@ -197,9 +207,15 @@ module _ (w : Taken) where
   turn-part-of o turn-fixed = o .fixed
 
   pub of-turn-parts : ((i : TurnPart) → TurnTells i) → TurnObeys (w .room) (w .turn) (w .reply) (w .after)
-  of-turn-parts k = record { in-table = k turn-in-table; short = k turn-short; unchanged = k turn-unchanged; fixed = k turn-fixed }
+  of-turn-parts k = record {
+    in-table = k turn-in-table;
+    short = k turn-short;
+    unchanged = k turn-unchanged;
+    fixed = k turn-fixed;
+  }
 
-pub each-turn-part : (X : TurnPart → Type 0) → X turn-in-table → X turn-short → X turn-unchanged → X turn-fixed → (i : TurnPart) → X i
+pub each-turn-part : (X : TurnPart → Type 0) → X turn-in-table → X turn-short → X turn-unchanged → X turn-fixed
+    → (i : TurnPart) → X i
 each-turn-part X a b c d turn-in-table = a
 each-turn-part X a b c d turn-short = b
 each-turn-part X a b c d turn-unchanged = c
@@ -208,7 +224,17 @@ each-turn-part X a b c d turn-fixed = d
 -- a read of an absent page, answered with n
 abbrev pub taken : ℕ → ℕ → List ℕ → State → Taken
 taken room n bytes s =
-    record { room = room; turn = record { found = start; sent = whole (1 ∷ 4 ∷ 4 ∷ 5 ∷ 0 ∷ 1 ∷ []); outcome = refuse n }; reply = bytes; after = s }
+    record {
+      room = room;
+      turn = record {
+        found = start;
+        sent = whole (1 ∷ 4 ∷ 4 ∷ 5 ∷ 0 ∷ 1
+            ∷ []);
+        outcome = refuse n;
+      };
+      reply = bytes;
+      after = s;
+    }
 
 abbrev pub wrongTurn : TurnPart → Taken
 wrongTurn turn-in-table = taken 70 19 (0 ∷ 4 ∷ 1 ∷ 19 ∷ 0 ∷ 0 ∷ []) start
@@ -223,8 +249,10 @@ TurnRow i j = But (eqb (turnPlace i) (turnPlace j)) (TurnTells (wrongTurn i) j)
 
 pub turn-alone : (i j : TurnPart) → TurnRow i j
 unfolding freshTables freshPage created after
-turn-alone turn-in-table = each-turn-part (TurnRow turn-in-table) false≢true (λ h. absurd (omega arith)) (λ _. refl) (λ _. refl)
-turn-alone turn-short = each-turn-part (TurnRow turn-short) refl (λ k. omega (arith, k (omega arith))) (λ _. refl) (λ _. refl)
+turn-alone turn-in-table = each-turn-part (TurnRow turn-in-table) false≢true (λ h. absurd (omega arith)) (λ _. refl)
+    (λ _. refl)
+turn-alone turn-short = each-turn-part (TurnRow turn-short) refl (λ k. omega (arith, k (omega arith))) (λ _. refl)
+    (λ _. refl)
 turn-alone turn-unchanged =
     each-turn-part (TurnRow turn-unchanged) refl (λ h. absurd (omega arith))
     (λ k. false≢true (ap (λ (s : State). absent (pageAt (s .tables) 5)) (k is-nine))) (λ _. refl)
@@ -236,7 +264,8 @@ turn-alone turn-fixed =
 abbrev pub strayed : Run
 strayed = record { turns = []; final = made }
 
-pub starts-alone : (next (strayed .turns) (strayed .final) ≡ start → ⊥) × TurnsObey 70 (strayed .turns) [] (strayed .final)
+pub starts-alone : (next (strayed .turns) (strayed .final) ≡ start → ⊥)
+    × TurnsObey 70 (strayed .turns) [] (strayed .final)
 unfolding freshTables freshPage created after
 starts-alone = (λ e. false≢true (ap (λ (s : State). absent (pageAt (s .tables) 5)) e), tt)
 
@@ -247,6 +276,42 @@ misnumbered = record { turns = wrongTurn turn-in-table .turn ∷ []; final = sta
 pub turns-alone : (next (misnumbered .turns) (misnumbered .final) ≡ start)
     × (TurnsObey 70 (misnumbered .turns) (wrongTurn turn-in-table .reply ∷ []) (misnumbered .final) → ⊥)
 turns-alone = (refl, λ k. false≢true (k .0 .in-table))
+
+-- on broken tables, with a buffer of no byte
+pub runs-at-0 : Demand1 → RunObeys 0 broken (run 0 file₃ broken) (replies 0 (run 0 file₃ broken .turns))
+runs-at-0 k = k .runs 0 file₃ broken
+
+-- ---- the tally
+
+-- of a create and of a read that is refused, after seven messages
+abbrev pub two : List Turn
+two = first ∷ second 10 ∷ []
+
+-- a message that is not counted; a refusal that is not; bytes laid that were not laid
+pub messages-alone : let n = tallyOf 8 3 5 in
+    (TallyObeys two (tallyOf 7 2 5) n → ⊥) × (n .refusals ≡ upTo 2 (count isRefused two))
+    × (n .laid ≡ upTo 5 (laidAccepted two))
+unfolding upTo count
+messages-alone = (λ k. omega (arith, k .messages-counted), refl, refl)
+
+pub refusals-alone : let n = tallyOf 9 2 5 in
+    (TallyObeys two (tallyOf 7 2 5) n → ⊥) × (n .messages ≡ upTo 7 (length two))
+    × (n .laid ≡ upTo 5 (laidAccepted two))
+unfolding upTo count
+refusals-alone = (λ k. omega (arith, k .refusals-counted), refl, refl)
+
+pub laid-alone : let n = tallyOf 9 3 69 in
+    (TallyObeys two (tallyOf 7 2 5) n → ⊥) × (n .messages ≡ upTo 7 (length two))
+    × (n .refusals ≡ upTo 2 (count isRefused two))
+unfolding upTo count
+laid-alone = (λ k. omega (arith, k .laid-counted), refl, refl)
+
+-- at the limit of each number, on broken tables, with a buffer of no byte
+pub tally-at-limit : Demand1
+    → let n = tallyOf 4294967295 4294967295 4294967295 in
+    TallyObeys (run 0 file₃ broken .turns) n (tally (run 0 file₃ broken .turns) n)
+tally-at-limit k =
+    k .tallies 0 file₃ broken (tallyOf 4294967295 4294967295 4294967295) (omega arith, omega arith, omega arith)
 
 -- ---- the numbers
 

@@ -140,15 +140,18 @@ module _ (p s room : ℕ) (file : List ℕ) (r : Run) where
         slow-kept = k slow-kept;
         fast-long = k fast-long;
         slow-long = k slow-long;
-        pages = λ q h. go (page q) (slot q) (k standing q h) (k owners q h) (k rights q h) (k some-recent q h) (k holds q h);
+        pages = λ q h. go (page q) (slot q) (k standing q h) (k owners q h) (k rights q h) (k some-recent q h)
+            (k holds q h);
       }
     where
-      go : (g : Page) (x : Slot) → Standing g x → Owners g x → Rights g x → Recent g x → Holding (joined (r .final)) g x → AllSame g x
+      go : (g : Page) (x : Slot) → Standing g x → Owners g x → Rights g x → Recent g x → Holding (joined (r .final)) g x
+          → AllSame g x
       go g gone e o i c h = e
       go g (here b) e o i c h = (e, record { owners = o; rights = i; some-recent = c; holds = h })
 
 -- every field in turn
-pub each : (X : Field → Type 0) → X messages → X answers → X elevens-due → X fast-kept → X slow-kept → X fast-long → X slow-long → X standing
+pub each : (X : Field → Type 0) → X messages → X answers → X elevens-due → X fast-kept → X slow-kept → X fast-long
+    → X slow-long → X standing
     → X owners → X rights → X some-recent → X holds → (i : Field) → X i
 each X a b c d e f g h i j k l messages = a
 each X a b c d e f g h i j k l answers = b
@@ -175,6 +178,10 @@ slowBytes = replicate 64 0xDD
 
 abbrev pub start : State
 start = record { tables = freshTables 1 1; fast = fastBytes; slow = slowBytes }
+
+-- P is above 127, and no store fits: no call is accepted
+abbrev pub broken : State
+broken = record { tables = freshTables 128 0; fast = fastBytes; slow = slowBytes }
 
 -- a state with P, S and pages 5 and 6 as given
 abbrev pub with56 : ℕ → ℕ → Page → Page → List ℕ → List ℕ → State
@@ -296,37 +303,48 @@ abbrev pub Row : Field → Field → Type 0
 Row i j = But (eqb (place i) (place j)) (Says 1 1 70 file₃ (wrong i) j)
 
 pub alone : (i j : Field) → Row i j
-unfolding messagesOf split flatAnswers flatAfter flatEnd runAnswers dues reactAs reactTo parse names kinds code among argument callOf reply count created freshPage freshTables after part
+unfolding messagesOf split flatAnswers flatAfter flatEnd runAnswers dues reactAs reactTo parse names kinds code among
+    argument callOf reply count created freshPage freshTables after part
 alone messages =
     each (Row messages) (λ e. false≢true (ap (λ (l : List Sent). eqb (length l) 2) e)) refl refl refl refl refl refl
     stands₃ owners₃ rights₃ recent₃ (holds₃ _)
 alone answers =
-    each (Row answers) refl (λ e. false≢true (ap (λ (l : List Answer). eqb (getD (map (λ (x : Answer). x .number) l) 1 0) 9) e)) refl
+    each (Row answers) refl (λ e. false≢true (ap
+    (λ (l : List Answer). eqb (getD (map (λ (x : Answer). x .number) l) 1 0) 9) e)) refl
     refl refl refl refl stands₃ owners₃ rights₃ recent₃ (holds₃ _)
 alone elevens-due =
     each (Row elevens-due) refl refl (λ e. true≢false (ap (λ (l : List Bool). getD l 1 false) e)) refl refl refl refl
     stands₃ owners₃ rights₃ recent₃ (holds₃ _)
-alone fast-kept = each (Row fast-kept) refl refl refl (λ e. omega arith) refl refl refl stands₃ owners₃ rights₃ recent₃ (holds₃ _)
-alone slow-kept = each (Row slow-kept) refl refl refl refl (λ e. omega arith) refl refl stands₃ owners₃ rights₃ recent₃ (holds₃ _)
-alone fast-long = each (Row fast-long) refl refl refl refl refl (λ e. omega arith) refl stands₃ owners₃ rights₃ recent₃ (holds₃ _)
-alone slow-long = each (Row slow-long) refl refl refl refl refl refl (λ e. omega arith) stands₃ owners₃ rights₃ recent₃ (holds₃ _)
+alone fast-kept = each (Row fast-kept) refl refl refl (λ e. omega arith) refl refl refl stands₃ owners₃ rights₃ recent₃
+    (holds₃ _)
+alone slow-kept = each (Row slow-kept) refl refl refl refl (λ e. omega arith) refl refl stands₃ owners₃ rights₃ recent₃
+    (holds₃ _)
+alone fast-long = each (Row fast-long) refl refl refl refl refl (λ e. omega arith) refl stands₃ owners₃ rights₃ recent₃
+    (holds₃ _)
+alone slow-long = each (Row slow-long) refl refl refl refl refl refl (λ e. omega arith) stands₃ owners₃ rights₃ recent₃
+    (holds₃ _)
 alone standing =
     each (Row standing) refl refl refl refl refl refl refl (λ h. false≢true (h 6 (omega arith)))
     (on Owners (created 3) (created 3) refl tt tt) (on Rights (created 3) (created 3) refl tt tt)
-    (on Recent (created 3) (created 3) (omega arith) tt tt) (on (Holding _) (created 3) (created 3) (λ _. refl, tt) tt tt)
+    (on Recent (created 3) (created 3) (omega arith) tt tt)
+    (on (Holding _) (created 3) (created 3) (λ _. refl, tt) tt tt)
 alone owners =
     each (Row owners) refl refl refl refl refl refl refl (on Standing foreign freshPage refl refl refl)
     (λ h. false≢true (ap (λ (n : ℕ). eqb n 3) (h 5 (omega arith)))) (on Rights foreign freshPage refl tt tt)
     (on Recent foreign freshPage (omega arith) tt tt) (on (Holding _) foreign freshPage (λ _. refl, tt) tt tt)
 alone rights =
-    each (Row rights) refl refl refl refl refl refl refl (on Standing closed freshPage refl refl refl) (on Owners closed freshPage refl tt tt)
-    (λ h. false≢true (ap (λ (l : List ℕ). eqb (getD l 3 0) 2) (h 5 (omega arith)))) (on Recent closed freshPage (omega arith) tt tt)
+    each (Row rights) refl refl refl refl refl refl refl (on Standing closed freshPage refl refl refl)
+    (on Owners closed freshPage refl tt tt)
+    (λ h. false≢true (ap (λ (l : List ℕ). eqb (getD l 3 0) 2) (h 5 (omega arith))))
+    (on Recent closed freshPage (omega arith) tt tt)
     (on (Holding _) closed freshPage (λ _. refl, tt) tt tt)
 alone some-recent =
     each (Row some-recent) refl refl refl refl refl refl refl (on Standing outdated freshPage refl refl refl)
-    (on Owners outdated freshPage refl tt tt) (on Rights outdated freshPage refl tt tt) (λ h. omega (arith, h 5 (omega arith)))
+    (on Owners outdated freshPage refl tt tt) (on Rights outdated freshPage refl tt tt)
+    (λ h. omega (arith, h 5 (omega arith)))
     (on (Holding _) outdated freshPage (λ e. absurd (false≢true e), tt) tt tt)
 alone holds =
     each (Row holds) refl refl refl refl refl refl refl (on Standing uncleared freshPage refl refl refl)
-    (on Owners uncleared freshPage refl tt tt) (on Rights uncleared freshPage refl tt tt) (on Recent uncleared freshPage (omega arith) tt tt)
+    (on Owners uncleared freshPage refl tt tt) (on Rights uncleared freshPage refl tt tt)
+    (on Recent uncleared freshPage (omega arith) tt tt)
     (λ h. false≢true (ap (λ (l : List ℕ). eqb (getD l 0 1) 0) (h 5 (omega arith) .0 refl)))

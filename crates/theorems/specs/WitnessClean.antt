@@ -1,8 +1,8 @@
--- Request [2]: for each field of `LeftClean` a wrong run that this field rules out and no other does, and of
--- `fresh-blank` its border, computed.
+-- Request [2]: for each field of `LeftClean` a wrong run that this field rules out and no other does, of `runs` the
+-- least that it asks for, and of `fresh-blank` its border. Computed.
 use Prim.Native.Nat.{ℕ, zero, suc, _*_, _≤_, _<_}
 use mathlib.Core.Path.{_≡_, refl, ap}
-use mathlib.Core.Bool.{false, false≢true}
+use mathlib.Core.Bool.{false≢true}
 use mathlib.Core.List.{List, [], _∷_, _++_}
 use native.Mathlib.Omega.{arith}
 use lib.ListN.{length, getD, set, replicate, length-replicate}
@@ -12,9 +12,9 @@ use Rattle.tables.specs.Model.{freshPage, freshTables}
 use Rattle.tables.specs.Rules.{uses, holders}
 use Rattle.steps.specs.Stores.{part, zeros}
 use Rattle.steps.specs.Effects.{State}
-use Rattle.messages.specs.Run.{Run}
+use Rattle.messages.specs.Run.{Run, run}
 use Rattle.theorems.specs.Clean.{Cleared, Blank, NoneHeld, LeftClean, Clean}
-use Rattle.theorems.specs.Witness3.{But, fastBytes}
+use Rattle.theorems.specs.Witness3.{But, file₃, fastBytes, broken}
 
 -- the fields of `LeftClean`
 pub data Part : Type 0 where
@@ -98,6 +98,12 @@ alone stays-blank =
 alone card-cleared =
     each (Row card-cleared) (both _ (λ _. refl) (λ _. refl)) (λ _. slow-one _ (λ _. refl))
     (λ k. let e : _≡_ {A = ℕ} 65 64 = ap (λ (l : List ℕ). length l) (k refl refl start-blank none-held) in omega arith)
+
+-- ---- `runs`
+
+-- on broken tables, with a buffer of no byte
+pub clean-at-0 : Clean → LeftClean broken (run 0 file₃ broken)
+clean-at-0 k = k .runs 0 file₃ broken
 
 -- ---- `fresh-blank`
 

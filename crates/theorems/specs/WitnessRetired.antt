@@ -1,6 +1,6 @@
 -- Request [5]: for each field of `KeepsRetired` a wrong run that this field rules out and no other does; for each part
--- of what an accepted retire leaves a wrong one that `retire-alone` rules out; of `one-of-three` its border and why it
--- asks for sound tables. Computed.
+-- of what an accepted retire leaves a wrong one that `retire-alone` rules out; the least that `runs` and `retire-alone`
+-- ask for; of `one-of-three` its border and why it asks for sound tables. Computed.
 use Prim.Native.Nat.{ℕ, _+_}
 use mathlib.Core.Path.{_≡_, refl, sym, ap}
 use mathlib.Core.Bool.{Bool, true, false, _||_, false≢true, true≢false, or-false}
@@ -11,48 +11,52 @@ use lib.Dec.{eqb}
 use Rattle.tables.specs.declared.Tables.{Tables}
 use Rattle.tables.specs.Lists.{all, count, allBelow, countBelow}
 use Rattle.tables.specs.Model.{freshPage, freshTables, retiredAt}
-use Rattle.tables.specs.Rules.{uses, holders, free, standingRule, absentRule, pageRule, alone, sizesRule, pagesRule, sound}
+use Rattle.tables.specs.Rules.{uses, holders, free, standingRule, absentRule, pageRule, noneShared, sizesRule, pagesRule, sound}
 use Rattle.tables.specs.Search.{inCopies, inPages}
 use Rattle.tables.specs.Register.{registerRule, vacated, occupied}
 use Rattle.tables.specs.Changes.{created, withCopies, newCopy, changeTo, withRetired, after}
+use Rattle.steps.specs.declared.Kind.the-variants.{Retire}
+use Rattle.steps.specs.declared.Call.{Call}
+use Rattle.steps.specs.Kinds.{names, code, argument, callOf}
 use Rattle.steps.specs.Stores.{part}
-use Rattle.steps.specs.Steps.{refuse}
-use Rattle.steps.specs.Effects.{bit, State, Result}
+use Rattle.steps.specs.Steps.{refuse, accept}
+use Rattle.steps.specs.Effects.{bit, State, Result, step}
 use Rattle.messages.specs.Messages.{parse}
-use Rattle.messages.specs.Run.{whole, Turn, Run}
+use Rattle.messages.specs.Run.{whole, Turn, Run, run}
 use Rattle.theorems.specs.Clean.{isHeld}
 use Rattle.theorems.specs.Retired.{threeNumbers, everRetired, NeverAgain, onlyRetired, KeepsRetired, RetiredFrames}
-use Rattle.theorems.specs.Witness3.{But, fastBytes, slowBytes}
+use Rattle.theorems.specs.Witness3.{But, file₃, fastBytes, slowBytes, broken}
 
 -- the fields of `KeepsRetired`
 pub data Part : Type 0 where
   add-up : Part
-  retired-told : Part
+  retired-exactly : Part
   never-again : Part
 
 abbrev pub place : Part → ℕ
 place add-up = 0
-place retired-told = 1
+place retired-exactly = 1
 place never-again = 2
 
 module _ (s : State) (r : Run) where
   abbrev pub Says : Part → Type 0
   Says add-up = sound (s .tables) ≡ true → threeNumbers (r .final .tables) ≡ s .tables .shared .p + s .tables .shared .s
-  Says retired-told = (f : ℕ) → retiredAt (r .final .tables) f ≡ (retiredAt (s .tables) f || everRetired (r .turns) f)
+  Says retired-exactly = (f : ℕ) → retiredAt (r .final .tables) f
+      ≡ (retiredAt (s .tables) f || everRetired (r .turns) f)
   Says never-again = sound (s .tables) ≡ true → (f : ℕ) → NeverAgain f (r .turns) (r .final)
 
   -- they are what `KeepsRetired` says
   pub part-of : KeepsRetired s r → (i : Part) → Says i
   part-of k add-up = k .add-up
-  part-of k retired-told = k .retired-told
+  part-of k retired-exactly = k .retired-exactly
   part-of k never-again = k .never-again
 
   pub of-parts : ((i : Part) → Says i) → KeepsRetired s r
-  of-parts k = record { add-up = k add-up; retired-told = k retired-told; never-again = k never-again }
+  of-parts k = record { add-up = k add-up; retired-exactly = k retired-exactly; never-again = k never-again }
 
-pub each : (X : Part → Type 0) → X add-up → X retired-told → X never-again → (i : Part) → X i
+pub each : (X : Part → Type 0) → X add-up → X retired-exactly → X never-again → (i : Part) → X i
 each X a b c add-up = a
-each X a b c retired-told = b
+each X a b c retired-exactly = b
 each X a b c never-again = c
 
 -- P = S = 1, no page, and frame 1, the last one, retired
@@ -73,7 +77,7 @@ abbrev pub wrong : Part → Run
 -- a frame more than there were
 wrong add-up = leaving [] (worn 2) slowBytes
 -- the frame taken back
-wrong retired-told = leaving [] (freshTables 1 1) slowBytes
+wrong retired-exactly = leaving [] (freshTables 1 1) slowBytes
 -- another byte in the retired frame
 wrong never-again = leaving (turnedBack ∷ []) (worn 1) (set slowBytes 0 0)
 
@@ -81,17 +85,23 @@ abbrev pub Row : Part → Part → Type 0
 Row i j = But (eqb (place i) (place j)) (Says startWorn (wrong i) j)
 
 pub worn-sound : sound (worn 1) ≡ true
-unfolding sound sizesRule pagesRule alone allBelow all count holders uses pageRule standingRule absentRule registerRule inPages inCopies freshTables freshPage
+unfolding sound sizesRule pagesRule noneShared allBelow all count holders uses pageRule standingRule absentRule
+    registerRule
+    inPages inCopies freshTables freshPage
 worn-sound = refl
 
 pub alone-ruled : (i j : Part) → Row i j
 unfolding freshTables freshPage free holders uses count countBelow part parse
 alone-ruled add-up =
     each (Row add-up) (λ k. omega (arith, k worn-sound)) (λ f. sym (or-false (retiredAt (worn 1) f))) (λ _ f _. refl)
-alone-ruled retired-told = each (Row retired-told) (λ _. refl) (λ k. false≢true (k 1)) (λ _ f _. refl)
+alone-ruled retired-exactly = each (Row retired-exactly) (λ _. refl) (λ k. false≢true (k 1)) (λ _ f _. refl)
 alone-ruled never-again =
     each (Row never-again) (λ _. refl) (λ f. sym (or-false (retiredAt (worn 1) f)))
     (λ k. true≢false (ap (λ (l : List ℕ). eqb (getD l 0 1) 0) (k worn-sound 1 .0 refl .2)))
+
+-- `runs` on broken tables, with a buffer of no byte
+pub retired-at-0 : RetiredFrames → KeepsRetired broken (run 0 file₃ broken)
+retired-at-0 k = k .runs 0 file₃ broken
 
 -- ---- `retire-alone`: what an accepted retire of frame 0 leaves, with one part wrong
 
@@ -123,6 +133,18 @@ not-laid e = omega (arith, ap (λ (r : Result). r .laid) e)
 
 pub not-told : leftWith fastBytes true 0 (7 ∷ []) ≡ onlyFirst → ⊥
 not-told e = omega (arith, ap (λ (r : Result). getD (r .data-out) 0 0) e)
+
+-- a retire on any tables, and of a frame that is retired already
+abbrev pub retire : ℕ → Call
+retire f = callOf Retire (f ∷ [])
+
+pub retire-on-broken : RetiredFrames → (r : Result) → step broken (retire 0) [] ≡ accept r → r ≡ onlyRetired broken 0
+unfolding names code argument callOf
+retire-on-broken k r = k .retire-alone broken (retire 0) [] r refl
+
+pub retire-again : RetiredFrames → (r : Result) → step startWorn (retire 1) [] ≡ accept r → r ≡ onlyRetired startWorn 1
+unfolding names code argument callOf
+retire-again k r = k .retire-alone startWorn (retire 1) [] r refl
 
 -- ---- `one-of-three`
 

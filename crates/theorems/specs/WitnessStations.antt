@@ -23,7 +23,7 @@ use Rattle.messages.specs.Replies.{replyIn}
 use Rattle.messages.specs.Run.{cut, whole, answer}
 use Rattle.stations.specs.declared.Reading.{Reading}
 use Rattle.stations.specs.declared.Reading.the-variants as Reading
-use Rattle.stations.specs.Writer.{messageOf, named, written, writtenAs}
+use Rattle.stations.specs.Writer.{messageOf, canonical, written, writtenAs}
 use Rattle.stations.specs.Reader.{isReply, readReply}
 use Rattle.stations.specs.Promises.{Wrote}
 use Rattle.theorems.specs.Stations.{CallKept, CallsKept, KindsWritten, MessageKept, MessagesKept, OfKind, ReplyTold, RepliesTold, replyAt, RepliesDiffer, PastUnread, Exchange}
@@ -126,7 +126,7 @@ sameCall c d =
     && (eqb (c .copy) (d .copy) && eqb (c .frame) (d .frame)))))))
 
 abbrev pub strict : ℕ → Call → List ℕ → Outcome (List ℕ)
-strict room c bs = cond (sameCall c (named c)) (written room c bs) (refuse 7)
+strict room c bs = cond (sameCall c (canonical c)) (written room c bs) (refuse 7)
 
 self-same : (c : Call) → sameCall c c ≡ true
 self-same c =
@@ -165,7 +165,7 @@ asked-made m c =
 -- of such a call it makes what the writer makes
 strict-made : Exchange → (room : ℕ) (c : Call) (bs : List ℕ) → Made c → strict room c bs ≡ written room c bs
 strict-made x room c bs m =
-    let q : named c ≡ c = ap named (m .is) ∙ x .plain (m .kind) (m .arguments) ∙ sym (m .is) in
+    let q : canonical c ≡ c = ap canonical (m .is) ∙ x .plain (m .kind) (m .arguments) ∙ sym (m .is) in
     ap (λ (b : Bool). cond b (written room c bs) (refuse 7)) (ap (sameCall c) q ∙ self-same c)
 
 pub calls-alone : Exchange → (CallsKept strict → ⊥) × KindsWritten strict writtenAs × MessagesKept strict
@@ -271,6 +271,6 @@ unfolding readReply nextAt part isReply formed eachIs kinds tells
 differ-at-255 x = x .differ 1 mostLaid mostLaid 0 65535 6 0 6 0 low-laid low-laid refl refl refl
 
 -- an argument that the kind does not name is no part of the call that is read: `plain` says where there is none
-pub idle-dropped : named idle ≡ idle → ⊥
+pub idle-dropped : canonical idle ≡ idle → ⊥
 unfolding names code among argument callOf value values
 idle-dropped e = omega (arith, ap (λ (c : Call). c .frame) e)

@@ -1,5 +1,5 @@
 // For the benchmark: work on tables that are taken from lent bytes once, so that what is measured is
-// the kernel and not the bytes.
+// the kernel and not the bytes. For the tests: a read as a part of a lent store.
 use embed::put_back;
 use embed::tables_of;
 use messages::Next;
@@ -7,13 +7,17 @@ use messages::Tally;
 use messages::answer;
 use messages::message_at;
 use messages::tally_after;
+use steps::read;
 use tables::Tables;
 ghost use mathlib.Core.Path.{_≡_};
+ghost use mathlib.Core.List.{[]};
+ghost use Prim.Native.Nat.{_+_, _*_, _≤_};
 ghost use lib.ListN.{length};
+ghost use Rattle.steps.specs.Effects.{step, dataOf, readCall};
 ghost use Rattle.steps.specs.Promises.{stateOf, lent};
 ghost use Rattle.messages.specs.Run.{run};
 ghost use Rattle.embed.specs.Exports.{tablesOf, lentState};
-ghost use Rattle.timing.specs.Timed.{soundTimes, AnswersEnded, AnsweredAll};
+ghost use Rattle.timing.specs.Timed.{soundTimes, AnswersEnded, AnsweredAll, firstNumber};
 
 // What is left after all messages of a file.
 struct Left {
@@ -101,4 +105,43 @@ pub extern "C" fn reel_sound(tables: &[u8], times: u32) -> u32
         i += 1;
     }
     held
+}
+
+// In a function of its own, since a parameter of type u8 is known to be below 256 and an element of a slice is not.
+fn length_and_first(len: usize, first: u8) -> u32
+    requires { ⌜ len ≤ 64 ⌝ }
+    ensures { λ r. ⌜ r ≡ 256 * len + first ⌝ }
+{
+    256 * len as u32 + first as u32
+}
+
+// How many bytes there are and the first of them, in one; 0 where there are none.
+fn first_number(bytes: &[u8]) -> u32
+    requires { ⌜ length (now bytes) ≤ 64 ⌝ }
+    ensures { λ r. ⌜ r ≡ firstNumber (now (bytes .entry)) ⌝ }
+{
+    if bytes.len() == 0 {
+        return 0;
+    }
+    length_and_first(bytes.len(), bytes[0])
+}
+
+// What a read gives as a part of a lent store: 256 times its length and its first byte, in one; 0 where it is refused.
+#[no_mangle]
+pub extern "C" fn reel_read_first<'a>(
+    tables: &[u8],
+    fast: &'a [u8],
+    slow: &'a [u8],
+    station: u8,
+    page: u8,
+    offset: u8,
+    count: u8,
+) -> u32
+    ensures { λ r. ⌜ r ≡ firstNumber (dataOf
+        (step (lentState (now (tables .entry)) (now (fast .entry)) (now (slow .entry)))
+        (readCall station page offset count) [])) ⌝ }
+{
+    let t = tables_of(tables);
+    let bytes = read(t, fast, slow, station, page, offset, count);
+    first_number(bytes)
 }

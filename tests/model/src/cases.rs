@@ -5,7 +5,7 @@
 //! its request [4]: the worked example's, and such as are refused or just not.
 
 use crate::kernel::Kernel;
-use crate::model::{frame_bytes, Lent, Reader, Tables, Tally, FRAME, PROGRAM_FRAMES, SLIP};
+use crate::model::{frame_bytes, Lent, Reader, Tables, Tally, FRAME, LEAST_BUFFER, PROGRAM_FRAMES};
 use crate::stations::{Sent, Told};
 use reel::lines;
 
@@ -1130,7 +1130,7 @@ impl Case {
 impl StoreCase {
     /// The stores that it leaves, fast and slow.
     pub fn stores(&self) -> [Vec<u8>; 2] {
-        let first = unit(SLIP);
+        let first = unit(LEAST_BUFFER);
         let tables = Tables::fresh(PROGRAM_FRAMES, PROGRAM_FRAMES);
         let frames = (0..).zip(self.frames).map(|(frame, held)| match held {
             FIRST => frame_bytes(&tables, &first.fast, &first.slow, frame).to_vec(),
@@ -1166,7 +1166,7 @@ pub struct Served {
 
 /// A file answered message by message; nothing is counted.
 pub fn one_by_one(kernel: &dyn Kernel, file: &[u8]) -> Served {
-    let mut left = unit(SLIP);
+    let mut left = unit(LEAST_BUFFER);
     let mut replies = Vec::new();
     for message in Reader::new(file) {
         let length = kernel.answer(&mut left, message) / 256 % 256;

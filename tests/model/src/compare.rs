@@ -4,11 +4,11 @@ use crate::clean::Clean;
 use crate::exchange::Turns;
 use crate::flat::Demand3;
 use crate::frames::Frames;
-use crate::gen::{self, Moves, Rng, DAMAGES, SHORT_BUFFERS, BUFFERS};
+use crate::gen::{self, Moves, Rng, BUFFERS, DAMAGES, SHORT_BUFFERS};
 use crate::kernel::{packed, Kernel, Modelled};
 use crate::model::{
     self, frame_bytes, Call, Lent, PageCopy, Reached, Reader, Refusal, Tables, ENTRIES, FRAME,
-    MOST_FRAMES, RAW, RECORD, REGISTER, SLIP,
+    LEAST_BUFFER, MOST_FRAMES, RAW, RECORD, REGISTER,
 };
 use reel::words::{self, hex, WORDS};
 
@@ -513,12 +513,12 @@ impl Compare<'_> {
             140,
             210,
             1000,
-            length.max(SLIP),
-            length + SLIP,
+            length.max(LEAST_BUFFER),
+            length + LEAST_BUFFER,
         ];
         let room = self.rng.pick(&lengths);
         let (end, replies) = self.parts(&trial.start, &trial.file, room)?;
-        if room >= SLIP && trial.start.out.len() >= SLIP {
+        if room >= LEAST_BUFFER && trial.start.out.len() >= LEAST_BUFFER {
             if is_changed(&trial.lent, &end) {
                 return Err(format!("parts in {room} bytes came to another end"));
             }
@@ -724,7 +724,7 @@ fn is_changed(before: &Lent, after: &Lent) -> bool {
 /// The reply at the front of a buffer; none in a buffer that is too short for one.
 fn reply_in(out: &[u8]) -> &[u8] {
     match *out {
-        [high, low, ..] if out.len() >= SLIP => {
+        [high, low, ..] if out.len() >= LEAST_BUFFER => {
             &out[..2 + usize::from(u16::from_be_bytes([high, low]))]
         }
         _ => &[],

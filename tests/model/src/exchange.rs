@@ -9,7 +9,7 @@
 use crate::compare::LEAST;
 use crate::gen::{self, Moves, Rng};
 use crate::kernel::{Modelled, Stations};
-use crate::model::{self, Call, Reader, Refusal, Tables, ENTRIES, KINDS, SLIP, VERSION};
+use crate::model::{self, Call, Reader, Refusal, Tables, ENTRIES, KINDS, LEAST_BUFFER, VERSION};
 use crate::stations::{Sent, Told, MESSAGE};
 use reel::kinds;
 use reel::words::{hex, WORDS};
@@ -415,7 +415,7 @@ impl Exchange<'_> {
             for _ in 0..60 {
                 let tables = Tables::from_raw(&lent.tables).expect("a run keeps the rules");
                 let message = moves.next(&mut self.rng, &tables, &lent, false);
-                let room = SLIP + self.rng.below(9);
+                let room = LEAST_BUFFER + self.rng.below(9);
                 lent.out = self.rng.bytes(room);
                 let answer = model::answer(&mut lent, &message);
                 let (turns, out) = (&mut self.counts.turns, &lent.out);

@@ -2,7 +2,7 @@
 //! execution over a run on sound tables. The frames are counted in the tables' bytes; nothing of the
 //! model's steps or rules is used.
 
-use crate::gen::{copies_on, is_marked};
+use crate::gen::{copies_on, is_retired};
 use crate::model::{Lent, FRAME, REGISTERED};
 
 /// The frames that are retired in a run, each with the bytes that it had then.
@@ -28,8 +28,8 @@ fn bytes(lent: &Lent, frame: usize) -> &[u8] {
 impl Frames {
     /// At the start of a run on sound tables.
     pub fn start(lent: &Lent) -> Frames {
-        let marked = |frame| is_marked(&lent.tables, frame);
-        let at = |frame: usize| marked(frame).then(|| bytes(lent, frame).to_vec());
+        let on_retired = |frame| is_retired(&lent.tables, frame);
+        let at = |frame: usize| on_retired(frame).then(|| bytes(lent, frame).to_vec());
         Frames {
             retired: (0..REGISTERED).map(at).collect(),
         }
@@ -40,10 +40,10 @@ impl Frames {
     /// it was retired.
     pub fn turn(&mut self, before: &Lent, after: &Lent) -> Result<(), String> {
         let on = copies_on(&after.tables);
-        let marked = |frame: &usize| is_marked(&after.tables, *frame);
+        let on_retired = |frame: &usize| is_retired(&after.tables, *frame);
         let held: usize = on.iter().sum();
-        let retired = (0..REGISTERED).filter(marked).count();
-        let free = (0..frames(after)).filter(|frame| on[*frame] == 0 && !marked(frame));
+        let retired = (0..REGISTERED).filter(on_retired).count();
+        let free = (0..frames(after)).filter(|frame| on[*frame] == 0 && !on_retired(frame));
         let free = free.count();
         if free + held + retired != frames(after) {
             return Err(format!(
@@ -52,7 +52,7 @@ impl Frames {
             ));
         }
         for (frame, retired) in self.retired.iter_mut().enumerate() {
-            if !marked(&frame) {
+            if !on_retired(&frame) {
                 if retired.is_some() {
                     return Err(format!("frames: {frame} is retired no more"));
                 }

@@ -1,9 +1,9 @@
 //! Generators of messages, call files, tables and stores, all from one seed.
 
 use crate::model::{
-    frame_bytes, message, Call, Lent, Page, PageCopy, Tables, ENTRIES, FRAME, KINDS, MOST_FRAMES,
-    NO_FRAME, FREE_ENTRY, PAGES, RAW, RECORD, REGISTER, REGISTERED, RETIRED, SLIP, STATIONS,
-    VERSION,
+    frame_bytes, message, Call, Lent, Page, PageCopy, Tables, ENTRIES, FRAME, FREE_ENTRY, KINDS,
+    LEAST_BUFFER, MOST_FRAMES, NO_FRAME, PAGES, RAW, RECORD, REGISTER, REGISTERED, RETIRED,
+    STATIONS, VERSION,
 };
 use crate::stations::{arguments, Sent};
 
@@ -67,8 +67,8 @@ impl Rng {
 
 // ---- What a caller lends ----
 
-/// Reply buffers that serve, and those that are short slips.
-pub const BUFFERS: [usize; 3] = [SLIP, 71, 200];
+/// Reply buffers that serve, and those that are too short.
+pub const BUFFERS: [usize; 3] = [LEAST_BUFFER, 71, 200];
 pub const SHORT_BUFFERS: [usize; 4] = [0, 1, 6, 69];
 
 /// P or S: mostly of the four named sizes.
@@ -81,12 +81,12 @@ fn size(rng: &mut Rng) -> u8 {
 
 /// Tables with stores that fit them; stores and reply buffer hold random bytes.
 fn lend(rng: &mut Rng, tables: &Tables) -> Lent {
-    let slip = rng.pick(&BUFFERS);
+    let room = rng.pick(&BUFFERS);
     Lent {
         tables: tables.to_raw(),
         fast: rng.bytes(FRAME * usize::from(tables.fast)),
         slow: rng.bytes(FRAME * usize::from(tables.slow)),
-        out: rng.bytes(slip),
+        out: rng.bytes(room),
     }
 }
 
@@ -248,7 +248,7 @@ pub(crate) fn copies_on(tables: &[u8]) -> [usize; 256] {
 }
 
 /// Whether a frame is retired.
-pub(crate) fn is_marked(tables: &[u8], frame: usize) -> bool {
+pub(crate) fn is_retired(tables: &[u8], frame: usize) -> bool {
     holder(tables, frame as u8) == RETIRED
 }
 
@@ -607,8 +607,8 @@ pub fn hinder(rng: &mut Rng, lent: &mut Lent) {
     }
     match rng.below(12) {
         0 | 1 => {
-            let slip = rng.pick(&SHORT_BUFFERS);
-            lent.out = rng.bytes(slip);
+            let room = rng.pick(&SHORT_BUFFERS);
+            lent.out = rng.bytes(room);
         }
         2..=4 => damage_byte(rng, lent),
         5 | 6 => damage_register(rng, lent),

@@ -759,8 +759,8 @@ impl Refusal {
     }
 }
 
-/// A reply buffer below this length is a short slip.
-pub const SLIP: usize = 70;
+/// A reply buffer below this length is too short for any reply: 18.
+pub const LEAST_BUFFER: usize = 70;
 
 /// All that a caller lends for a message or a run.
 #[derive(Clone, Debug, PartialEq, Eq)]
@@ -798,7 +798,7 @@ pub fn answer(lent: &mut Lent, message: &[u8]) -> Answer {
 
 /// The same with so many bytes of the reply buffer used already.
 fn answer_at(lent: &mut Lent, used: usize, message: &[u8]) -> Answer {
-    if lent.out.len() - used < SLIP {
+    if lent.out.len() - used < LEAST_BUFFER {
         return Answer {
             number: Refusal::ShortSlip.number(),
             length: 0,
@@ -883,7 +883,7 @@ pub fn replies(lent: &mut Lent, file: &[u8], at: usize, tally: &mut Tally) -> Re
     let mut reached = Reached { at, used: 0 };
     for message in Reader::at(file, at) {
         let room = lent.out.len() - reached.used;
-        if lent.out.len() >= SLIP && room < SLIP {
+        if lent.out.len() >= LEAST_BUFFER && room < LEAST_BUFFER {
             break;
         }
         let answer = answer_at(lent, reached.used, message);
@@ -908,7 +908,7 @@ pub fn program(input: &[u8]) -> Vec<u8> {
         tables: Tables::fresh(PROGRAM_FRAMES, PROGRAM_FRAMES).to_raw(),
         fast: store.clone(),
         slow: store,
-        out: vec![0; SLIP],
+        out: vec![0; LEAST_BUFFER],
     };
     let mut output = Vec::new();
     for message in Reader::new(&input[..input.len().min(PROGRAM_INPUT)]) {

@@ -9,8 +9,8 @@ use ::model::cases::{
 use ::model::gen::{self, Rng, DAMAGES};
 use ::model::kernel::{Embedded, Kernel, Modelled};
 use ::model::model::{
-    self, frame_bytes, program, Lent, Reader, Tables, FRAME, KINDS, MOST_FRAMES, FREE_ENTRY,
-    PROGRAM_INPUT, RAW, RETIRED, SLIP,
+    self, frame_bytes, program, Lent, Reader, Tables, FRAME, FREE_ENTRY, KINDS, LEAST_BUFFER,
+    MOST_FRAMES, PROGRAM_INPUT, RAW, RETIRED,
 };
 use reel::words::hex;
 
@@ -26,7 +26,7 @@ struct Desk {
 
 impl Desk {
     fn fresh(kernel: &'static dyn Kernel) -> Desk {
-        let lent = unit(SLIP);
+        let lent = unit(LEAST_BUFFER);
         Desk { kernel, lent }
     }
 
@@ -38,7 +38,7 @@ impl Desk {
             tables: Tables::fresh(frames, frames).to_raw(),
             fast: store(),
             slow: store(),
-            out: vec![0xAA; SLIP],
+            out: vec![0xAA; LEAST_BUFFER],
         };
         Desk { kernel, lent }
     }
@@ -112,7 +112,7 @@ fn check(kernel: &dyn Kernel, case: &Case) {
         due.iter().filter(|reply| reply[3] != 0).count() as u32,
         due.iter().map(laid).sum(),
     ];
-    let (mut end, mut counted) = (unit(SLIP), [0; 3]);
+    let (mut end, mut counted) = (unit(LEAST_BUFFER), [0; 3]);
     kernel.run(&mut end, &file, &mut counted);
     assert_eq!((&end, counted), (&left, tally), "{}", case.name);
 
@@ -348,7 +348,7 @@ fn copies_close_the_gap_and_null_copy_goes() {
         assert_eq!(desk.accept("look-frame 7"), [1, 0, 1]);
         assert_eq!(desk.accept("look-frame 4"), [0, 255, 255]);
         desk.accept("delete-page 0 0");
-        assert_eq!(desk.lent.tables, unit(SLIP).tables);
+        assert_eq!(desk.lent.tables, unit(LEAST_BUFFER).tables);
     }
 }
 
@@ -591,10 +591,10 @@ fn raw_tables_come_back() {
 #[test]
 fn runs_and_tallies() {
     for kernel in BOTH {
-        let mut lent = unit(SLIP);
+        let mut lent = unit(LEAST_BUFFER);
         let mut tally = [0; 3];
         kernel.run(&mut lent, &[], &mut tally);
-        assert_eq!((tally, &lent), ([0; 3], &unit(SLIP)));
+        assert_eq!((tally, &lent), ([0; 3], &unit(LEAST_BUFFER)));
 
         let mut file = example();
         file.extend([0, 1, 1, 0, 9, 9]);
@@ -603,7 +603,7 @@ fn runs_and_tallies() {
         assert_eq!(lent.out[..11], [0, 4, 1, 1, 0, 0, 1, 0, 1, 1, 0xAA]);
 
         let mut tally = [u32::MAX - 1, u32::MAX, u32::MAX - 65];
-        kernel.run(&mut unit(SLIP), &file, &mut tally);
+        kernel.run(&mut unit(LEAST_BUFFER), &file, &mut tally);
         assert_eq!(tally, [u32::MAX; 3]);
 
         let mut short = unit(69);

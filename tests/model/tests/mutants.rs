@@ -12,7 +12,7 @@ use ::model::gen::{self, Moves, Rng};
 use ::model::kernel::{packed, Embedded, Kernel, Modelled, Stations};
 use ::model::model::{
     self, frame_bytes, Answer, Call, Lent, Page, PageCopy, Reached, Reader, Tables, ENTRIES, FRAME,
-    NO_FRAME, FREE_ENTRY, RAW, RECORD, REGISTER, REGISTERED, RETIRED, SLIP, STATIONS,
+    FREE_ENTRY, LEAST_BUFFER, NO_FRAME, RAW, RECORD, REGISTER, REGISTERED, RETIRED, STATIONS,
 };
 use ::model::stations::{Sent, Told};
 use reel::words::hex;
@@ -90,7 +90,7 @@ impl Kernel for Mutant {
         match self.0 {
             Flaw::Replies(replies) => replies(lent, file, at, tally),
             Flaw::Least(least) => self.part(least, lent, file, at, tally),
-            _ => self.part(SLIP, lent, file, at, tally),
+            _ => self.part(LEAST_BUFFER, lent, file, at, tally),
         }
     }
 
@@ -143,7 +143,7 @@ impl Mutant {
         let mut filled = std::mem::take(&mut lent.out);
         let (length, mut reached) = (filled.len(), Reached { at, used: 0 });
         for message in Reader::at(self.taken(file), at) {
-            if length >= SLIP && length - reached.used < least {
+            if length >= LEAST_BUFFER && length - reached.used < least {
                 break;
             }
             lent.out = filled.split_off(reached.used);
@@ -878,7 +878,7 @@ const MUTANTS: [(&str, Flaw); 84] = [
         }),
     ),
     (
-        "a short slip written on",
+        "a short buffer written on",
         Flaw::Answer(|turn| {
             if turn.answer.number == 18 && turn.after.out.len() >= 6 {
                 turn.after.out[..6].copy_from_slice(&[0, 4, 1, 18, 0, 0]);
@@ -886,7 +886,7 @@ const MUTANTS: [(&str, Flaw); 84] = [
         }),
     ),
     (
-        "a slip of 70 refused",
+        "a buffer of 70 refused",
         Flaw::Answer(|turn| {
             if turn.before.out.len() == 70 {
                 *turn.after = turn.before.clone();
@@ -1038,7 +1038,7 @@ const MUTANTS: [(&str, Flaw); 84] = [
         }),
     ),
     (
-        "short slips not counted",
+        "short buffers not counted",
         Flaw::Tally(|tally, answer| {
             if answer.number != 18 {
                 tally[0] = tally[0].saturating_add(1);
@@ -1523,7 +1523,7 @@ const WRONG_RETIRES: [(&str, Flaw); 27] = [
         Flaw::Answer(|turn| turn.swap(20, 13)),
     ),
     (
-        "a retired frame takes a copy and stays marked",
+        "a retired frame takes a copy and stays retired",
         Flaw::Answer(|turn| {
             if let Some(frame) = turn.copy_as_if_free() {
                 turn.mark(frame, 1);
@@ -1904,7 +1904,7 @@ const NOT_ONE_STATE: [&str; 12] = [
     "a retire of a slow frame marks the fast frame of its place",
     "a frame retired again is free again",
     "a retired frame filled with zeros",
-    "a retired frame takes a copy and stays marked",
+    "a retired frame takes a copy and stays retired",
     "a retired frame takes a copy and is retired no more",
     "a retired frame takes a null copy",
     "the marks lost when a page is deleted",
@@ -1937,7 +1937,7 @@ const BREAKING: [&str; 5] = [
     "a held frame retired",
     "the frame past the last retired",
     "a retire of a slow frame marks the fast frame of its place",
-    "a retired frame takes a copy and stays marked",
+    "a retired frame takes a copy and stays retired",
     "a retire enters the frame in the register",
 ];
 

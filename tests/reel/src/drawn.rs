@@ -2,7 +2,7 @@
 //! are drawn.
 
 use crate::browser::Browser;
-use crate::{modelled, printed, Scratch, Turn};
+use crate::{modelled, printed, random_file, Scratch, Turn};
 use reel::looks::{Mark, OnFrame, PageCopy};
 use std::path::{Path, PathBuf};
 
@@ -100,6 +100,18 @@ pub fn frameless(turn: &Turn) -> impl Iterator<Item = usize> + '_ {
     pages
         .filter(move |(_, copies)| is_frameless(copies))
         .map(|(page, _)| page)
+}
+
+/// The page of a random call file for a unit of this size, and the shift that it draws.
+pub fn random_view(
+    scratch: &Scratch,
+    seed: u64,
+    (fast, slow): (u8, u8),
+    messages: usize,
+) -> (PathBuf, Drawn) {
+    let bytes = random_file(seed, fast, slow, messages);
+    let page = view(scratch, &bytes, fast, slow);
+    (page, Drawn::new(&bytes, fast, slow))
 }
 
 /// The page of a call file for a unit of this size.

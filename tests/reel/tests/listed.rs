@@ -5,10 +5,9 @@ use model::gen::{lawful, Rng};
 use reel::kinds::{number_of, Call, KINDS};
 use reel::looks::{Mark, OnFrame};
 use reel_tests::browser::{Browser, SHIFT};
-use reel_tests::drawn::{clear_places, frameless, is_close, named, view, view_with, Drawn};
+use reel_tests::drawn::{clear_places, frameless, is_close, named, random_view, view_with, Drawn};
 use reel_tests::{
-    frame_due, frame_since, kept, modelled_from, random_file, random_file_from, so_since, Scratch,
-    Turn,
+    frame_due, frame_since, kept, modelled_from, random_file_from, so_since, Scratch, Turn,
 };
 
 /// The number of a message's kind; 0 for a broken one.
@@ -50,9 +49,7 @@ fn the_list_has_what_passes_and_moves_with_the_picture() {
     let scratch = Scratch::new("list");
     let mut browser = Browser::start("list");
     browser.size(1300, 850, 1);
-    let bytes = random_file(8, 9, 12, 700);
-    let page = view(&scratch, &bytes, 9, 12);
-    let drawn = Drawn::new(&bytes, 9, 12);
+    let (page, drawn) = random_view(&scratch, 8, (9, 12), 700);
     for parts in FILTERS {
         let due = passing(&drawn.turns, parts);
         let words = parts.iter().map(|(name, value)| format!("{name}={value}"));
@@ -128,9 +125,7 @@ fn the_figures_of_a_span_are_those_of_the_model() {
     let scratch = Scratch::new("figures");
     let mut browser = Browser::start("figures");
     browser.size(1300, 850, 1);
-    let bytes = random_file(12, 9, 12, 500);
-    let page = view(&scratch, &bytes, 9, 12);
-    let mut drawn = Drawn::new(&bytes, 9, 12);
+    let (page, mut drawn) = random_view(&scratch, 12, (9, 12), 500);
     browser.open(&page, "");
     drawn.place(&mut browser);
     figures(&mut browser, &drawn, 1, drawn.messages());
@@ -245,9 +240,7 @@ fn reads_and_writes_have_their_ticks() {
     browser.size(1400, 900, 1);
     let mut seen = [0; 3];
     for seed in 9..15 {
-        let bytes = random_file(seed, 4, 5, 150);
-        let page = view(&scratch, &bytes, 4, 5);
-        let mut drawn = Drawn::new(&bytes, 4, 5);
+        let (page, mut drawn) = random_view(&scratch, seed, (4, 5), 150);
         // The kept place is drawn over the first message.
         browser.open(&page, "#at=1");
         drawn.place(&mut browser);
@@ -295,9 +288,7 @@ fn a_colour_stands_for_the_mark_or_the_age() {
     let scratch = Scratch::new("colours");
     let mut browser = Browser::start("colours");
     browser.size(1400, 900, 1);
-    let bytes = random_file(9, 10, 12, 400);
-    let page = view(&scratch, &bytes, 10, 12);
-    let mut drawn = Drawn::new(&bytes, 10, 12);
+    let (page, mut drawn) = random_view(&scratch, 9, (10, 12), 400);
     for colouring in ["mark", "age"] {
         browser.open(&page, &format!("#colour={colouring}"));
         drawn.place(&mut browser);
@@ -343,9 +334,7 @@ fn pages_without_a_frame_have_a_row() {
     let scratch = Scratch::new("frameless");
     let mut browser = Browser::start("frameless");
     browser.size(1200, 800, 1);
-    let bytes = random_file(14, 4, 4, 300);
-    let page = view(&scratch, &bytes, 4, 4);
-    let mut drawn = Drawn::new(&bytes, 4, 4);
+    let (page, mut drawn) = random_view(&scratch, 14, (4, 4), 300);
     browser.open(&page, "");
     drawn.place(&mut browser);
     let mut seen = 0;
@@ -428,8 +417,7 @@ fn the_page_prints_on_one_sheet() {
     let mut browser = Browser::start("paper");
     for (width, height) in [(1300, 850), (700, 900)] {
         browser.size(width, height, 1);
-        let bytes = random_file(15, 127, 127, 600);
-        let page = view(&scratch, &bytes, 127, 127);
+        let (page, _) = random_view(&scratch, 15, (127, 127), 600);
         browser.open(&page, "#colour=age");
         let paper = browser.send(
             "Page.printToPDF",

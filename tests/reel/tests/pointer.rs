@@ -3,9 +3,9 @@
 
 use reel::looks::Mark;
 use reel_tests::browser::{Browser, SHIFT};
-use reel_tests::drawn::{clear_places, is_close, named, view, Drawn};
+use reel_tests::drawn::{clear_places, is_close, named, random_view, view, Drawn};
 use reel_tests::json::quoted;
-use reel_tests::{frame_due, random_file, Scratch};
+use reel_tests::{frame_due, Scratch};
 
 /// Width, height, and pixels of the screen for each of the page.
 const SIZES: [(u32, u32, u32); 6] = [
@@ -22,9 +22,7 @@ fn pointing_names_what_the_model_has_there() {
     let scratch = Scratch::new("pointing");
     let mut browser = Browser::start("pointing");
     for (seed, fast, slow, messages) in [(5, 20, 30, 300), (6, 127, 127, 400)] {
-        let bytes = random_file(seed, fast, slow, messages);
-        let page = view(&scratch, &bytes, fast, slow);
-        let mut drawn = Drawn::new(&bytes, fast, slow);
+        let (page, mut drawn) = random_view(&scratch, seed, (fast, slow), messages);
         for (width, height, scale) in SIZES {
             browser.size(width, height, scale);
             browser.open(&page, "");
@@ -63,11 +61,8 @@ fn pointed(browser: &mut Browser, drawn: &Drawn, height: f64) {
 fn what_is_drawn_is_what_the_model_has_there() {
     let scratch = Scratch::new("drawn");
     let mut browser = Browser::start("drawn");
-    let (fast, slow) = (10, 12);
     // So many that no arrow of a single copy is drawn.
-    let bytes = random_file(9, fast, slow, 400);
-    let page = view(&scratch, &bytes, fast, slow);
-    let mut drawn = Drawn::new(&bytes, fast, slow);
+    let (page, mut drawn) = random_view(&scratch, 9, (10, 12), 400);
     let (mut seen, mut free) = ([0; 3], 0);
     for (width, height, scale) in SIZES {
         browser.size(width, height, scale);
@@ -131,8 +126,7 @@ fn tab_walks_through_the_whole_page() {
     let scratch = Scratch::new("tab");
     let mut browser = Browser::start("tab");
     browser.size(1100, 800, 1);
-    let bytes = random_file(3, 9, 9, 900);
-    let page = view(&scratch, &bytes, 9, 9);
+    let (page, _) = random_view(&scratch, 3, (9, 9), 900);
     for fragment in ["", "#page=63&at=400&frame=2"] {
         browser.open(&page, fragment);
         let stops = browser.eval(STOPS).texts();
@@ -159,8 +153,7 @@ fn the_address_has_every_setting_and_back_leads_to_the_last() {
     let scratch = Scratch::new("address");
     let mut browser = Browser::start("address");
     browser.size(1100, 800, 1);
-    let bytes = random_file(3, 40, 40, 900);
-    let page = view(&scratch, &bytes, 40, 40);
+    let (page, _) = random_view(&scratch, 3, (40, 40), 900);
     let settings =
         "#at=400&from=300&span=200&frame=7&page=63&station=2&number=7&all=1&rows=20&top=60";
     browser.open(&page, settings);
@@ -225,8 +218,7 @@ fn no_label_is_cut_off() {
     let mut browser = Browser::start("labels");
     let noting = format!("{{\"source\":{}}}", quoted(NOTING));
     browser.send("Page.addScriptToEvaluateOnNewDocument", &noting);
-    let bytes = random_file(4, 127, 127, 1_200);
-    let page = view(&scratch, &bytes, 127, 127);
+    let (page, _) = random_view(&scratch, 4, (127, 127), 1_200);
     for (width, height, scale) in SIZES {
         browser.size(width, height, scale);
         for fragment in ["", "#from=700&span=30", "#from=1100&span=100&rows=20"] {

@@ -12,11 +12,18 @@ use reel::words;
 use reel_tests::json::Json;
 use reel_tests::{fresh, kept, modelled, modelled_from, printed, random_file, reel, Scratch, Turn};
 use std::collections::BTreeMap;
+use std::path::PathBuf;
 
 const SIZE: [&str; 4] = ["--fast", "9", "--slow", "12"];
 
 fn with_size<'a>(words: &[&'a str]) -> Vec<&'a str> {
     [words, &SIZE].concat()
+}
+
+/// A random call file for a unit of that size, and what the model answers.
+fn shift(scratch: &Scratch, seed: u64, messages: usize) -> (PathBuf, Vec<Turn>) {
+    let bytes = random_file(seed, 9, 12, messages);
+    (scratch.file("calls", &bytes), modelled(&bytes, 9, 12))
 }
 
 /// Whether a message passes the filter that these words give.
@@ -62,9 +69,7 @@ const FILTERS: [&[&str]; 9] = [
 fn filters_pass_what_the_model_says() {
     let scratch = Scratch::new("filters");
     for seed in 1..5 {
-        let bytes = random_file(seed, 9, 12, 700);
-        let file = scratch.file("calls", &bytes);
-        let turns = modelled(&bytes, 9, 12);
+        let (file, turns) = shift(&scratch, seed, 700);
         for words in FILTERS {
             let numbers: Vec<usize> = (1..turns.len())
                 .filter(|&number| passes(&turns, number, words))
@@ -198,9 +203,7 @@ fn sums(line: &str, turns: &[Turn], numbers: &[usize]) {
 fn the_summary_has_what_is_left_at_the_end() {
     let scratch = Scratch::new("left");
     for seed in 11..16 {
-        let bytes = random_file(seed, 9, 12, 400);
-        let file = scratch.file("calls", &bytes);
-        let turns = modelled(&bytes, 9, 12);
+        let (file, turns) = shift(&scratch, seed, 400);
         let end = turns.last().expect("the start at least");
         let sum = Json::parse(&printed(
             "show",
@@ -237,11 +240,10 @@ fn runs_part_where_the_model_parts() {
     let scratch = Scratch::new("diff");
     let mut parted = [0; 3];
     for seed in 21..61 {
-        let bytes = random_file(seed, 9, 12, 120);
-        let turns = modelled(&bytes, 9, 12);
+        let (one, turns) = shift(&scratch, seed, 120);
         let other = edited(&mut Rng::new(seed), &turns);
         let others = modelled(&other, 9, 12);
-        let (one, two) = (scratch.file("one", &bytes), scratch.file("two", &other));
+        let two = scratch.file("other", &other);
         let output = reel("diff", &one, &with_size(&[&two.display().to_string()]));
         let lines = String::from_utf8(output.stdout).expect("text");
         let last = turns.len().max(others.len());

@@ -49,6 +49,26 @@ impl Left {
             frames: frames.len(),
         }
     }
+
+    fn line(&self) -> String {
+        let Left {
+            pages,
+            held,
+            retired,
+            frames,
+        } = *self;
+        let free = frames - held - retired;
+        let pages = counted(pages as u64, "page stands", "pages stand");
+        format!(
+            "at the end {pages}; of {frames} frames {held} held, {free} free, {retired} retired"
+        )
+    }
+
+    fn json(&self) -> String {
+        let left = Object::default().with("pages", self.pages);
+        let left = left.with("frames", self.frames).with("held", self.held);
+        left.with("retired", self.retired).end()
+    }
 }
 
 impl Summary {
@@ -96,17 +116,7 @@ impl Summary {
         for (number, count) in self.numbers() {
             lines.push(format!("{count:10}  {number} {}", word(number)));
         }
-        let Left {
-            pages,
-            held,
-            retired,
-            frames,
-        } = Left::by(watched);
-        let free = frames - held - retired;
-        let pages = counted(pages as u64, "page stands", "pages stand");
-        lines.push(format!(
-            "at the end {pages}; of {frames} frames {held} held, {free} free, {retired} retired"
-        ));
+        lines.push(Left::by(watched).line());
         lines
     }
 
@@ -124,21 +134,11 @@ impl Summary {
                 .with("count", count)
                 .end()
         });
-        let Left {
-            pages,
-            held,
-            retired,
-            frames,
-        } = Left::by(watched);
-        let left = Object::default()
-            .with("pages", pages)
-            .with("frames", frames);
-        let left = left.with("held", held).with("retired", retired).end();
         let object = Object::default().with("messages", self.messages);
         let object = object.with("refused", self.refused).with("laid", self.laid);
         let object = object
             .with("kinds", list(kinds))
             .with("numbers", list(numbers));
-        object.with("end", left).end()
+        object.with("end", Left::by(watched).json()).end()
     }
 }

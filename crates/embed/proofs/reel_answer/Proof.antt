@@ -16,38 +16,52 @@ use Rattle.embed.proofs.LentLaws.{put-moved, left-in}
 use Rattle.embed.proofs.reel_answer.Statement.{statement}
 use Rattle.embed.proofs.reel_answer.Tie as tie
 
+-- places of the walk: the tables lent, the start, the tables tested, the message answered
+abbrev lent : tie.After-holds-tables → tie.After-slice-known
+lent c = c .before .before .before .before .before .before
+
+abbrev start : tie.After-holds-tables → tie.Start
+start c = lent c .before
+
+abbrev held : tie.After-answer → tie.After-holds-tables
+held c = c .before .before .before .before .before .before
+
+abbrev answered : tie.After-slice-known7 → tie.After-answer
+answered c = c .before .before .before .before .before .before
+
 put-where-requires : tie.Need-put-where-requires
 put-where-requires c κs =
-    let d = c .before .before .before .before .before .before .before .before in
-    let h = d .before .before .before .before .before .before in
-    let a = h .before .before .before .before .before .before .before .args in
-    let held = h .holds-tables in
-    λ e. in-sized (a .tables .now) (sym (held .ensures) ∙ and-left (held .result) (d .answer .result .moved) e)
+    let d = answered (c .before .before) in
+    let h = held d in
+    let t = h .holds-tables in
+    λ e. in-sized (start h .args .tables .now) (sym (t .ensures) ∙ and-left (t .result) (d .answer .result .moved) e)
 
 packed-requires : tie.Need-packed-requires
 packed-requires c κs =
-    let d = c .before .before .before .before .before .before .before .before .before .before .before in
-    let h = d .before .before .before .before .before .before in
-    let a = h .before .before .before .before .before .before .before .args in
-    let t = d .before .before .before .before .tables-held .result in
+    let d = answered (c .before .before .before .before .before) in
+    let a = start (held d) .args in
+    let t = d .before .before .before .before .tables-where .result in
     let s = stateOf t (a .fast .now) (a .slow .now) in
     omega (arith, d .answer .ensures .len-told, reply-short (length (a .out .now)) s (sentAlone (a .message .now)))
 
 returns : tie.Need-returns
 returns c =
-    let d = c .before .before .before .before .before .before .before .before .before .before .before .before in
-    let h = d .before .before .before .before .before .before in
-    let k = h .before .before .before .before .before .before in
-    let a = k .before .args in
-    let q = rw (d .before .before .before .before .tables-held .ensures) at (d .answer .ensures) in
-    let b = a .tables .now in
-    let low : AreBytes b = λ i. k .slice-known .given i .fits in
-    let o = answer (length (a .out .now)) (lentState b (a .fast .now) (a .slow .now)) (sentAlone (a .message .now)) in
+    let p = c .before .before .before in
+    let b = p .before .before .before in
+    let d = b .before .before .before .before .before .before in
+    let h = held d in
+    let a = start h .args in
+    let q = rw (d .before .before .before .before .tables-where .ensures) at (d .answer .ensures) in
+    let ts = a .tables .now in
+    let low : AreBytes ts = λ i. lent h .slice-known .given i .fits in
+    let o = answer (length (a .out .now)) (lentState ts (a .fast .now) (a .slow .now)) (sentAlone (a .message .now)) in
     record {
       told = c .packed .ensures ∙ rw (q .number-told, q .len-told, q .laid-told);
-      tables-out = c .before .before .before .put-where .ensures ∙ rw (h .holds-tables .ensures)
-          (put-moved b (d .answer .result .moved) (d .answer .result .tables) low (λ e. ap (λ (s : State). s .tables) (q .state-out) ∙ unmoved _ _ _ (sym (q .moved-told) ∙ e))
-          ∙ ap (λ (s : State). withTables b (s .tables)) (q .state-out) ∙ left-in b (a .fast .now) (a .slow .now) o low);
+      tables-out = p .put-where .ensures ∙ rw (h .holds-tables .ensures)
+          (put-moved ts (d .answer .result .moved) (d .answer .result .tables) low
+          (λ e. ap (λ (s : State). s .tables) (q .state-out) ∙ unmoved _ _ _ (sym (q .moved-told) ∙ e))
+          ∙ ap (λ (s : State). withTables ts (s .tables)) (q .state-out)
+          ∙ left-in ts (a .fast .now) (a .slow .now) o low);
       lent-out = rw (ap (λ (s : State). s .fast) (q .state-out), ap (λ (s : State). s .slow) (q .state-out), q .reply-out);
     }
 

@@ -10,26 +10,42 @@ use Rattle.embed.proofs.LentLaws.{put-moved}
 use Rattle.embed.proofs.reel_run.Statement.{statement}
 use Rattle.embed.proofs.reel_run.Tie as tie
 
+-- places of the walk: the tables lent, the start, the tables tested, the tally read, the messages run
+abbrev lent : tie.After-holds-tables → tie.After-slice-known
+lent c = c .before .before .before .before .before .before .before
+
+abbrev start : tie.After-holds-tables → tie.Start
+start c = lent c .before
+
+abbrev held : tie.After-tally-of → tie.After-holds-tables
+held c = c .before .before .before .before
+
+abbrev counted : tie.After-run → tie.After-tally-of
+counted c = c .before .before .before .before
+
+abbrev ran : tie.After-slice-known8 → tie.After-run
+ran c = c .before .before .before .before .before .before
+
 put-where-requires : tie.Need-put-where-requires
 put-where-requires c κs =
-    let d = c .before .before .before .before .before .before .before .before in
-    let h = d .before .before .before .before .before .before .before .before in
-    let a = h .before .before .before .before .before .before .before .before .args in
-    let held = h .holds-tables in
-    λ e. in-sized (a .tables .now) (sym (held .ensures) ∙ and-left (held .result) (d .run .result .moved) e)
+    let d = ran (c .before .before) in
+    let h = held (counted d) in
+    let t = h .holds-tables in
+    λ e. in-sized (start h .args .tables .now) (sym (t .ensures) ∙ and-left (t .result) (d .run .result .moved) e)
 
 returns : tie.Need-returns
 returns c =
-    let m = c .before .before .before .before .before .before .before in
-    let d = m .before .before .before .before .before .before .before .before in
+    let p = c .before .before .before .before .before .before in
+    let w = p .before .before .before in
+    let d = w .before .before .before .before .before .before in
     let n = d .before .before .before .before in
-    let h = n .before .before .before .before in
-    let k = h .before .before .before .before .before .before .before in
-    let b = k .before .args .tables .now in
-    let q = rw (n .before .before .tables-held .ensures, n .tally-of .ensures) at (d .run .ensures) in
+    let h = held n in
+    let b = start h .args .tables .now in
+    let q = rw (n .before .before .tables-where .ensures, n .tally-of .ensures) at (d .run .ensures) in
     record {
-      tables-out = c .before .before .before .before .before .before .put-where .ensures ∙ rw (h .holds-tables .ensures)
-          (put-moved b (d .run .result .moved) (d .run .result .tables) (λ i. k .slice-known .given i .fits) (λ e. ap (λ (s : State). s .tables) (q .state-out) ∙ unmoved-end _ _ _ (sym (q .moved-told) ∙ e))
+      tables-out = p .put-where .ensures ∙ rw (h .holds-tables .ensures)
+          (put-moved b (d .run .result .moved) (d .run .result .tables) (λ i. lent h .slice-known .given i .fits)
+          (λ e. ap (λ (s : State). s .tables) (q .state-out) ∙ unmoved-end _ _ _ (sym (q .moved-told) ∙ e))
           ∙ ap (λ (s : State). withTables b (s .tables)) (q .state-out));
       lent-out =
           rw (ap (λ (s : State). s .fast) (q .state-out), ap (λ (s : State). s .slow) (q .state-out), q .buffer-out);

@@ -1,4 +1,5 @@
--- `main` meets the needs of what it calls: the file is what was read, the stores fit, and the buffer has room for all replies.
+-- `main` meets the needs of what it calls: the file is what was read, the stores fit, and the buffer has room for all
+-- replies.
 use Prim.Native.Nat.{ℕ, _≤_}
 use native.Mathlib.Omega.{arith}
 use lib.ListN.{length-replicate}

@@ -19,6 +19,13 @@ use Rattle.program.specs.Served.{Lends}
 use Rattle.program.proofs.serve.Statement.{statement}
 use Rattle.program.proofs.serve.Tie as tie
 
+-- places of the walk: the start, the tables made
+abbrev start : tie.After-fresh → tie.Start
+start c = c .before .before .before .before .before
+
+abbrev made : tie.After-fill → tie.After-fresh
+made c = c .before .before .before .before .before
+
 module _ (file fast slow out out′ : List ℕ) (t : Tables) (n : Tally) (s′ : State) (r : Filled)
     (p : PartEnded (stateOf t fast slow) (partFrom (length out) file 0 (stateOf t fast slow)) n out s′ out′ r) where
   abbrev j : List ℕ
@@ -54,15 +61,19 @@ same-length-3 c = search needs
 
 returns : tie.Need-returns
 returns c =
-    let a = c .before .before .before .before .before .before .before .before .before .before .before .before .before .before .before .before .args in
-    let f = c .before .before .before .before .before .before .fill in
-    let m = c .before .before .before .before .before .before .before .before .before .before .before .fresh in (
+    let k = c .before .before .before .before .before .before in
+    let i = start (made k) in
+    let a = i .args in
+    let f = k .fill in
+    let m = made k .fresh in (
       (
         inside (a .file .now) (a .fast .now) (a .slow .now) (a .out .now) _ (m .result .tables) _ _ _ (f .ensures),
         counted (a .file .now) (a .fast .now) (a .slow .now) (a .out .now) _ (m .result .tables) _ _ _ (f .ensures),
       ),
-      written (a .file .now) (a .fast .now) (a .slow .now) (a .out .now) _ (m .result .tables) _ _ _ (f .ensures) (c .before .before .before .before .before .before .before .before .before .before .before .before .before .before .before .before .pre)
-          ∙ ap (λ (x : Made). joinedReplies 70 (run 70 (a .file .now) (stateOf (x .tables) (a .fast .now) (a .slow .now)) .turns)) (m .ensures),
+      written (a .file .now) (a .fast .now) (a .slow .now) (a .out .now) _ (m .result .tables) _ _ _ (f .ensures)
+          (i .pre)
+          ∙ ap (λ (x : Made). joinedReplies 70
+          (run 70 (a .file .now) (stateOf (x .tables) (a .fast .now) (a .slow .now)) .turns)) (m .ensures),
     )
 
 pub serve-spec : {M : Type 1} → statement M

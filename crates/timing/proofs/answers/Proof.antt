@@ -1,4 +1,5 @@
--- `answers` meets its contract: the rest of the run gives what the whole run does. The measure is what is left of the file.
+-- `answers` meets its contract: the rest of the run gives what the whole run does. The measure is what is left of the
+-- file.
 use Prim.Native.Nat.{_-_}
 use mathlib.Core.Path.{refl, sym, _∙_}
 use native.Mathlib.Omega.{arith}
@@ -17,6 +18,19 @@ Inv-loop tables₀ fast₀ slow₀ file out₀ tally₀ at₀ tables fast slow o
 
 abbrev μ-loop : tie.MeasureT-loop
 μ-loop tables₀ fast₀ slow₀ file out₀ tally₀ at₀ tables fast slow out tally at = length file - at
+
+-- places of the walk: a message told and answered, a message that is cut told and answered
+abbrev told : tie.After-answer Inv-loop μ-loop → tie.After-next Inv-loop μ-loop
+told c = c .before .before .before .before .before .before
+
+abbrev answered : tie.After-slice-known6 Inv-loop μ-loop → tie.After-answer Inv-loop μ-loop
+answered c = c .before .before .before .before .before .before
+
+abbrev cut-told : tie.After-answer2 Inv-loop μ-loop → tie.After-enum-told Inv-loop μ-loop
+cut-told c = c .before .before .before .before .before
+
+abbrev cut-answered : tie.After-slice-known9 Inv-loop μ-loop → tie.After-answer2 Inv-loop μ-loop
+cut-answered c = c .before .before .before .before .before .before
 
 loop-holds : tie.Need-loop-holds Inv-loop μ-loop
 loop-holds c = record { in-file = omega arith; fast-long = refl; slow-long = refl; out-long = refl; rest = rest-all _ _ _ _ _ }
@@ -44,14 +58,17 @@ tally-after-requires c κs = search needs
 
 loop-less : tie.Need-loop-less Inv-loop μ-loop
 loop-less c =
-    let m = message-at _ _ _ _ _ (sym (c .before .before .before .before .before .before .before .before .before .before .before .before .before .before .before .next .given .1) ∙ c .before .before .before .before .before .before .before .before .before .before .before .before .before .before .before .before .before .message-at .ensures .told) in
+    let n = told (answered (c .before .before .before)) in
+    let m = message-at _ _ _ _ _ (sym (n .next .given .1) ∙ n .before .before .message-at .ensures .told) in
     omega arith
 
 loop-again : tie.Need-loop-again Inv-loop μ-loop
 loop-again c =
-    let a = c .before .before .before .before .before .before .before .before .before .answer in
-    going-on (c .before .before .before .before .before .before .before .before .before .before .before .before .before .before .before .before .before .before .loop .inv) _ _ _ _ _ _ (a .result)
-    (sym (c .before .before .before .before .before .before .before .before .before .before .before .before .before .before .before .next .given .1) ∙ c .before .before .before .before .before .before .before .before .before .before .before .before .before .before .before .before .before .message-at .ensures .told) (a .ensures)
+    let d = answered (c .before .before .before) in
+    let n = told d in
+    let a = d .answer in
+    going-on (n .before .before .before .loop .inv) _ _ _ _ _ _ (a .result)
+    (sym (n .next .given .1) ∙ n .before .before .message-at .ensures .told) (a .ensures)
     (a .kept .1 .0) (a .kept .1 .1 .0) (a .kept .1 .1 .1 .1 .0) (c .tally-after .ensures)
 
 enum-told : tie.Need-enum-told Inv-loop μ-loop
@@ -83,9 +100,12 @@ same-length-3 c = search needs
 
 returns : tie.Need-returns Inv-loop μ-loop
 returns c =
-    let a = c .before .before .before .before .before .before .before .before .before .answer2 in
-    going-cut (c .before .before .before .before .before .before .before .before .before .before .before .before .before .before .before .before .before .loop .inv) _ _ _ (a .result)
-    (sym (c .before .before .before .before .before .before .before .before .before .before .before .before .before .before .enum-told .given .1) ∙ c .before .before .before .before .before .before .before .before .before .before .before .before .before .before .before .before .message-at .ensures .told) (a .ensures) (c .tally-after2 .ensures)
+    let d = cut-answered (c .before .before .before) in
+    let n = cut-told d in
+    let a = d .answer2 in
+    going-cut (n .before .before .before .loop .inv) _ _ _ (a .result)
+    (sym (n .enum-told .given .1) ∙ n .before .before .message-at .ensures .told) (a .ensures)
+    (c .tally-after2 .ensures)
 
 enum-told-2 : tie.Need-enum-told-2 Inv-loop μ-loop
 enum-told-2 c = search needs

@@ -29,9 +29,12 @@ same-length-4 c = search needs
 
 returns : tie.Need-returns
 returns c =
-    let q = rw (c .before .before .before .before .before .before .before .before .before .before .before .before .before .before .tables-of .ensures) at (c .before .before .before .before .before .before .before .before .before .before .answers .ensures) in
+    let p = c .before .before in
+    let w = p .before .before in
+    let a = w .before .before .before .before .before .before in
+    let q = rw (a .before .before .before .before .tables-of .ensures) at (a .answers .ensures) in
     record {
-      tables-out = c .before .before .put-back .ensures ∙ rw (ap (λ (s : State). s .tables) (q .state-out));
+      tables-out = p .put-back .ensures ∙ rw (ap (λ (s : State). s .tables) (q .state-out));
       lent-out = rw (ap (λ (s : State). s .fast) (q .state-out), ap (λ (s : State). s .slow) (q .state-out), q .buffer-out);
       told = ap (λ (n : Tally). n .messages) (q .tally-out);
     }

@@ -1,5 +1,5 @@
-// ---- What is chosen: a page and a station, for all that is shown; a span for the figures; a kind, a number and a frame
-// for the list.
+// ---- What is chosen: a page and a station, for all that is shown; a span for the figures; a kind, a number and a
+// frame for the list.
 
 // Any number but 0, where a number is chosen.
 const REFUSED = 'refused';

@@ -17,16 +17,24 @@ Inv-loop bytes₀ at copies i₀ bytes i =
 abbrev μ-loop : tie.MeasureT-loop
 μ-loop bytes₀ at copies i₀ bytes i = 8 - i
 
+-- places of the walk: the start, the turn of the loop
+abbrev start : tie.At-loop Inv-loop μ-loop → tie.Start Inv-loop μ-loop
+start c = c .before .before
+
+abbrev turn : tie.After-put-copy Inv-loop μ-loop → tie.At-loop Inv-loop μ-loop
+turn c = c .before .before .before .before
+
 loop-again : tie.Need-loop-again Inv-loop μ-loop
 loop-again c =
-    let n : length (c .before .before .before .before .before .before .before .before .args .t1) ≡ 8 = search needs in
-    let l = c .before .before .before .before .before .before .loop in
-    let e = c .before .before .put-copy .ensures in
+    let p = c .before .before in
+    let n : length (start (turn p) .args .t1) ≡ 8 = search needs in
+    let l = turn p .loop in
+    let e = p .put-copy .ensures in
     (search needs, search needs, laid-more zeroCopy (l .inv .2) (omega arith) refl e)
 
 returns : tie.Need-returns Inv-loop μ-loop
 returns c =
-    let n : length (c .before .before .before .args .t1) ≡ 8 = search needs in
+    let n : length (start (c .before) .args .t1) ≡ 8 = search needs in
     let l = c .before .loop in
     let e : l .i ≡ 8 = omega arith in
     (laid-all (l .inv .2) (omega arith), rw e at (laid-far (l .inv .2) (omega arith)))

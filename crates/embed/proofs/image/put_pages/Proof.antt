@@ -17,16 +17,24 @@ Inv-loop bytes₀ pages i₀ bytes i =
 abbrev μ-loop : tie.MeasureT-loop
 μ-loop bytes₀ pages i₀ bytes i = 64 - i
 
+-- places of the walk: the start, the turn of the loop
+abbrev start : tie.At-loop Inv-loop μ-loop → tie.Start Inv-loop μ-loop
+start c = c .before .before
+
+abbrev turn : tie.After-put-page Inv-loop μ-loop → tie.At-loop Inv-loop μ-loop
+turn c = c .before .before .before .before
+
 loop-again : tie.Need-loop-again Inv-loop μ-loop
 loop-again c =
-    let n : length (c .before .before .before .before .before .before .before .before .args .t1) ≡ 64 = search needs in
-    let l = c .before .before .before .before .before .before .loop in
-    let e = c .before .before .put-page .ensures in
+    let p = c .before .before in
+    let n : length (start (turn p) .args .t1) ≡ 64 = search needs in
+    let l = turn p .loop in
+    let e = p .put-page .ensures in
     (search needs, search needs, laid-more zeroPage (l .inv .2) (omega arith) (e .1) (e .0))
 
 returns : tie.Need-returns Inv-loop μ-loop
 returns c =
-    let n : length (c .before .before .before .args .t1) ≡ 64 = search needs in
+    let n : length (start (c .before) .args .t1) ≡ 64 = search needs in
     let l = c .before .loop in
     let e : l .i ≡ 64 = omega arith in
     (laid-all (l .inv .2) (omega arith), rw e at (laid-far (l .inv .2) (omega arith)))

@@ -5,7 +5,7 @@ use Rattle.embed.proofs.lent.holds_tables.Statement.{statement}
 use Rattle.embed.proofs.lent.holds_tables.Tie as tie
 
 returns : tie.Need-returns
-returns c = rw (eq-eqb _ _ (c .before .if1 .taken)) (c .marked .ensures)
+returns c = rw (eq-eqb _ _ (c .before .if1 .taken)) (c .marks-valid .ensures)
 
 returns-2 : tie.Need-returns-2
 returns-2 c = rw (ne-eqb _ _ (c .if1 .left))

@@ -1,4 +1,5 @@
--- `message_at` meets its contract: a walk of its MIR, by hand. The reader that `open` returns is held in a local, where MIR erases its lifetime, and passed to `next_message`.
+-- `message_at` meets its contract: a walk of its MIR, by hand. The reader that `open` returns is held in a local, where
+-- MIR erases its lifetime, and passed to `next_message`.
 use mathlib.Core.Path.{_≡_, refl, subst}
 use Prim.Native.Nat.{ℕ, _<_, _^_}
 use mathlib.Core.List.{List, [], _∷_}

@@ -1,4 +1,5 @@
--- `next_at` meets its contract: each way out decides the tests of `nextAt`; what the answer means is the law `yields-at`.
+-- `next_at` meets its contract: each way out decides the tests of `nextAt`; what the answer means is the law
+-- `yields-at`.
 use Prim.Native.Nat.{_+_}
 use native.Mathlib.Omega.{arith}
 use lib.ListN.{length}

@@ -1,4 +1,5 @@
--- `next_message` meets its contract: a walk of its MIR, by hand. The reader is Copy: one copy is kept for the exit, the other is taken apart for `next_at`.
+-- `next_message` meets its contract: a walk of its MIR, by hand. The reader is Copy: one copy is kept for the exit, the
+-- other is taken apart for `next_at`.
 use mathlib.Core.Path.{_≡_, refl}
 use Prim.Native.Nat.{_<_, _^_}
 use mathlib.Core.List.{[], _∷_}

@@ -1,4 +1,5 @@
--- `open` meets its contract: a walk of its MIR, by hand. The slice is Copy: it is owned once at exit and once in the result.
+-- `open` meets its contract: a walk of its MIR, by hand. The slice is Copy: it is owned once at exit and once in the
+-- result.
 use mathlib.Core.Path.{refl}
 use Prim.Native.Nat.{ℕ, _<_, _^_}
 use mathlib.Core.List.{List, [], _∷_}

@@ -4,6 +4,13 @@ use borrow.Author.Needs.{needs}
 use Rattle.messages.proofs.replies.reply_decided.Statement.{statement}
 use Rattle.messages.proofs.replies.reply_decided.Tie as tie
 
+-- places of the walk: the start, the decision carried out
+abbrev start : tie.After-carry-arg2 → tie.Start
+start c = c .before .before .before .before .before .before .before
+
+abbrev carried : tie.After-head-arg → tie.After-carry
+carried c = c .before .before .before .before .before .before .before
+
 sub-data : tie.Need-sub-data
 sub-data c = search needs
 
@@ -30,8 +37,9 @@ same-length-3 c = search needs
 
 returns : tie.Need-returns
 returns c =
-    let k = c .before .before .before .before .before .before .before .before .before .before in
-    laid-reply _ _ _ _ _ _ _ _ _ (k .before .before .before .before .before .before .before .before .pre .room) (k .carry .ensures) (c .before .before .head .ensures)
+    let h = c .before .before in
+    let k = carried (h .before) in
+    laid-reply _ _ _ _ _ _ _ _ _ (start (k .before) .pre .room) (k .carry .ensures) (h .head .ensures)
 
 pub reply-decided-spec : {M : Type 1} → statement M
 reply-decided-spec =

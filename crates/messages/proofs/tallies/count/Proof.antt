@@ -1,4 +1,5 @@
--- `count` meets its contract: a walk of its MIR, by hand. The borrow is opened, and closed at the tally that `counted_up` returns.
+-- `count` meets its contract: a walk of its MIR, by hand. The borrow is opened, and closed at the tally that
+-- `counted_up` returns.
 use mathlib.Core.Path.{_≡_, refl}
 use mathlib.Core.Bool.{Bool}
 use Prim.Native.Nat.{ℕ, _<_, _^_}
@@ -101,14 +102,16 @@ module _ {M : Type 1} (𝓤 : URA M) (H : Heap 𝓤) (A : Atoms 𝓤) (W : Given
         move ! (13 ∷ []) $ fsplit ! $ fsplit3 ! $ drop ! $ move ! (15 ∷ []) $ split ! $ move ! (2 ∷ 3 ∷ 0 ∷ []) $
         opens ! tt (T.the-row) {h = h} b o (λ vs. spelt ! (T.the-row) (Is (T.the-row)) (shows 𝓤 H A (T.the-row)) (LL.vals T.the-type T′.the-laws) (LL.tells T.the-type T′.the-laws) fullShare h vs b o $
         move ! (1 ∷ []) $ peeks ! (T.the-row) (Is (T.the-row)) (shows 𝓤 H A (T.the-row)) h (mach ∷ []) (λ g. move ! (1 ∷ 0 ∷ []) $
-        -- [the struct's cell; what a Tally owns; the open borrow; obs; auth; true; what the others own; _5; …; _4; …; _3; …; _2; …; _1; …; room for _0; …]
+        -- [the struct's cell; what a Tally owns; the open borrow; obs; auth; true; what the others own; _5; …; _4; …;
+        -- _3; …; _2; …; _1; …; room for _0; …]
         assigns ! (of-opd ! (load ! (from ! (hop ! (look ! 15 refl) (stop !))) (look-raw ! 0 refl))) (from ! (stop !)) (init ! 7 refl (LL.lawful T.the-type T′.the-laws 𝓤 H A W .typed h _ g .0)) $
         nothing ! $ owned ! u16 (Is u16) (uint-makes 𝓤 H A W w16) n _ (refl, ok) $ fjoin ! $ owned ! bool (Is bool) (bool-makes 𝓤 H A W) f _ refl $ fjoin ! $ owned ! (T.the-row) (Is (T.the-row)) ((LL.makes T.the-type T′.the-plain) 𝓤 H A) h _ g $ fjoin ! $
         use1 W (raw (CountedUp 𝓤 H A at-mem run .pre to)) goes-counted-up $
         calls-at ! fm (CountedUp 𝓤 H A at-mem run) known to (and-then ! (load ! (from ! (stop !)) (look ! 8 refl)) (and-then ! (load ! (from ! (stop !)) (look ! 14 refl)) (and-then ! (load ! (from ! (stop !)) (look ! 12 refl)) (no-more !)))) (λ u.
         use1 W (later (some (λ (t : Tally). (‵ ftrue ⊛ ‵ (T.the-row .own t (u ∷ []))) ⊛ raw (ensured 𝓤 H A counted-up.ended (counted-up.clauses 𝓤 H A at-mem run) tt (h, (f, (n, tt))) tt t)))) (id⊢ 𝓤 _) $ await ! tt $ pick ! (λ t.
         split ! $ move ! (1 ∷ []) $ use1 W (raw (fact 𝓤 (t ≡ found))) (said t) $ heard ! (t ≡ found) (λ e. split ! $ drop ! $
-        -- [what the result owns; the struct's cell; what a Tally owns; the open borrow; obs; auth; true; what the others own; _5; …]
+        -- [what the result owns; the struct's cell; what a Tally owns; the open borrow; obs; auth; true; what the
+        -- others own; _5; …]
         peeks ! (T.the-row) (Is (T.the-row)) (shows 𝓤 H A (T.the-row)) t (u ∷ []) (λ is.
         land ! (from ! (stop !)) (init ! 10 refl (LL.lawful T.the-type T′.the-laws 𝓤 H A W .typed t _ is .0)) $
         assigns ! (of-opd ! (load ! (from ! (stop !)) (look ! 10 refl))) (from ! (hop ! (look ! 16 refl) (stop !))) (store-raw ! 1 refl (LL.lawful T.the-type T′.the-laws 𝓤 H A W .typed t _ is .0)) $

@@ -1,4 +1,5 @@
--- `tally_after` meets its contract: a walk of its MIR, by hand. The local is lent to `count` for a lifetime that is made for the call, and taken back at its last value.
+-- `tally_after` meets its contract: a walk of its MIR, by hand. The local is lent to `count` for a lifetime that is
+-- made for the call, and taken back at its last value.
 use mathlib.Core.Path.{_≡_, refl}
 use mathlib.Core.Bool.{Bool}
 use Prim.Native.Nat.{ℕ, _<_, _^_}
@@ -121,7 +122,8 @@ module _ {M : Type 1} (𝓤 : URA M) (H : Heap 𝓤) (A : Atoms 𝓤) (W : Given
         move ! (4 ∷ []) $ use1 W (‵ (partAt T.the-row fullShare h l₄ 0)) (in-mem 𝓤 H A W h l₄ g) $ lft-new ! tt (λ α. move ! (1 ∷ []) $
         use1 W (later (some (λ (δ : GName). ‵ (MutRef (named 0) (α ∷ []) T.the-row .own (lent l₄ δ) (vptr l₄ 0 ∷ [])) ⊛ ‵ (flent (α ∷ []) (Body (mem T.the-row) l₄ 0 δ))))) (lends-ref 𝓤 H A W T.the-row (named 0) (α ∷ []) h l₄ 0) $
         await ! tt $ pick ! (λ δ. split ! $ move ! (0 ∷ 2 ∷ []) $ use2 W (raw (Count 𝓤 H A at-mem run .pre (to α l₄ δ))) (goes-count α l₄ δ) $
-        -- [what `count` asks; the lender's part; _6; …; room for _5; …; what frees _4; _3; …; _2; …; _1; …; room for _0; …]
+        -- [what `count` asks; the lender's part; _6; …; room for _5; …; what frees _4; _3; …; _2; …; _1; …; room for
+        -- _0; …]
         calls-at ! fm (Count 𝓤 H A at-mem run) known (to α l₄ δ) (and-then ! (load ! (from ! (stop !)) (look ! 2 refl)) (and-then ! (load ! (from ! (stop !)) (look ! 9 refl)) (and-then ! (load ! (from ! (stop !)) (look ! 7 refl)) (no-more !)))) (λ w.
         use1 W (later (some (λ (r : Unit {0}). ((‵ (flft (α ∷ []) fullShare) ⊛ ‵ ftrue) ⊛ ‵ (unit .own r (w ∷ []))) ⊛ raw (ensured 𝓤 H A count.ended (count.clauses 𝓤 H A at-mem run) (α ∷ [], tt) (lent l₄ δ, (f, (n, tt))) tt r)))) (id⊢ 𝓤 _) $ await ! tt $ pick ! (λ r.
         split ! $ move ! (1 ∷ []) $ use1 W (some (λ (ts : Tally × (Unit {0} × (Unit {0} × Unit {0}))). ‵ (lasts count.ended (α ∷ [], tt) (lent l₄ δ, (f, (n, tt))) ts) ⊛ raw (fact 𝓤 (ts .0 ≡ found)))) (id⊢ 𝓤 _) $ pick ! (λ ts.

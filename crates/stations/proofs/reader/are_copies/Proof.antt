@@ -27,12 +27,12 @@ add-if3 c = omega (arith, c .before .shared-slice-known2 .given 0)
 returns-3 : tie.Need-returns-3
 returns-3 c = sym (copies-odd (c .before .before .before .before .before .args .d .now) (c .if3 .taken))
 
-marked-requires : tie.Need-marked-requires
-marked-requires c κs = search needs
+marks-valid-requires : tie.Need-marks-valid-requires
+marks-valid-requires c κs = search needs
 
 returns-4 : tie.Need-returns-4
 returns-4 c =
-    c .marked .ensures ∙ sym (copies-marked (c .before .before .before .before .before .before .args .d .now) (c .before .before .if2 .left) (c .before .if3 .left))
+    c .marks-valid .ensures ∙ sym (copies-marked (c .before .before .before .before .before .before .args .d .now) (c .before .before .if2 .left) (c .before .if3 .left))
 
 pub are-copies-spec : {M : Type 1} → statement M
 are-copies-spec =
@@ -45,5 +45,5 @@ are-copies-spec =
     mul-if3
     add-if3
     returns-3
-    marked-requires
+    marks-valid-requires
     returns-4)

@@ -9,12 +9,17 @@ use borrow.Author.Needs.{needs}
 use Rattle.stations.proofs.reader.read_body.Statement.{statement}
 use Rattle.stations.proofs.reader.read_body.Tie as tie
 
+-- a place of the walk: the start
+abbrev start : tie.After-is-reply → tie.Start
+start c = c .before .before .before .before .before .before .before
+
 -- where it is a reply it has four bytes
-long : (c : tie.Else4) → 4 ≤ length (c .before .before .before .before .before .before .before .before .args .m .now)
+long : (c : tie.Else4) → 4 ≤ length (start (c .before) .args .m .now)
 long c =
     let r = c .before in
-    let a = r .before .before .before .before .before .before .before .args in
-    reply-long (kindOf (a .kind)) (a .m .now) (rw (r .is-reply .ensures) at (not-false (r .is-reply .result) (c .if4 .left)))
+    let a = start r .args in
+    reply-long (kindOf (a .kind)) (a .m .now)
+    (rw (r .is-reply .ensures) at (not-false (r .is-reply .result) (c .if4 .left)))
 
 refused-requires : tie.Need-refused-requires
 refused-requires c κs = search needs

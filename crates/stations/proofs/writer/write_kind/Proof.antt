@@ -11,16 +11,23 @@ use borrow.Author.Needs.{needs}
 use Rattle.stations.proofs.writer.write_kind.Statement.{statement}
 use Rattle.stations.proofs.writer.write_kind.Tie as tie
 
+-- a place of the walk: the start
+abbrev start : tie.Else2 → tie.Start
+start c = c .before .before .before .before .before
+
 -- the number of the call
 told : (c : tie.After-outside) →
-    let a = c .before .before .before .before .before .before .before .before .args in
-    c .outside .result ≡ outside 254 (length (a .bytes .now)) (callOf (kindOf (a .kind)) (a .first ∷ a .second ∷ a .third ∷ a .fourth ∷ []))
+    let a = start (c .before .before .before) .args in
+    c .outside .result
+    ≡ outside 254 (length (a .bytes .now))
+    (callOf (kindOf (a .kind)) (a .first ∷ a .second ∷ a .third ∷ a .fourth ∷ []))
 told c =
-    let a = c .before .before .before .before .before .before .before .before .args in
-    c .outside .ensures ∙ ap (λ (f : Form). outside 254 (length (a .bytes .now)) (f .call)) (c .before .before .form-of .ensures)
+    let a = start (c .before .before .before) .args in
+    c .outside .ensures
+    ∙ ap (λ (f : Form). outside 254 (length (a .bytes .now)) (f .call)) (c .before .before .form-of .ensures)
 
 -- whether the kind is unknown
-known : (c : tie.Else2) → isUnknown (c .before .before .before .before .before .args .kind) ≡ false
+known : (c : tie.Else2) → isUnknown (start c .args .kind) ≡ false
 known c = sym (c .before .is-unknown .ensures) ∙ c .if2 .left
 
 refused-requires : tie.Need-refused-requires
@@ -57,7 +64,7 @@ returns-3 : tie.Need-returns-3
 returns-3 c =
     let o = c .before .before in
     let u = o .before .before .before in
-    let a = u .before .before .before .before .before .args in
+    let a = start u .args in
     wrote-refused _ _ (a .out .now) _
     (as-outside _ (a .kind) _ (a .bytes .now) (u .before .before .if1 .left) (known u) _ (told o) (c .before .if3 .taken)) (c .refused3 .ensures)
 
@@ -66,7 +73,7 @@ lay-message-requires c κs =
     let e = c .before in
     let o = e .before in
     let u = o .before .before .before in
-    let a = u .before .before .before .before .before .args in
+    let a = start u .args in
     rw (o .before .before .form-of .ensures)
     (room-for (kindOf (a .kind)) (a .first ∷ a .second ∷ a .third ∷ a .fourth ∷ []) (a .bytes .now) (a .out .now) (sym (told o) ∙ e .if3 .left) (u .before .before .if1 .left))
 
@@ -79,7 +86,7 @@ returns-4 c =
     let e = l .before .before in
     let o = e .before in
     let u = o .before .before .before in
-    let a = u .before .before .before .before .before .args in
+    let a = start u .args in
     let f = o .before .before .form-of in
     wrote-accepted _ _ (a .out .now) _ _
     (as-inside _ (a .kind) (a .first ∷ a .second ∷ a .third ∷ a .fourth ∷ []) (a .bytes .now) (u .before .before .if1 .left) (known u) (sym (told o) ∙ e .if3 .left) (few-singles (kindOf (a .kind))))

@@ -1,4 +1,5 @@
--- `steps::access::first_current` meets its contract. The invariant: no copy before j is CURRENT, and those from j on have the answer.
+-- `steps::access::first_current` meets its contract. The invariant: no copy before j is CURRENT, and those from j on
+-- have the answer.
 use Prim.Native.Nat.{_-_}
 use mathlib.Core.Path.{_≡_, refl, sym, _∙_}
 use native.Mathlib.Omega.{arith}

@@ -1,4 +1,5 @@
--- `steps::access::write_page` meets its contract: 9, 10 and 11, or the bytes laid, 64 to each of eight copies at the most.
+-- `steps::access::write_page` meets its contract: 9, 10 and 11, or the bytes laid, 64 to each of eight copies at the
+-- most.
 use native.Mathlib.Nat.{mul-le-mul}
 use native.Mathlib.Omega.{arith}
 use borrow.Author.Tests.{eq-eqb, ne-eqb}

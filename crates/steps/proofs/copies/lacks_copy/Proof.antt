@@ -1,6 +1,5 @@
 -- `lacks_copy`: 9, then 12.
 use borrow.Author.Tests.{eq-eqb, ne-eqb, le-leb, lt-leb}
-use borrow.Author.Needs.{needs}
 use Rattle.steps.proofs.copies.lacks_copy.Statement.{statement}
 use Rattle.steps.proofs.copies.lacks_copy.Tie as tie
 

@@ -1,4 +1,5 @@
--- `decide` meets its contract: a walk of its MIR, by hand. The local is lent to `decide_at` for the call, and taken back as it was.
+-- `decide` meets its contract: a walk of its MIR, by hand. The local is lent to `decide_at` for the call, and taken
+-- back as it was.
 use mathlib.Core.Path.{_≡_, refl}
 use Prim.Native.Nat.{ℕ, _<_, _^_}
 use mathlib.Core.List.{[], _∷_}

@@ -1,4 +1,6 @@
--- `decide_any` meets its contract: a walk of its MIR, by hand. `rules` has a copy of the local, which is then lent to `decide_at` for the call, and taken back as it was; `ruled` has what the two answer. That decides the call, by `DecisionLaws`.
+-- `decide_any` meets its contract: a walk of its MIR, by hand. `rules` has a copy of the local, which is then lent to
+-- `decide_at` for the call, and taken back as it was; `ruled` has what the two answer. That decides the call, by
+-- `DecisionLaws`.
 use mathlib.Core.Path.{_≡_, refl}
 use Prim.Native.Nat.{ℕ, _<_, _^_}
 use mathlib.Core.List.{[], _∷_}
@@ -87,7 +89,8 @@ module _ {M : Type 1} (𝓤 : URA M) (H : Heap 𝓤) (A : Atoms 𝓤) (W : Given
         (and-then ! (local ! 3 refl) (and-then ! (local ! 13 refl) (and-then ! (local ! 11 refl) (no-more !))))
         (λ is-number wt-number. land ! (from ! (stop !)) (init ! 6 refl (wt-number .0)) $
         assigns ! (addr ! (from ! (stop !))) (from ! (stop !)) (init ! 0 refl (tt, tt)) $
-        -- [the reference; its token; the lender's part; _10; …; _9; …; _8; …; _7; …; what frees _6; _5; …; _4; …; _3; …; _2; …; _1; …; room for _0; …]
+        -- [the reference; its token; the lender's part; _10; …; _9; …; _8; …; _7; …; what frees _6; _5; …; _4; …; _3;
+        -- …; _2; …; _1; …; room for _0; …]
         move ! (8 ∷ []) $ lends ! tt tabled T′.mir l₆ h is-tables (W .laws .at-raw fullShare T′.mir l₆ 0 (tabled .val h)) (λ α δ.
         asks ! 𝓣 T.the-row (call ∷ word ∷ []) decision (decide-at.clauses 𝓤 H A mem run) known-decide (α ∷ []) fullShare (lent-at l₆ δ h)
         (m, (size, tt)) (is-call, ((refl, size-fits), tt)) tt (id⊢ 𝓤 (emp 𝓤)) decided (λ r e. refl)

@@ -1,5 +1,5 @@
--- `decide_at` meets its contract: a walk of its MIR, by hand. The field `shared` is read behind the reference, which then goes on to `page_at`
--- and to `Tables::registered`; `decision_on` has what is found.
+-- `decide_at` meets its contract: a walk of its MIR, by hand. The field `shared` is read behind the reference, which
+-- then goes on to `page_at` and to `Tables::registered`; `decision_on` has what is found.
 use mathlib.Core.Path.{_≡_, refl}
 use Prim.Native.Nat.{ℕ, _<_, _^_}
 use native.Mathlib.Nat.{lt-of-lt-of-le}
@@ -29,7 +29,7 @@ use denote.Triple.Clauses.{Clauses}
 use denote.Triple.Spec.{Meets, tripleOf}
 use denote.Triple.Table.{entered, cited}
 use Rattle.tables.specs.Model.{pageAt}
-use Rattle.tables.specs.Search.{Tells}
+use Rattle.tables.specs.Search.{HolderIs}
 use Rattle.tables.specs.Register.{registered}
 use Rattle.tables.specs.declared.Page.{Page}
 use Rattle.tables.specs.declared.Tables.{Tables as Tabled}
@@ -115,7 +115,8 @@ module _ {M : Type 1} (𝓤 : URA M) (H : Heap 𝓤) (A : Atoms 𝓤) (W : Given
         (t .now .shared) _ is-shared .0)) $
         use1 W (‵ (cellAt q′ (T.the-row .mir) (tabled .val (t .now) ∷ []) (t .ptr .0) (t .ptr .1))) (W .laws .at-raw q′ T′.mir (t .ptr .0) (t .ptr .1)
         (tabled .val (t .now))) $ looks-away ! tt tabled q′ κ q t $
-        -- the number of the page, and its record. [the reference; its token; _8; …; _7; …; _6; …; _5; …; _4; …; _3; …; _2; …; _1; …; room for _0; …]
+        -- the number of the page, and its record. [the reference; its token; _8; …; _7; …; _6; …; _5; …; _4; …; _3; …;
+        -- _2; …; _1; …; room for _0; …]
         tells ! 𝓣 (call ∷ []) byte (page-for.clauses 𝓤 H A mem run) known-number (m, tt) (is-call, tt) tt (id⊢ 𝓤 (emp 𝓤)) (pageFor m) (λ r e. refl)
         (and-then ! (local ! 15 refl) (no-more !))
         (λ is-number wt-number. land ! (from ! (stop !)) (init ! 8 refl (wt-number .0)) $
@@ -126,7 +127,7 @@ module _ {M : Type 1} (𝓤 : URA M) (H : Heap 𝓤) (A : Atoms 𝓤) (W : Given
         (λ is-page wt-page. land ! (from ! (stop !)) (init ! 6 refl (wt-page .0)) $
         -- the holder of the frame
         asks-so ! 𝓣 T.the-row (byte ∷ []) holder (by-register.clauses 𝓤 H A mem run) known-holder κ q t (m .frame, tt)
-        (SL.owed C.the-type C′.the-laws m _ is-call .1 .1 .1 .1 .1 .1 .1 .1 .0, tt) tt (id⊢ 𝓤 (emp 𝓤)) found (Tells found) (λ r w. w .case) (λ r e. refl)
+        (SL.owed C.the-type C′.the-laws m _ is-call .1 .1 .1 .1 .1 .1 .1 .1 .0, tt) tt (id⊢ 𝓤 (emp 𝓤)) found (HolderIs found) (λ r w. w .case) (λ r e. refl)
         (and-then ! (local ! 16 refl)
         (and-then ! (load ! (from ! (fld ! {τ = tyInt w8} {d = 8} refl (stop !))) (look-in ! 14 (sub ! 8 {τ = tyInt w8} {d = 8} refl (whole !)))) (no-more !)))
         (λ is-found wt-found. land ! (from ! (stop !)) (init ! 4 refl (wt-found .0)) $

@@ -68,7 +68,8 @@ module _ {M : Type 1} (𝓤 : URA M) (H : Heap 𝓤) (A : Atoms 𝓤) (W : Given
         assigns ! (addr ! (from ! (hop ! (look ! 10 refl) (fld ! refl (stop !))))) (from ! (stop !)) (init ! 4 refl (tt, tt)) $
         assigns ! (bin ! (local ! 4 refl) (local ! 6 refl) tt) (from ! (stop !)) (init ! 2 refl (tt, tt)) $
         rewrite ! 2 (λ (p : ℕ). ‵ (fat fullShare tyPtr l₅ 0 (vptr b p))) (sym (place-is 42 (o + pages .offset) i)) refl $
-        -- the record behind the borrow, and the borrow again. [the record's cell; what it owns; six that are the way back; _6; …; _5; …; _4; …; _3; …; _2; …; _1; …; room for _0; …]
+        -- the record behind the borrow, and the borrow again. [the record's cell; what it owns; six that are the way
+        -- back; _6; …; _5; …; _4; …; _3; …; _2; …; _1; …; room for _0; …]
         move ! (14 ∷ 15 ∷ []) $ element-in pages t i zeroPage ! tt (SL.copy T.the-type T′.the-copy 𝓤 H A W) κ q within (λ q′ len is.
         assigns ! (of-opd ! (load ! (from ! (hop ! (look ! 10 refl) (stop !))) (look-raw ! 0 refl))) (from ! (stop !))
         (init ! 8 refl (page .lawful 𝓤 H A W .typed found _ is .0)) $

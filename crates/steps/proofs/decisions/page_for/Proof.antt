@@ -1,6 +1,5 @@
 -- `page_for`: the page that is named, or page 0.
 use borrow.Author.Tests.{lt-ltb, le-ltb}
-use borrow.Author.Needs.{needs}
 use Rattle.steps.proofs.decisions.page_for.Statement.{statement}
 use Rattle.steps.proofs.decisions.page_for.Tie as tie
 

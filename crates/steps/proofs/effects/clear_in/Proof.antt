@@ -1,7 +1,7 @@
 -- `clear_in`: the frame is filled, if it is one.
 use mathlib.Core.Path.{refl}
 use borrow.Author.Tests.{ltb-true, eq-eqb, ne-eqb}
-use Rattle.steps.specs.Stores.{layAll}
+use Rattle.steps.specs.Stores.{layFrames}
 use Rattle.steps.proofs.CarryLaws.{room-at}
 use borrow.Author.Needs.{needs}
 use Rattle.steps.proofs.effects.clear_in.Statement.{statement}
@@ -20,11 +20,11 @@ same-length-2 : tie.Need-same-length-2
 same-length-2 c = search needs
 
 returns : tie.Need-returns
-unfolding layAll
+unfolding layFrames
 returns c = rw (ne-eqb _ 255 (c .before .before .before .before .before .before .before .if1 .taken)) (c .before .before .before .before .clear-frame .ensures)
 
 returns-2 : tie.Need-returns-2
-unfolding layAll
+unfolding layFrames
 returns-2 c = rw (eq-eqb _ 255 (c .if1 .left)) refl
 
 pub clear-in-spec : {M : Type 1} → statement M

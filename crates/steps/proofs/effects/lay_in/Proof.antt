@@ -1,20 +1,43 @@
 -- `lay_in`: each arm lays into frames that lie within the stores.
-use mathlib.Core.Path.{refl, _∙_}
+use mathlib.Core.Path.{refl, sym, ap, _∙_}
+use mathlib.Core.Bool.{Bool}
 use Prim.Native.Nat.{_+_}
 use lib.ListN.{length}
 use lib.Dec.{ltb, leb}
 use borrow.Author.Tests.{ltb-true, leb-true}
 use Rattle.tables.specs.Rules.{isCurrent}
 use Rattle.tables.proofs.ListLaws.{and-left, and-right}
+use Rattle.steps.specs.declared.Lay.{Lay}
 use Rattle.steps.specs.Steps.{isPlaced}
-use Rattle.steps.specs.Stores.{layAll}
+use Rattle.steps.specs.Stores.{layFrames}
 use Rattle.steps.specs.Effects.{laidFrames}
+use Rattle.steps.specs.Promises.{layWithin}
 use Rattle.steps.specs.Private.{framesIn}
 use Rattle.steps.proofs.Blocks.{lay-each-is}
 use Rattle.steps.proofs.CarryLaws.{room-at, room-each}
 use borrow.Author.Needs.{needs}
 use Rattle.steps.proofs.effects.lay_in.Statement.{statement}
 use Rattle.steps.proofs.effects.lay_in.Tie as tie
+
+-- places of the walk: the start, and where the lay is told to be one of its kinds
+abbrev start : tie.After-slice-known2 → tie.Start
+start c = c .before .before .before
+
+abbrev clear-told : tie.After-clear-frame-arg2 → tie.After-lay
+clear-told c = c .before .before .before
+
+abbrev page-told : tie.After-clear-page-arg2 → tie.After-enum-told2
+page-told c = c .before .before
+
+abbrev copy-told : tie.After-copy-frame-arg2 → tie.After-lay2
+copy-told c = c .before .before .before
+
+abbrev each-told : tie.After-lay-each-arg2 → tie.After-lay3
+each-told c = c .before .before .before
+
+-- what is lent fits a lay
+abbrev fits : tie.Start → Lay → Bool
+fits i = layWithin (i .args .page) (framesIn (i .args .fast .now) (i .args .slow .now)) (length (i .args .bytes .now))
 
 enum-told : tie.Need-enum-told
 enum-told c = search needs
@@ -27,8 +50,9 @@ cast-clear-frame c = search needs
 
 clear-frame-requires : tie.Need-clear-frame-requires
 clear-frame-requires c κs =
-    let i = c .before .before .before .before .before .before .before .before in
-    let e = rw (c .before .before .before .lay .given .1) at (i .pre .1) in
+    let t = clear-told c in
+    let i = start (t .before .before) in
+    let e = sym (ap (fits i) (t .lay .given .1)) ∙ i .pre .1 in
     room-at (i .args .fast .now) (i .args .slow .now) (i .pre .0) _ (ltb-true _ _ e)
 
 enum-told-2 : tie.Need-enum-told-2
@@ -36,8 +60,10 @@ enum-told-2 c = search needs
 
 clear-page-requires : tie.Need-clear-page-requires
 clear-page-requires c κs =
-    let i = c .before .before .before .before .before .before .before in
-    room-each (i .args .fast .now) (i .args .slow .now) (i .pre .0) isPlaced (i .args .page) (rw (c .before .before .enum-told2 .given .1) at (i .pre .1))
+    let t = page-told c in
+    let i = start (t .before .before) in
+    room-each (i .args .fast .now) (i .args .slow .now) (i .pre .0) isPlaced (i .args .page)
+    (sym (ap (fits i) (t .enum-told2 .given .1)) ∙ i .pre .1)
 
 enum-known-lay-2 : tie.Need-enum-known-lay-2
 enum-known-lay-2 c = search needs
@@ -50,9 +76,10 @@ cast-copy-frame-2 c = search needs
 
 copy-frame-requires : tie.Need-copy-frame-requires
 copy-frame-requires c κs =
-    let i = c .before .before .before .before .before .before .before .before in
-    let w = c .before .before .before .lay2 .given in
-    let e = rw (w .1) at (i .pre .1) in
+    let t = copy-told c in
+    let i = start (t .before .before) in
+    let w = t .lay2 .given in
+    let e = sym (ap (fits i) (w .1)) ∙ i .pre .1 in
     let at = room-at (i .args .fast .now) (i .args .slow .now) (i .pre .0) in (
       at _ (ltb-true _ _ (and-left _ _ e)),
       at _ (ltb-true _ _ (and-right (ltb (w .0 .0) (framesIn (i .args .fast .now) (i .args .slow .now))) _ e)),
@@ -66,16 +93,17 @@ cast-lay-each c = search needs
 
 lay-each-requires : tie.Need-lay-each-requires
 lay-each-requires c κs =
-    let i = c .before .before .before .before .before .before .before .before in
-    let w = c .before .before .before .lay3 .given in
-    let e = rw (w .1) at (i .pre .1) in (
+    let t = each-told c in
+    let i = start (t .before .before) in
+    let w = t .lay3 .given in
+    let e = sym (ap (fits i) (w .1)) ∙ i .pre .1 in (
       room-each (i .args .fast .now) (i .args .slow .now) (i .pre .0) isCurrent (i .args .page)
           (and-right (leb (w .0 .0 + length (i .args .bytes .now)) 64) _ e),
       leb-true _ 64 (and-left _ _ e),
     )
 
 returns : tie.Need-returns
-unfolding laidFrames layAll
+unfolding laidFrames layFrames
 returns c = rw (c .enum-told .given .1) refl
 
 same-length : tie.Need-same-length
@@ -85,8 +113,10 @@ same-length-2 : tie.Need-same-length-2
 same-length-2 c = search needs
 
 returns-2 : tie.Need-returns-2
-unfolding laidFrames layAll
-returns-2 c = rw (c .before .before .before .before .before .before .before .before .lay .given .1) (c .before .before .before .before .clear-frame .ensures)
+unfolding laidFrames layFrames
+returns-2 c =
+    let l = c .before .before .before .before in
+    rw (clear-told (l .before) .lay .given .1) (l .clear-frame .ensures)
 
 same-length-3 : tie.Need-same-length-3
 same-length-3 c = search needs
@@ -96,7 +126,9 @@ same-length-4 c = search needs
 
 returns-3 : tie.Need-returns-3
 unfolding laidFrames
-returns-3 c = rw (c .before .before .before .before .before .before .before .enum-told2 .given .1) (c .before .before .before .before .clear-page .ensures ∙ lay-each-is isPlaced _ _ _ _)
+returns-3 c =
+    let l = c .before .before .before .before in
+    rw (page-told (l .before) .enum-told2 .given .1) (l .clear-page .ensures ∙ lay-each-is isPlaced _ _ _ _)
 
 same-length-5 : tie.Need-same-length-5
 same-length-5 c = search needs
@@ -105,8 +137,10 @@ same-length-6 : tie.Need-same-length-6
 same-length-6 c = search needs
 
 returns-4 : tie.Need-returns-4
-unfolding laidFrames layAll
-returns-4 c = rw (c .before .before .before .before .before .before .before .before .lay2 .given .1) (c .before .before .before .before .copy-frame .ensures)
+unfolding laidFrames layFrames
+returns-4 c =
+    let l = c .before .before .before .before in
+    rw (copy-told (l .before) .lay2 .given .1) (l .copy-frame .ensures)
 
 same-length-7 : tie.Need-same-length-7
 same-length-7 c = search needs
@@ -116,7 +150,9 @@ same-length-8 c = search needs
 
 returns-5 : tie.Need-returns-5
 unfolding laidFrames
-returns-5 c = rw (c .before .before .before .before .before .before .before .before .lay3 .given .1) (c .before .before .before .before .lay-each .ensures ∙ lay-each-is isCurrent _ _ _ _)
+returns-5 c =
+    let l = c .before .before .before .before in
+    rw (each-told (l .before) .lay3 .given .1) (l .lay-each .ensures ∙ lay-each-is isCurrent _ _ _ _)
 
 pub lay-in-spec : {M : Type 1} → statement M
 lay-in-spec =

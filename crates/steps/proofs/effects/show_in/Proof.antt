@@ -1,20 +1,34 @@
 -- `show_in`: each arm shows what the tables or the stores hold.
 use Prim.Native.Nat.{ℕ, _+_}
-use mathlib.Core.Path.{ap, _∙_}
+use mathlib.Core.Path.{sym, ap, _∙_}
+use mathlib.Core.Bool.{Bool}
 use mathlib.Core.List.{List, _++_}
 use native.Mathlib.Omega.{arith}
 use lib.ListN.{length}
 use lib.Dec.{ltb}
 use borrow.Author.Tests.{ltb-true, leb-true}
 use Rattle.tables.proofs.ListLaws.{and-left, and-right}
+use Rattle.steps.specs.declared.Show.{Show}
 use Rattle.steps.specs.Stores.{block, over}
 use Rattle.steps.specs.Effects.{shownOf}
+use Rattle.steps.specs.Promises.{showWithin}
 use Rattle.steps.specs.Private.{framesIn}
 use Rattle.steps.proofs.StoreLaws.{length-part-le, splice-front}
 use Rattle.steps.proofs.CarryLaws.{room-at}
 use borrow.Author.Needs.{needs}
 use Rattle.steps.proofs.effects.show_in.Statement.{statement}
 use Rattle.steps.proofs.effects.show_in.Tie as tie
+
+-- places of the walk: the start, and where the show is told to be a read
+abbrev start : tie.After-slice-known → tie.Start
+start c = c .before .before .before
+
+abbrev read-told : tie.After-frame-part → tie.After-show
+read-told c = c .before .before
+
+-- what is lent fits a show
+abbrev fits : tie.Start → Show → Bool
+fits i = showWithin (i .args .len) (framesIn (i .args .fast .now) (i .args .slow .now))
 
 enum-known-show : tie.Need-enum-known-show
 enum-known-show c = search needs
@@ -27,19 +41,21 @@ cast-frame-part-2 c = search needs
 
 frame-part-requires : tie.Need-frame-part-requires
 frame-part-requires c κs =
-    let i = c .before .before .before .before .before .before in
-    let w = c .before .show .given in
-    let e = rw (w .1) at (i .pre .1 .1) in (
+    let t = c .before in
+    let i = start (t .before .before) in
+    let w = t .show .given in
+    let e = sym (ap (fits i) (w .1)) ∙ i .pre .1 .1 in (
       room-at (i .args .fast .now) (i .args .slow .now) (i .pre .0) _ (ltb-true _ _ (and-left _ _ e)),
       leb-true _ 64 (and-right (ltb (w .0 .0) (framesIn (i .args .fast .now) (i .args .slow .now))) _ e),
     )
 
 put-requires : tie.Need-put-requires
 put-requires c κs =
-    let i = c .before .before .before .before .before .before .before .before in
+    let t = read-told (c .before) in
+    let i = start (t .before .before) in
     let a = i .args in
-    let w = c .before .before .before .show .given in
-    let e = rw (w .1) at (i .pre .1 .1) in
+    let w = t .show .given in
+    let e = sym (ap (fits i) (w .1)) ∙ i .pre .1 .1 in
     let h = leb-true (w .0 .1 .0 + a .len) 64 (and-right (ltb (w .0 .0) (framesIn (a .fast .now) (a .slow .now))) _ e) in
     let l = ap length (c .before .frame-part .ensures) in
     let k = i .pre .1 .0 in
@@ -63,10 +79,12 @@ same-length c = search needs
 returns : tie.Need-returns
 unfolding shownOf
 returns c =
-    let a = c .before .before .before .before .before .before .before .before .before .before .before .args in
-    rw (c .before .before .before .before .before .before .show .given .1)
+    let r = c .before .before .before .before in
+    let t = read-told r in
+    let a = start (t .before .before) .args in
+    rw (t .show .given .1)
     (c .before .before .put .ensures ∙ splice-front (a .out .now) _
-    ∙ ap (λ (b : List ℕ). over b (a .out .now)) (c .before .before .before .before .frame-part .ensures))
+    ∙ ap (λ (b : List ℕ). over b (a .out .now)) (r .frame-part .ensures))
 
 same-length-2 : tie.Need-same-length-2
 same-length-2 c = search needs

@@ -1,6 +1,6 @@
 -- `delete_page`: what the owner may do, with 64 bytes laid for each frame.
 use mathlib.Core.Path.{_≡_}
-use Rattle.steps.specs.Steps.{placed, perform}
+use Rattle.steps.specs.Steps.{placedCount, perform}
 use Rattle.steps.proofs.GuardLaws.{guard-refused, guard-on}
 use borrow.Author.Needs.{needs}
 use Rattle.steps.proofs.pages.delete_page.Statement.{statement}
@@ -32,7 +32,7 @@ returns-2 : tie.Need-returns-2
 unfolding perform
 returns-2 c = λ size.
     let n = c .before .before in
-    let k : c .before .count-of .result ≡ placed (n .before .before .before .args .view .page) = c .before .count-of .ensures .0 in
+    let k : c .before .count-of .result ≡ placedCount (n .before .before .before .args .view .page) = c .before .count-of .ensures .0 in
     guard-on (n .before .lacks-owner .ensures) _ (n .if1 .left) (rw (← k) (c .laying .ensures))
 
 pub delete-page-spec : {M : Type 1} → statement M

@@ -1,6 +1,5 @@
 -- `lacks_owner`: 9, then 10.
 use borrow.Author.Tests.{eq-eqb, ne-eqb}
-use borrow.Author.Needs.{needs}
 use Rattle.steps.proofs.pages.lacks_owner.Statement.{statement}
 use Rattle.steps.proofs.pages.lacks_owner.Tie as tie
 

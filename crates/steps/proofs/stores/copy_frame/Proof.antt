@@ -3,6 +3,10 @@ use borrow.Author.Needs.{needs}
 use Rattle.steps.proofs.stores.copy_frame.Statement.{statement}
 use Rattle.steps.proofs.stores.copy_frame.Tie as tie
 
+-- a place of the walk: the frame loaded
+abbrev loaded : tie.After-b → tie.After-load
+loaded c = c .before .before .before
+
 load-requires : tie.Need-load-requires
 load-requires c κs = search needs
 
@@ -20,8 +24,8 @@ same-length-2 c = search needs
 
 returns : tie.Need-returns
 returns c =
-    rw (← (c .before .before .before .before .before .before .before .before .load .ensures))
-    (c .before .before .before .before .lay-frame .ensures)
+    let l = c .before .before .before .before in
+    rw (← (loaded (l .before) .load .ensures)) (l .lay-frame .ensures)
 
 pub copy-frame-spec : {M : Type 1} → statement M
 copy-frame-spec =

@@ -5,6 +5,13 @@ use borrow.Author.Needs.{needs}
 use Rattle.steps.proofs.stores.lay_copy.Statement.{statement}
 use Rattle.steps.proofs.stores.lay_copy.Tie as tie
 
+-- places of the walk: the start, the copy taken to be laid
+abbrev start : tie.After-is-chosen → tie.Start
+start c = c .before .before .before .before
+
+abbrev taken : tie.After-lay-frame-arg2 → tie.Then1
+taken c = c .before .before .before
+
 is-chosen-requires : tie.Need-is-chosen-requires
 is-chosen-requires c κs = search needs
 
@@ -12,7 +19,10 @@ cast-f : tie.Need-cast-f
 cast-f c = search needs
 
 lay-frame-requires : tie.Need-lay-frame-requires
-lay-frame-requires c κs = (c .before .before .before .before .before .before .before .before .pre .0 (sym (c .before .before .before .before .is-chosen .ensures) ∙ c .before .before .before .if1 .taken), c .before .before .before .before .before .before .before .before .pre .1)
+lay-frame-requires c κs =
+    let t = taken c in
+    let i = start (t .before) in
+    (i .pre .0 (sym (t .before .is-chosen .ensures) ∙ t .if1 .taken), i .pre .1)
 
 same-length : tie.Need-same-length
 same-length c = search needs
@@ -22,7 +32,10 @@ same-length-2 c = search needs
 
 returns : tie.Need-returns
 unfolding layEach
-returns c = c .before .before .before .before .lay-frame .ensures ∙ simp (sym (c .before .before .before .before .before .before .before .before .before .is-chosen .ensures) ∙ c .before .before .before .before .before .before .before .before .if1 .taken)
+returns c =
+    let l = c .before .before .before .before in
+    let t = taken (l .before) in
+    l .lay-frame .ensures ∙ simp (sym (t .before .is-chosen .ensures) ∙ t .if1 .taken)
 
 returns-2 : tie.Need-returns-2
 unfolding layEach

@@ -24,6 +24,13 @@ Inv-loop fast₀ slow₀ p which offset src page n j₀ fast slow j =
 abbrev μ-loop : tie.MeasureT-loop
 μ-loop fast₀ slow₀ p which offset src page n j₀ fast slow j = n - j
 
+-- places of the walk: the start, the turn of the loop
+abbrev start : tie.At-loop Inv-loop μ-loop → tie.Start Inv-loop μ-loop
+start c = c .before .before .before .before .before
+
+abbrev turn : tie.After-lay-copy-arg2 Inv-loop μ-loop → tie.At-loop Inv-loop μ-loop
+turn c = c .before .before .before .before
+
 in-use-requires : tie.Need-in-use-requires Inv-loop μ-loop
 in-use-requires c κs = search needs
 
@@ -38,8 +45,8 @@ element-copy-out-c c = search needs
 
 lay-copy-requires : tie.Need-lay-copy-requires Inv-loop μ-loop
 lay-copy-requires c κs =
-    let v = c .before .before .before .before in
-    let lent = c .before .before .before .before .before .before .before .before .before .pre .0 (v .loop .j) (omega arith) in
+    let v = turn c in
+    let lent = start v .pre .0 (v .loop .j) (omega arith) in
     (λ e. let r = lent e in record { split = omega arith; there = omega arith }, search needs)
 
 add-j : tie.Need-add-j Inv-loop μ-loop
@@ -50,15 +57,17 @@ loop-less c = search needs
 
 loop-again : tie.Need-loop-again Inv-loop μ-loop
 loop-again c =
-    let v = c .before .before .before .before .before .before .before .before .before .loop in
-    let a = c .before .before .before .before .before .before .before .before .before .before .before .before .before .before .args in
-    let w = c .before .before .before .before .lay-copy in (
+    let l = c .before .before .before .before in
+    let v = turn (l .before) .loop in
+    let a = start (turn (l .before)) .args in
+    let w = l .lay-copy in (
       v .inv .0,
       v .inv .1,
       omega arith,
       w .kept .0 ∙ v .inv .3,
       w .kept .1 .0 ∙ v .inv .4,
-      lay-turn (a .t4) (v .j) (chosen (a .which)) (a .offset) (a .src .now) (v .fast ++ v .slow) (w .last .0 ++ w .last .1 .0) _ (omega arith) (w .ensures) (v .inv .5),
+      lay-turn (a .t4) (v .j) (chosen (a .which)) (a .offset) (a .src .now) (v .fast ++ v .slow)
+          (w .last .0 ++ w .last .1 .0) _ (omega arith) (w .ensures) (v .inv .5),
     )
 
 same-length : tie.Need-same-length Inv-loop μ-loop
@@ -70,7 +79,7 @@ same-length-2 c = search needs
 returns : tie.Need-returns Inv-loop μ-loop
 returns c =
     let v = c .before .loop in
-    let a = c .before .before .before .before .before .before .args in
+    let a = start (c .before) .args in
     lay-ended (a .t4) (v .j) (chosen (a .which)) (a .offset) (a .src .now) (v .fast ++ v .slow) _ (omega arith) (v .inv .5)
 
 pub lay-each-spec : {M : Type 1} → statement M

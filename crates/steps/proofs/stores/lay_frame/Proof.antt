@@ -5,6 +5,10 @@ use borrow.Author.Needs.{needs}
 use Rattle.steps.proofs.stores.lay_frame.Statement.{statement}
 use Rattle.steps.proofs.stores.lay_frame.Tie as tie
 
+-- a place of the walk: the start
+abbrev start : tie.After-shared-slice-known → tie.Start
+start c = c .before .before .before
+
 mul-put : tie.Need-mul-put
 mul-put c = search needs
 
@@ -28,7 +32,7 @@ same-length c = search needs
 
 returns : tie.Need-returns
 returns c =
-    let v = c .before .before .before .before .before .before .before .before in
+    let v = start (c .before .before .before .before .before) in
     let a = v .args in
     rw (c .before .before .put .ensures)
     (lay-fast (a .fast .now) (a .slow .now) (a .p) (a .frame) (v .pre .0 .split) (a .offset) (a .src .now) (omega arith) (omega arith))
@@ -38,7 +42,7 @@ same-length-2 c = search needs
 
 returns-2 : tie.Need-returns-2
 returns-2 c =
-    let v = c .before .before .before .before .before .before .before .before in
+    let v = start (c .before .before .before .before .before) in
     let a = v .args in
     rw (c .before .before .put2 .ensures)
     (lay-slow (a .fast .now) (a .slow .now) (a .p) (a .frame) (v .pre .0 .split) (a .offset) (a .src .now) (omega arith))

@@ -60,8 +60,8 @@ without-copy-requires c κs = search needs
 enum-known-edit-6 : tie.Need-enum-known-edit-6
 enum-known-edit-6 c = search needs
 
-marked-requires : tie.Need-marked-requires
-marked-requires c κs = search needs
+with-current-requires : tie.Need-with-current-requires
+with-current-requires c κs = search needs
 
 returns : tie.Need-returns
 unfolding changed
@@ -106,7 +106,7 @@ returns-9 c = c .without-copy .ensures ∙ rw (c .before .before .edit5 .given .
 
 returns-10 : tie.Need-returns-10
 unfolding changed
-returns-10 c = c .marked .ensures ∙ rw (c .before .before .edit6 .given .1)
+returns-10 c = c .with-current .ensures ∙ rw (c .before .before .edit6 .given .1)
 
 pub after-spec : {M : Type 1} → statement M
 after-spec =
@@ -129,7 +129,7 @@ after-spec =
     enum-known-edit-5
     without-copy-requires
     enum-known-edit-6
-    marked-requires
+    with-current-requires
     returns
     returns-2
     returns-3

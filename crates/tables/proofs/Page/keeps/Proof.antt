@@ -1,6 +1,6 @@
--- `Page::keeps` answers what `unchanged` says, case by case.
+-- `Page::keeps` answers what `leavesRecord` says, case by case.
 use borrow.Author.Needs.{needs}
-use Rattle.tables.specs.Keep.{unchanged}
+use Rattle.tables.specs.Keep.{leavesRecord}
 use Rattle.tables.proofs.Page.keeps.Statement.{statement}
 use Rattle.tables.proofs.Page.keeps.Tie as tie
 
@@ -34,43 +34,43 @@ enum-told-8 c = search needs
 enum-known-edit : tie.Need-enum-known-edit
 enum-known-edit c = search needs
 
-is-marked-requires : tie.Need-is-marked-requires
-is-marked-requires c κs = search needs
+current-is-requires : tie.Need-current-is-requires
+current-is-requires c κs = search needs
 
 returns : tie.Need-returns
-unfolding unchanged
+unfolding leavesRecord
 returns c = cc
 
 returns-2 : tie.Need-returns-2
-unfolding unchanged
+unfolding leavesRecord
 returns-2 c = cc
 
 returns-3 : tie.Need-returns-3
-unfolding unchanged
+unfolding leavesRecord
 returns-3 c = cc
 
 returns-4 : tie.Need-returns-4
-unfolding unchanged
+unfolding leavesRecord
 returns-4 c = cc
 
 returns-5 : tie.Need-returns-5
-unfolding unchanged
+unfolding leavesRecord
 returns-5 c = cc
 
 returns-6 : tie.Need-returns-6
-unfolding unchanged
+unfolding leavesRecord
 returns-6 c = cc
 
 returns-7 : tie.Need-returns-7
-unfolding unchanged
+unfolding leavesRecord
 returns-7 c = cc
 
 returns-8 : tie.Need-returns-8
-unfolding unchanged
+unfolding leavesRecord
 returns-8 c = cc
 
 returns-9 : tie.Need-returns-9
-unfolding unchanged
+unfolding leavesRecord
 returns-9 c = cc
 
 pub keeps-spec : {M : Type 1} → statement M
@@ -87,7 +87,7 @@ keeps-spec =
     enum-told-7
     enum-told-8
     enum-known-edit
-    is-marked-requires
+    current-is-requires
     returns
     returns-2
     returns-3

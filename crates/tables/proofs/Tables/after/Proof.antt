@@ -1,4 +1,5 @@
--- `Tables::after` retires a frame, and replaces one record and its frames' entries; numbers of no page and of no frame change nothing.
+-- `Tables::after` retires a frame, and replaces one record and its frames' entries; numbers of no page and of no frame
+-- change nothing.
 use Prim.Native.Nat.{_≤_}
 use mathlib.Core.Path.{_≡_}
 use native.Mathlib.Omega.{arith}
@@ -10,6 +11,10 @@ use Rattle.tables.specs.Changes.{after}
 use Rattle.tables.proofs.RegisterLaws.{length-vacated}
 use Rattle.tables.proofs.Tables.after.Statement.{statement}
 use Rattle.tables.proofs.Tables.after.Tie as tie
+
+-- a place of the walk: the start
+abbrev start : tie.After-enter → tie.Start
+start c = c .before .before .before .before
 
 cast-p : tie.Need-cast-p
 cast-p c = search needs
@@ -31,15 +36,17 @@ element-set-from-g c = search needs
 
 vacate-requires : tie.Need-vacate-requires
 vacate-requires c κs =
-    let t = c .before .before .before .before .before .before .before .args .t1 in
+    let e = c .before .before .before in
+    let t = start e .args .t1 in
     let l : length (t .register) ≡ 254 = search needs in
-    rw (c .before .before .before .enter .ensures, length-set) l
+    rw (e .enter .ensures, length-set) l
 
 occupy-requires : tie.Need-occupy-requires
 occupy-requires c κs =
-    let t = c .before .before .before .before .before .before .before .before .before .args .t1 in
+    let e = c .before .before .before .before .before in
+    let t = start e .args .t1 in
     let l : length (t .register) ≡ 254 = search needs in
-    rw (c .before .vacate .ensures, length-vacated, c .before .before .before .before .before .enter .ensures, length-set) l
+    rw (c .before .vacate .ensures, length-vacated, e .enter .ensures, length-set) l
 
 returns : tie.Need-returns
 unfolding after

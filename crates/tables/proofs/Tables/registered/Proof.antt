@@ -1,4 +1,5 @@
--- `Tables::registered` meets its contract: a walk of its MIR, by hand. One entry of the register is read behind the borrow, and `holder_by` has it.
+-- `Tables::registered` meets its contract: a walk of its MIR, by hand. One entry of the register is read behind the
+-- borrow, and `holder_by` has it.
 use mathlib.Core.Path.{refl, sym}
 use Prim.Native.Nat.{ℕ, _<_, _^_, _+_, _*_, _%_}
 use native.Mathlib.Nat.{mod-lt, lt-of-lt-of-le}
@@ -32,7 +33,7 @@ use Rattle.tables.specs.Model.{freeEntry}
 use Rattle.tables.specs.declared.Tables.{Tables as Tabled}
 use Rattle.tables.specs.declared.Holder.{Holder}
 use Rattle.tables.specs.Register.{registered}
-use Rattle.tables.specs.Search.{Tells}
+use Rattle.tables.specs.Search.{HolderIs}
 use Rattle.tables.proofs.Tables as T
 use Rattle.tables.proofs.Tables.Laws as T′
 use Rattle.tables.proofs.ByRef.{asked, tells, element-in, element-away, local, frees-full, Ref-walk, entry, ref-leaves, ref-meets}
@@ -95,7 +96,8 @@ module _ {M : Type 1} (𝓤 : URA M) (H : Heap 𝓤) (A : Atoms 𝓤) (W : Given
         assigns ! (addr ! (from ! (hop ! (look ! 16 refl) (fld ! refl (stop !))))) (from ! (stop !)) (init ! 4 refl (tt, tt)) $
         assigns ! (bin ! (local ! 4 refl) (local ! 6 refl) tt) (from ! (stop !)) (init ! 2 refl (tt, tt)) $
         rewrite ! 2 (λ (p : ℕ). ‵ (fat fullShare tyPtr l₈ 0 (vptr b p))) (sym (place-is 2 (o + register .offset) i)) refl $
-        -- the entry behind the borrow, and the borrow again. [the entry's cell; what it owns; six that are the way back; _9; …; _8; …; …; _1; …; room for _0; …]
+        -- the entry behind the borrow, and the borrow again. [the entry's cell; what it owns; six that are the way
+        -- back; _9; …; _8; …; …; _1; …; room for _0; …]
         move ! (20 ∷ 21 ∷ []) $ element-in register t i freeEntry ! tt (SL.copy T.the-type T′.the-copy 𝓤 H A W) κ q within (λ q′ len is.
         assigns ! (of-opd ! (load ! (from ! (hop ! (look ! 10 refl) (stop !))) (look-raw ! 0 refl))) (from ! (stop !))
         (init ! 8 refl (half .lawful 𝓤 H A W .typed read _ is .0)) $
@@ -109,7 +111,7 @@ module _ {M : Type 1} (𝓤 : URA M) (H : Heap 𝓤) (A : Atoms 𝓤) (W : Given
         frees-full ! 12 refl refl $ frees-full ! 10 refl refl $ frees-full ! 8 refl refl $ frees-full ! 6 refl refl $ frees-full ! 4 refl refl $
         frees-full ! 2 refl refl $ free0 ! $
         keep ! (1 ∷ []) $ by ! (ref-leaves 𝓤 H A W T.the-row (byte ∷ []) holder c κ q t (f, tt) tt found is′
-        (λ e. factI 𝓤 (Tells (registered (t .now) f) found) (emp 𝓤) (tells-it (by-entry (t .now) f len))))))))))))))))
+        (λ e. factI 𝓤 (HolderIs (registered (t .now) f) found) (emp 𝓤) (tells-it (by-entry (t .now) f len))))))))))))))))
 
   registered-meets : Meets 𝓤 H A by-register.signature runs-as (by-register.spec 𝓤 H A mem run)
   registered-meets =

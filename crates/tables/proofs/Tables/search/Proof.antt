@@ -1,4 +1,5 @@
--- `Tables::search`. Outer loop: the answer is the search from page i on. Inner loop: from copy j of page i on, and then the pages after it.
+-- `Tables::search`. Outer loop: the answer is the search from page i on. Inner loop: from copy j of page i on, and then
+-- the pages after it.
 use Prim.Native.Nat.{_+_, _-_, _≤_, _<_}
 use mathlib.Core.Path.{_≡_, refl, sym, _∙_}
 use native.Mathlib.Omega.{arith}

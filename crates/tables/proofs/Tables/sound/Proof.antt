@@ -1,4 +1,5 @@
--- `Tables::sound`. What the pass says of the pages is what it says of those from i on; `held` and the frames of those are the frames of all.
+-- `Tables::sound`. What the pass says of the pages is what it says of those from i on; `held` and the frames of those
+-- are the frames of all.
 use Prim.Native.Nat.{_+_, _-_, _*_, _≤_}
 use mathlib.Core.Bool.{true, false}
 use mathlib.Core.Path.{_≡_, refl, sym, _∙_}
@@ -8,8 +9,8 @@ use lib.ListN.{length, length-map, drop}
 use borrow.Author.Tests.{not-true, not-false, eq-eqb, le-leb, lt-leb}
 use borrow.Author.Needs.{needs}
 use Rattle.tables.specs.Model.{zeroPage}
-use Rattle.tables.specs.Rules.{holders, alone, sizesRule, pagesRule, sound}
-use Rattle.tables.specs.PrivatePass.{scanPages, framesOfAll}
+use Rattle.tables.specs.Rules.{holders, noneShared, sizesRule, pagesRule, sound}
+use Rattle.tables.specs.PrivatePass.{scanPages, frameTotals}
 use Rattle.tables.proofs.Loops.{drop-more, drop-end}
 use Rattle.tables.proofs.ScanLaws.{scan-rules}
 use Rattle.tables.proofs.Tables.sound.Statement.{statement}
@@ -19,10 +20,21 @@ abbrev Inv-loop : tie.InvT-loop
 Inv-loop self fast slow limit held₀ i₀ held i =
     (i ≤ 64) × (limit ≡ self .shared .p + self .shared .s) × (limit ≤ 254) × (held ≤ 255 * i)
     × (scanPages limit (self .register) 0 (self .pages) ≡ scanPages limit (self .register) i (drop i (self .pages)))
-    × (framesOfAll (self .pages) ≡ held + framesOfAll (drop i (self .pages)))
+    × (frameTotals (self .pages) ≡ held + frameTotals (drop i (self .pages)))
 
 abbrev μ-loop : tie.MeasureT-loop
 μ-loop self fast slow limit held₀ i₀ held i = 64 - i
+
+-- places of the walk: the start, the turn of the loop
+abbrev start : tie.At-loop Inv-loop μ-loop → tie.Start Inv-loop μ-loop
+start c = c .before .before .before
+
+abbrev turn : tie.After-page-ok Inv-loop μ-loop → tie.At-loop Inv-loop μ-loop
+turn c = c .before .before .before .before .before
+
+-- there are 64 pages
+pages-long : (i : tie.Start Inv-loop μ-loop) → length (i .args .t1 .pages) ≡ 64
+pages-long i = simp length-map at (i .good .0 .1 .1 .1 .0 .1 .0 .1)
 
 returns : tie.Need-returns Inv-loop μ-loop
 unfolding sound sizesRule
@@ -51,20 +63,22 @@ page-ok-requires : tie.Need-page-ok-requires Inv-loop μ-loop
 page-ok-requires c κs = search needs
 
 returns-3 : tie.Need-returns-3 Inv-loop μ-loop
-unfolding sound sizesRule pagesRule alone holders scanPages
+unfolding sound sizesRule pagesRule noneShared holders scanPages
 returns-3 c =
-    let t = c .before .before .before .before .before .before .before .before .before .args .t1 in
-    let l : length (t .pages) ≡ 64 = simp length-map at (c .before .before .before .before .before .before .before .before .before .good .0 .1 .1 .1 .0 .1 .0 .1) in
+    let w = turn (c .before) in
+    let t = start w .args .t1 in
+    let l : length (t .pages) ≡ 64 = pages-long (start w) in
     let r : length (t .register) ≡ 254 = search needs in
-    let v = c .before .before .before .before .before .before .loop in
+    let v = w .loop in
     let e = sym (c .before .page-ok .ensures) ∙ not-true _ (c .if3 .taken) in
-    let z : scanPages (t .shared .p + t .shared .s) (t .register) 0 (t .pages) ≡ false = v .inv .4 ∙ rw (drop-more (t .pages) (v .i) zeroPage (omega arith), e) in
+    let z : scanPages (t .shared .p + t .shared .s) (t .register) 0 (t .pages) ≡ false =
+    v .inv .4 ∙ rw (drop-more (t .pages) (v .i) zeroPage (omega arith), e) in
     sym
-    (rw (le-leb _ _ (c .before .before .before .before .before .before .before .before .if1 .left), le-leb _ _ (c .before .before .before .before .before .before .before .if2 .left), eq-eqb _ _ l)
+    (rw (le-leb _ _ (w .before .before .if1 .left), le-leb _ _ (w .before .if2 .left), eq-eqb _ _ l)
     (sym (scan-rules (t .shared .p + t .shared .s) (v .inv .2) (t .pages) (t .register) l r) ∙ rw z))
 
-frames-of-requires : tie.Need-frames-of-requires Inv-loop μ-loop
-frames-of-requires c κs = search needs
+frame-total-requires : tie.Need-frame-total-requires Inv-loop μ-loop
+frame-total-requires c κs = search needs
 
 add-held : tie.Need-add-held Inv-loop μ-loop
 add-held c = search needs
@@ -76,11 +90,12 @@ loop-less : tie.Need-loop-less Inv-loop μ-loop
 loop-less c = search needs
 
 loop-again : tie.Need-loop-again Inv-loop μ-loop
-unfolding scanPages framesOfAll
+unfolding scanPages frameTotals
 loop-again c =
-    let t = c .before .before .before .before .before .before .before .before .before .before .args .t1 in
-    let l : length (t .pages) ≡ 64 = simp length-map at (c .before .before .before .before .before .before .before .before .before .before .good .0 .1 .1 .1 .0 .1 .0 .1) in
-    let v = c .before .before .before .before .before .before .before .loop in
+    let w = turn (c .before .before) in
+    let t = start w .args .t1 in
+    let l : length (t .pages) ≡ 64 = pages-long (start w) in
+    let v = w .loop in
     let m = drop-more (t .pages) (v .i) zeroPage (omega arith) in
     let e = sym (c .before .before .page-ok .ensures) ∙ not-false _ (c .before .if3 .left) in (
       search needs,
@@ -88,25 +103,26 @@ loop-again c =
       v .inv .2,
       omega arith,
       v .inv .4 ∙ rw (m, e),
-      v .inv .5 ∙ rw (m, c .frames-of .ensures .0) (sym (add-assoc _ _ _)),
+      v .inv .5 ∙ rw (m, c .frame-total .ensures .0) (sym (add-assoc _ _ _)),
     )
 
 others-ok-requires : tie.Need-others-ok-requires Inv-loop μ-loop
 others-ok-requires c κs = search needs
 
 returns-4 : tie.Need-returns-4 Inv-loop μ-loop
-unfolding sound sizesRule pagesRule alone holders scanPages framesOfAll
+unfolding sound sizesRule pagesRule noneShared holders scanPages frameTotals
 returns-4 c =
-    let t = c .before .before .before .before .before .before .before .args .t1 in
-    let l : length (t .pages) ≡ 64 = simp length-map at (c .before .before .before .before .before .before .before .good .0 .1 .1 .1 .0 .1 .0 .1) in
+    let w = c .before .before .before .before in
+    let t = start w .args .t1 in
+    let l : length (t .pages) ≡ 64 = pages-long (start w) in
     let r : length (t .register) ≡ 254 = search needs in
-    let v = c .before .before .before .before .loop in
+    let v = w .loop in
     let end = drop-end (t .pages) (v .i) (omega arith) in
     let z : scanPages (t .shared .p + t .shared .s) (t .register) 0 (t .pages) ≡ true = v .inv .4 ∙ rw end in
-    let h : framesOfAll (t .pages) ≡ v .held = v .inv .5 ∙ rw end (add-zero _) in
+    let h : frameTotals (t .pages) ≡ v .held = v .inv .5 ∙ rw end (add-zero _) in
     c .others-ok .ensures
     ∙ sym
-    (rw (le-leb _ _ (c .before .before .before .before .before .before .if1 .left), le-leb _ _ (c .before .before .before .before .before .if2 .left), eq-eqb _ _ l)
+    (rw (le-leb _ _ (w .before .before .if1 .left), le-leb _ _ (w .before .if2 .left), eq-eqb _ _ l)
     (sym (scan-rules (t .shared .p + t .shared .s) (v .inv .2) (t .pages) (t .register) l r) ∙ rw (z, h)))
 
 pub sound-spec : {M : Type 1} → statement M
@@ -124,7 +140,7 @@ sound-spec =
     cast-page-ok
     page-ok-requires
     returns-3
-    frames-of-requires
+    frame-total-requires
     add-held
     add-i
     loop-less

@@ -7,11 +7,11 @@ use Rattle.tables.proofs.register.holder_by.Tie as tie
 returns : tie.Need-returns
 returns c = rw (le-ltb _ 254 (c .if1 .taken))
 
-named-requires : tie.Need-named-requires
-named-requires c κs = search needs
+of-entry-requires : tie.Need-of-entry-requires
+of-entry-requires c κs = search needs
 
 returns-2 : tie.Need-returns-2
-returns-2 c = rw (lt-ltb _ 254 (c .before .if1 .left)) (c .named .ensures)
+returns-2 c = rw (lt-ltb _ 254 (c .before .if1 .left)) (c .of-entry .ensures)
 
 pub holder-by-spec : {M : Type 1} → statement M
-holder-by-spec = tie.close (tie.spec returns named-requires returns-2)
+holder-by-spec = tie.close (tie.spec returns of-entry-requires returns-2)

@@ -28,11 +28,11 @@ mul-enter c = search needs
 element-copy-out-enter : tie.Need-element-copy-out-enter Inv-loop μ-loop
 element-copy-out-enter c = search needs
 
-cast-entry : tie.Need-cast-entry Inv-loop μ-loop
-cast-entry c = search needs
+cast-entry-for : tie.Need-cast-entry-for Inv-loop μ-loop
+cast-entry-for c = search needs
 
-entry-requires : tie.Need-entry-requires Inv-loop μ-loop
-entry-requires c κs = search needs
+entry-for-requires : tie.Need-entry-for-requires Inv-loop μ-loop
+entry-for-requires c κs = search needs
 
 enter-requires : tie.Need-enter-requires Inv-loop μ-loop
 enter-requires c κs = c .before .before .before .loop .inv .3
@@ -48,7 +48,7 @@ unfolding occupied
 loop-again c =
     let g = c .before .before .before .before .before .before .args .t3 in
     let v = c .before .before .before .before .loop in
-    (v .inv .0, v .inv .1, search needs, rw (c .enter .ensures, length-set) (v .inv .3), v .inv .4 ∙ rw (use-more g (v .k) (omega arith), c .enter .ensures, c .before .entry .ensures))
+    (v .inv .0, v .inv .1, search needs, rw (c .enter .ensures, length-set) (v .inv .3), v .inv .4 ∙ rw (use-more g (v .k) (omega arith), c .enter .ensures, c .before .entry-for .ensures))
 
 returns : tie.Need-returns Inv-loop μ-loop
 unfolding occupied
@@ -67,8 +67,8 @@ occupy-spec =
     loop-holds
     mul-enter
     element-copy-out-enter
-    cast-entry
-    entry-requires
+    cast-entry-for
+    entry-for-requires
     enter-requires
     add-k
     loop-less

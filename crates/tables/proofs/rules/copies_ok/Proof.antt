@@ -8,8 +8,8 @@ use borrow.Author.Tests.{not-true, not-false}
 use borrow.Author.Needs.{needs}
 use Rattle.tables.specs.Model.{zeroCopy}
 use Rattle.tables.specs.Rules.{copyRule}
-use Rattle.tables.specs.Register.{entry}
-use Rattle.tables.specs.PrivatePass.{names, scanCopies}
+use Rattle.tables.specs.Register.{entryFor}
+use Rattle.tables.specs.PrivatePass.{entryIs, scanCopies}
 use Rattle.tables.proofs.Loops.{first-more, first-end}
 use Rattle.tables.proofs.rules.copies_ok.Statement.{statement}
 use Rattle.tables.proofs.rules.copies_ok.Tie as tie
@@ -19,6 +19,10 @@ Inv-loop register p n limit copies end recent₀ j₀ recent j = (j ≤ n) × (e
 
 abbrev μ-loop : tie.MeasureT-loop
 μ-loop register p n limit copies end recent₀ j₀ recent j = end - j
+
+-- a place of the walk: the turn of the loop
+abbrev turn : tie.After-copy-ok Inv-loop μ-loop → tie.At-loop Inv-loop μ-loop
+turn c = c .before .before .before
 
 loop-holds : tie.Need-loop-holds Inv-loop μ-loop
 loop-holds c = (search needs, refl, refl)
@@ -35,31 +39,35 @@ copy-ok-requires c κs = search needs
 returns : tie.Need-returns Inv-loop μ-loop
 unfolding scanCopies
 returns c =
-    let a = c .before .before .before .before .before .args in
-    let v = c .before .before .before .before .loop in
+    let t = turn (c .before) in
+    let a = t .before .args in
+    let v = t .loop in
     let m : length (a .t3) ≡ 8 = search needs in
     let e : copyRule (a .limit) (a .n) (getD (a .t3) (v .j) zeroCopy) ≡ false = sym (c .before .copy-ok .ensures) ∙ not-true _ (c .if1 .taken) in
     sym (v .inv .2 ∙ rw (first-more (a .n) (a .t3) (v .j) zeroCopy (omega arith) (omega arith), e))
 
-cast-entry : tie.Need-cast-entry Inv-loop μ-loop
-cast-entry c = search needs
+cast-entry-for : tie.Need-cast-entry-for Inv-loop μ-loop
+cast-entry-for c = search needs
 
-entry-requires : tie.Need-entry-requires Inv-loop μ-loop
-entry-requires c κs = search needs
+entry-for-requires : tie.Need-entry-for-requires Inv-loop μ-loop
+entry-for-requires c κs = search needs
 
-names-requires : tie.Need-names-requires Inv-loop μ-loop
-names-requires c κs = c .before .before .before .before .before .before .pre .0
+entry-is-requires : tie.Need-entry-is-requires Inv-loop μ-loop
+entry-is-requires c κs = c .before .before .before .before .before .before .pre .0
 
 returns-2 : tie.Need-returns-2 Inv-loop μ-loop
 unfolding scanCopies
 returns-2 c =
-    let a = c .before .before .before .before .before .before .before .before .args in
-    let v = c .before .before .before .before .before .before .before .loop in
+    let k = c .before .before .before .before in
+    let t = turn k in
+    let a = t .before .args in
+    let v = t .loop in
     let d = getD (a .t3) (v .j) zeroCopy in
     let m : length (a .t3) ≡ 8 = search needs in
-    let e : copyRule (a .limit) (a .n) d ≡ true = sym (c .before .before .before .before .copy-ok .ensures) ∙ not-false _ (c .before .before .before .if1 .left) in
-    let u : names (a .register .now) (d .frame) (entry (a .p) (v .j)) ≡ false =
-    rw (c .before .before .entry .ensures) at (sym (c .before .names .ensures) ∙ not-true _ (c .if2 .taken)) in
+    let e : copyRule (a .limit) (a .n) d ≡ true =
+    sym (k .copy-ok .ensures) ∙ not-false _ (c .before .before .before .if1 .left) in
+    let u : entryIs (a .register .now) (d .frame) (entryFor (a .p) (v .j)) ≡ false =
+    rw (c .before .before .entry-for .ensures) at (sym (c .before .entry-is .ensures) ∙ not-true _ (c .if2 .taken)) in
     sym (v .inv .2 ∙ rw (first-more (a .n) (a .t3) (v .j) zeroCopy (omega arith) (omega arith), e, u))
 
 add-j : tie.Need-add-j Inv-loop μ-loop
@@ -71,13 +79,16 @@ loop-less c = search needs
 loop-again : tie.Need-loop-again Inv-loop μ-loop
 unfolding scanCopies
 loop-again c =
-    let a = c .before .before .before .before .before .before .before .before .before .args in
-    let v = c .before .before .before .before .before .before .before .before .loop in
+    let k = c .before .before .before .before .before in
+    let t = turn k in
+    let a = t .before .args in
+    let v = t .loop in
     let d = getD (a .t3) (v .j) zeroCopy in
     let m : length (a .t3) ≡ 8 = search needs in
-    let e : copyRule (a .limit) (a .n) d ≡ true = sym (c .before .before .before .before .before .copy-ok .ensures) ∙ not-false _ (c .before .before .before .before .if1 .left) in
-    let u : names (a .register .now) (d .frame) (entry (a .p) (v .j)) ≡ true =
-    rw (c .before .before .before .entry .ensures) at (sym (c .before .before .names .ensures) ∙ not-false _ (c .before .if2 .left)) in
+    let e : copyRule (a .limit) (a .n) d ≡ true =
+    sym (k .copy-ok .ensures) ∙ not-false _ (c .before .before .before .before .if1 .left) in
+    let u : entryIs (a .register .now) (d .frame) (entryFor (a .p) (v .j)) ≡ true =
+    rw (c .before .before .before .entry-for .ensures) at (sym (c .before .before .entry-is .ensures) ∙ not-false _ (c .before .if2 .left)) in
     (search needs, refl, v .inv .2 ∙ rw (first-more (a .n) (a .t3) (v .j) zeroCopy (omega arith) (omega arith), e, u))
 
 returns-3 : tie.Need-returns-3 Inv-loop μ-loop
@@ -98,9 +109,9 @@ copies-ok-spec =
     array-copy-out-c
     copy-ok-requires
     returns
-    cast-entry
-    entry-requires
-    names-requires
+    cast-entry-for
+    entry-for-requires
+    entry-is-requires
     returns-2
     add-j
     loop-less

@@ -1,0 +1,21 @@
+-- `frame_total`: a null copy is on no frame.
+use mathlib.Core.Path.{sym}
+use borrow.Author.Tests.{eq-eqb, ne-eqb}
+use borrow.Author.Needs.{needs}
+use Rattle.tables.proofs.rules.frame_total.Statement.{statement}
+use Rattle.tables.proofs.rules.frame_total.Tie as tie
+
+element-copy-out-if1 : tie.Need-element-copy-out-if1
+element-copy-out-if1 c = search needs
+
+returns : tie.Need-returns
+returns c = (sym (rw (eq-eqb _ _ (c .if1 .taken))), search needs)
+
+cast-result : tie.Need-cast-result
+cast-result c = search needs
+
+returns-2 : tie.Need-returns-2
+returns-2 c = (sym (rw (ne-eqb _ _ (c .if1 .left))), search needs)
+
+pub frame-total-spec : {M : Type 1} → statement M
+frame-total-spec = tie.close (tie.spec element-copy-out-if1 returns cast-result returns-2)

@@ -1,0 +1,168 @@
+//! A read as a part of the lent fast or slow store (`steps::read`), by `reel_read_first` of the crate timing, which
+//! tells how many bytes that part has and the first of them. The kernel's reply to the same read has the same bytes.
+
+use ::model::cases::{bytes, unit, CALLS};
+use ::model::gen::{self, Rng};
+use ::model::kernel::{Embedded, Kernel};
+use ::model::model::{Lent, LEAST_BUFFER, MOST_FRAMES, PAGES, RAW, STATIONS};
+
+// A slice passes as pointer and length.
+#[link(name = "timing", kind = "static")]
+extern "C" {
+    fn reel_read_first(
+        tables: *const u8,
+        tables_len: usize,
+        fast: *const u8,
+        fast_len: usize,
+        slow: *const u8,
+        slow_len: usize,
+        station: u8,
+        page: u8,
+        offset: u8,
+        count: u8,
+    ) -> u32;
+}
+
+/// Station, page, offset and count of a read.
+type Arguments = [u8; 4];
+
+/// How many bytes a read's part of a store has, and the first of them; (0, 0) where the read is refused.
+fn part(lent: &Lent, [station, page, offset, count]: Arguments) -> (u32, u32) {
+    let Lent {
+        tables, fast, slow, ..
+    } = lent;
+    // SAFETY: each pointer comes with its length from a live slice, and nothing is written.
+    let told = unsafe {
+        reel_read_first(
+            tables.as_ptr(),
+            tables.len(),
+            fast.as_ptr(),
+            fast.len(),
+            slow.as_ptr(),
+            slow.len(),
+            station,
+            page,
+            offset,
+            count,
+        )
+    };
+    (told / 256, told % 256)
+}
+
+/// The same of the data in the kernel's reply.
+fn replied(lent: &Lent, [station, page, offset, count]: Arguments) -> (u32, u32) {
+    let mut lent = Lent {
+        out: vec![0; LEAST_BUFFER],
+        ..lent.clone()
+    };
+    let message = [0, 6, 1, 4, station, page, offset, count];
+    let length = Embedded.answer(&mut lent, &message) / 256 % 256;
+    let data = &lent.out[6..length as usize];
+    let first = data.first().copied().unwrap_or(0);
+    (data.len() as u32, first.into())
+}
+
+/// What both tell of a read.
+fn told(lent: &Lent, arguments: Arguments) -> (u32, u32) {
+    let part = part(lent, arguments);
+    assert_eq!(part, replied(lent, arguments), "{arguments:?}");
+    part
+}
+
+/// The unit with page 5 of the worked example, its first byte 41 and its last one 99, after these calls.
+fn after(calls: &[&str]) -> Lent {
+    let mut lent = unit(LEAST_BUFFER);
+    for line in CALLS.iter().chain(&["write 3 5 63 99"]).chain(calls) {
+        assert_eq!(Embedded.answer(&mut lent, &bytes(line)) % 256, 0, "{line}");
+    }
+    lent
+}
+
+/// Page 5 on slow frame 6 alone.
+const MOVED: [&str; 3] = ["copy 5 0 6", "current 5 1", "delete-copy 5 0"];
+
+#[test]
+fn first_and_last_bytes_in_either_store() {
+    for lent in [after(&[]), after(&MOVED)] {
+        assert_eq!(told(&lent, [3, 5, 0, 1]), (1, 0x41));
+        assert_eq!(told(&lent, [3, 5, 0, 64]), (64, 0x41));
+        assert_eq!(told(&lent, [3, 5, 1, 63]), (63, 0x37));
+        assert_eq!(told(&lent, [3, 5, 62, 2]), (2, 0));
+        assert_eq!(told(&lent, [3, 5, 63, 1]), (1, 0x99));
+    }
+}
+
+#[test]
+fn refused_reads() {
+    let lent = after(&[]);
+    // Out of range; no page; no right.
+    for arguments in [
+        [16, 5, 0, 1],
+        [3, 64, 0, 1],
+        [3, 5, 0, 0],
+        [3, 5, 0, 65],
+        [3, 5, 63, 2],
+        [3, 5, 64, 1],
+        [3, 5, 255, 1],
+        [3, 6, 0, 1],
+        [4, 5, 0, 1],
+    ] {
+        assert_eq!(told(&lent, arguments), (0, 0), "{arguments:?}");
+    }
+    // Nothing current.
+    assert_eq!(told(&after(&["remove-current 5 0"]), [3, 5, 0, 1]), (0, 0));
+    assert_eq!(told(&after(&["create 3 6"]), [3, 6, 0, 1]), (0, 0));
+}
+
+#[test]
+fn misfit_stores_and_broken_tables() {
+    for calls in [&[][..], &MOVED] {
+        let right = after(calls);
+        let broken: [fn(&mut Lent); 9] = [
+            |lent| lent.fast.truncate(4 * 64 - 1),
+            |lent| lent.fast.push(0),
+            |lent| lent.fast.clear(),
+            |lent| lent.slow.truncate(4 * 64 - 1),
+            |lent| lent.slow.extend([0; 64]),
+            |lent| lent.tables[0] = MOST_FRAMES + 1,
+            |lent| lent.tables[RAW - 1] = 254,
+            |lent| lent.tables.truncate(RAW - 1),
+            |lent| lent.tables.clear(),
+        ];
+        for (number, damage) in broken.into_iter().enumerate() {
+            let mut lent = right.clone();
+            damage(&mut lent);
+            assert_eq!(told(&lent, [3, 5, 0, 1]), (0, 0), "damage {number}");
+        }
+    }
+}
+
+/// Reads on random tables, which keep the rules or break one, with stores that fit or do not: of every page, by any
+/// station and at any offset.
+#[test]
+fn reads_on_random_tables() {
+    let mut rng = Rng::new(1);
+    let (mut in_fast, mut in_slow, mut refused) = (0, 0, 0);
+    for round in 0..1000 {
+        let mut lent = gen::lawful(&mut rng);
+        if round % 4 == 0 {
+            gen::hinder(&mut rng, &mut lent);
+        }
+        for page in 0..PAGES as u8 {
+            let offset = rng.within(0, 63);
+            let count = rng.within(1, 64 - offset);
+            let station = rng.within(0, STATIONS as u8 - 1);
+            let arguments = [station, page, offset, count];
+            let place = Embedded.read(&lent, arguments);
+            match (told(&lent, arguments), place / 256 % 256) {
+                ((0, _), _) => refused += 1,
+                (_, 0) => in_fast += 1,
+                _ => in_slow += 1,
+            }
+        }
+    }
+    assert!(
+        in_fast > 1000 && in_slow > 1000 && refused > 1000,
+        "{in_fast} {in_slow} {refused}"
+    );
+}
