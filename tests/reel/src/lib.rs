@@ -6,7 +6,7 @@ pub mod drawn;
 pub mod json;
 
 use model::gen::{Moves, Rng};
-use model::model::{answer, Lent, Reader, Tables, FRAME, SLIP};
+use model::model::{answer, Lent, Reader, Tables, FRAME, LEAST_BUFFER};
 use reel::kinds::{Argument, Call};
 use reel::looks::{Mark, OnFrame, PageCopy, Reply};
 use reel::words;
@@ -83,7 +83,7 @@ pub fn fresh(fast: u8, slow: u8) -> Lent {
         tables: Tables::fresh(fast, slow).to_raw(),
         fast: vec![0; FRAME * usize::from(fast)],
         slow: vec![0; FRAME * usize::from(slow)],
-        out: vec![0; SLIP],
+        out: vec![0; LEAST_BUFFER],
     }
 }
 
