@@ -154,12 +154,15 @@ copying c f =
 -- order that the papers give for each kind, behind 7. Document 02, request [2], of both deletes: "a frame that is freed
 -- .. is filled with 64 zeros, fast or slow", and "Each filled frame counts 64 bytes laid".
 module _ (v : View) (c : Call) (size : ℕ) where
-  -- the record of its page, and the state of its frame
+  -- the record of its page, the state of its frame, and the copy that it names
   abbrev g : Page
   g = v .page
 
   abbrev h : Holder
   h = v .holder
+
+  abbrev k : Copy
+  k = copyAt g (c .copy)
 
   unfoldable pub perform : Kind → Outcome Plan
   -- 8. "the page stands with one null copy; the station is owner"
@@ -180,15 +183,14 @@ module _ (v : View) (c : Call) (size : ℕ) where
   -- 9, 12, 20, 13, 14. Request [5]: "20 .., make copy to such a frame, directly before 13"
   perform MakeCopy =
       guarded (lacksCopy g (c .copy)) (test (isRetired h) retired (test (not (isFree h)) frameHeld
-      (test (eqb (g .n) 8) eightCopies (copying (copyAt g (c .copy)) (c .frame)))))
+      (test (eqb (g .n) 8) eightCopies (copying k (c .frame)))))
   -- 9, 12, 15. "its frame becomes free": a null copy has none, but is alone and MOST RECENT, so 15
   perform DeleteCopy =
-      guarded (lacksCopy g (c .copy)) (test (copyAt g (c .copy) .recent && eqb (recents g) 1) lastRecent
-      (clearing (Removed (c .copy)) (copyAt g (c .copy) .frame)))
+      guarded (lacksCopy g (c .copy)) (test (k .recent && eqb (recents g) 1) lastRecent
+      (clearing (Removed (c .copy)) (k .frame)))
   -- 9, 12, 17, 16. "Already current: accepted, no change."
   perform SetCurrent =
-      guarded (lacksCopy g (c .copy))
-      (test (isNull (copyAt g (c .copy))) noFrame (test (not (copyAt g (c .copy) .recent)) stale
+      guarded (lacksCopy g (c .copy)) (test (isNull k) noFrame (test (not (k .recent)) stale
       (editing (Marked (c .copy) true))))
   -- 9, 12. "Not current, or null: accepted, no change."
   perform RemoveCurrent = guarded (lacksCopy g (c .copy)) (editing (Marked (c .copy) false))

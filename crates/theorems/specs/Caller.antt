@@ -4,7 +4,7 @@ use Prim.Native.Nat.{ℕ, _*_, _≤_}
 use mathlib.Core.Path.{_≡_}
 use mathlib.Core.Bool.{Bool, not, _&&_, cond}
 use mathlib.Core.List.{List, [], _∷_, _++_, map}
-use lib.ListN.{length, drop, getD}
+use lib.ListN.{length, drop}
 use lib.Dec.{eqb}
 use Rattle.tables.specs.Numbers.{nothingCurrent}
 use Rattle.tables.specs.Model.{freshTables}
@@ -13,24 +13,25 @@ use Rattle.steps.specs.Promises.{stateOf}
 use Rattle.messages.specs.declared.Tally.{Tally}
 use Rattle.messages.specs.Run.{Sent, cut, whole, asked, messagesOf, Run, run, replies, tally, joinedReplies}
 use Rattle.messages.specs.Promises.{FillCall, FillCalls, emptied, reached, stateLeft, tallyLeft}
+use Rattle.stations.specs.Reader.{numberIn, dataIn}
 use Rattle.theorems.specs.Flat.{none, Answer}
 use Rattle.theorems.specs.Demand3.{flatAnswers, isAnswered, Agrees}
 
 -- ---- a reply among the bytes that the caller took, as its own L tells it from the next: m are the bytes after that
 -- length
 
--- its number: the reply's fourth byte
+-- the number of a reply, its fourth byte, as the reply reader of request [4] has it
 abbrev pub numberTaken : Sent → ℕ
 numberTaken cut = 0
-numberTaken (whole m) = getD m 1 0
+numberTaken (whole m) = numberIn m
 
 abbrev pub elevenTaken : Sent → Bool
 elevenTaken x = eqb (numberTaken x) nothingCurrent
 
--- its number, and the bytes after the reply's first six
+-- the answer that a reply gives: its number, and the bytes after its first six
 abbrev pub answerTaken : Sent → Answer
 answerTaken cut = record { number = 0; bytes = [] }
-answerTaken (whole m) = record { number = getD m 1 0; bytes = drop 4 m }
+answerTaken (whole m) = record { number = numberIn m; bytes = dataIn m }
 
 -- the replies rs to the messages xs of the kinds that the flat memory answers, and not answered 11
 unfoldable pub answersTaken : List Sent → List Sent → List Answer

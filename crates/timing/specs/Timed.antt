@@ -50,3 +50,7 @@ soundTimes t (suc k) = soundTimes t k + cond (sound (owned t (k % 16))) 1 0
 -- how many bytes there are and the first of them, in one; 0 where there are none
 abbrev pub firstNumber : List ℕ → ℕ
 firstNumber bytes = 256 * length bytes + getD bytes 0 0
+
+-- the three bytes of a look at a frame, in one, the first one lowest
+abbrev pub shownNumber : List ℕ → ℕ
+shownNumber bytes = getD bytes 0 0 + 256 * getD bytes 1 0 + 65536 * getD bytes 2 0

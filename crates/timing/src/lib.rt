@@ -17,7 +17,8 @@ ghost use Rattle.steps.specs.Effects.{step, dataOf, readCall};
 ghost use Rattle.steps.specs.Promises.{stateOf, lent};
 ghost use Rattle.messages.specs.Run.{run};
 ghost use Rattle.embed.specs.Exports.{tablesOf, lentState};
-ghost use Rattle.timing.specs.Timed.{soundTimes, AnswersEnded, AnsweredAll, firstNumber};
+ghost use Rattle.timing.specs.Timed.{soundTimes, AnswersEnded, AnsweredAll, firstNumber, shownNumber};
+ghost use Rattle.tables.specs.Search.{holderOf, shown};
 
 // What is left after all messages of a file.
 struct Left {
@@ -144,4 +145,22 @@ pub extern "C" fn reel_read_first<'a>(
     let t = tables_of(tables);
     let bytes = read(t, fast, slow, station, page, offset, count);
     first_number(bytes)
+}
+
+// Three bytes in one number, the first one lowest.
+fn three_bytes(first: u8, second: u8, third: u8) -> u32
+    ensures { λ r. ⌜ r ≡ first + 256 * second + 65536 * third ⌝ }
+{
+    first as u32 + 256 * second as u32 + 65536 * third as u32
+}
+
+// What the search of the pages finds on a frame, or that it is retired: the three bytes that a look shows, in one number.
+#[no_mangle]
+pub extern "C" fn reel_searched(tables: &[u8], frame: u8) -> u32
+    ensures { λ r. ⌜ r ≡ shownNumber (shown (holderOf (tablesOf (now (tables .entry))) frame)) ⌝ }
+{
+    let t = tables_of(tables);
+    let h = t.holder(frame);
+    let b = h.bytes();
+    three_bytes(b[0], b[1], b[2])
 }

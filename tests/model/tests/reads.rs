@@ -1,5 +1,7 @@
 //! A read as a part of the lent fast or slow store (`steps::read`), by `reel_read_first` of the crate timing, which
 //! tells how many bytes that part has and the first of them. The kernel's reply to the same read has the same bytes.
+//! And what the search of the pages finds on a frame (`Tables::holder`), by `reel_searched` beside it: the kernel's
+//! reply to a look at the frame, which reads the register, shows the same.
 
 use ::model::cases::{bytes, unit, CALLS};
 use ::model::gen::{self, Rng};
@@ -21,6 +23,8 @@ extern "C" {
         offset: u8,
         count: u8,
     ) -> u32;
+
+    fn reel_searched(tables: *const u8, tables_len: usize, frame: u8) -> u32;
 }
 
 /// Station, page, offset and count of a read.
@@ -165,4 +169,29 @@ fn reads_on_random_tables() {
         in_fast > 1000 && in_slow > 1000 && refused > 1000,
         "{in_fast} {in_slow} {refused}"
     );
+}
+
+/// What the search finds on a frame, as the three bytes of a look.
+fn searched(lent: &Lent, frame: u8) -> [u8; 3] {
+    // SAFETY: the pointer comes with its length from a live slice, and nothing is written.
+    let found = unsafe { reel_searched(lent.tables.as_ptr(), lent.tables.len(), frame) };
+    [found as u8, (found >> 8) as u8, (found >> 16) as u8]
+}
+
+/// Every frame of random tables that keep the rules: free, held and retired ones.
+#[test]
+fn frames_as_the_search_finds_them() {
+    let mut rng = Rng::new(1);
+    let mut seen = [0; 3];
+    for _ in 0..300 {
+        let mut lent = gen::lawful(&mut rng);
+        lent.out = vec![0; LEAST_BUFFER];
+        for frame in 0..lent.tables[0] + lent.tables[1] {
+            assert_eq!(Embedded.answer(&mut lent, &[0, 3, 1, 11, frame]) % 256, 0);
+            let shown = [lent.out[6], lent.out[7], lent.out[8]];
+            assert_eq!(searched(&lent, frame), shown, "frame {frame}");
+            seen[usize::from(shown[0])] += 1;
+        }
+    }
+    assert!(seen.iter().all(|frames| *frames > 100), "{seen:?}");
 }
