@@ -1,7 +1,7 @@
 /*
  * A station's side of the worked example of document 01: each call is written, answered by a unit, and its reply read.
- * Then a frame is retired, the replies to several messages are walked, and what writer and reader refuse. After
- * `bash tools/build`:
+ * Then a frame is retired, the replies to several messages are walked, a page is made that no other station may read,
+ * and what writer and reader refuse. After `bash tools/build`:
  *
  *   gcc -std=c99 -I target/reel examples/station.c target/reel/libreel.a -o target/station && target/station
  */
@@ -32,6 +32,11 @@ static uint64_t sent(uint8_t kind, uint32_t written) {
   reel_answer(tables, sizeof tables, fast, sizeof fast, slow, sizeof slow, message, reel_written_length(written), reply,
               sizeof reply);
   return reel_read_reply(kind, reply, sizeof reply);
+}
+
+/* Whether the reply was read, and says that the unit turned the message back with this number. */
+static int turned_back(uint64_t told, unsigned number) {
+  return reel_reply_refused(told) == REEL_ACCEPTED && reel_reply_number(told) == number;
 }
 
 /* Whether the reply has these data. */
@@ -70,7 +75,7 @@ static void worked_example(void) {
 
   /* Page 5 stands: the reply is read, and tells why the unit turned the message back. */
   told = sent(REEL_KIND_CREATE, reel_write_create(3, 5, message, sizeof message));
-  expect(reel_reply_refused(told) == REEL_ACCEPTED && reel_reply_number(told) == REEL_PAGE_STANDS, "created again");
+  expect(turned_back(told, REEL_PAGE_STANDS), "created again");
   printf("calls: six accepted and one refused, each written, answered and its reply read\n");
 }
 
@@ -85,7 +90,7 @@ static void retired_frame(void) {
 
   /* page 5, copy 0, to frame 5 */
   told = sent(REEL_KIND_MAKE_COPY, reel_write_make_copy(5, 0, 5, message, sizeof message));
-  expect(reel_reply_refused(told) == REEL_ACCEPTED && reel_reply_number(told) == REEL_RETIRED, "no copy on it");
+  expect(turned_back(told, REEL_RETIRED), "no copy on it");
   printf("retired: a frame retired and looked at, and a copy to it refused\n");
 }
 
@@ -96,9 +101,30 @@ static uint8_t kind_of(const uint8_t *call, size_t length) {
 }
 
 /*
- * A gateway that passes on what others wrote, many messages at a time. Messages and replies are walked by their own
- * lengths, which are there whatever a message is, and whether or not its reply can be read.
+ * Has the unit answer a call file, and reads the reply to each message, which carries its number. Messages and replies
+ * are walked by their own lengths, which are there whatever a message is, and whether or not its reply can be read.
  */
+static void answered(const uint8_t *file, size_t file_len, const unsigned *numbers, size_t messages) {
+  uint8_t replies[2 * REEL_REPLY_SIZE];
+  uint32_t tally[REEL_TALLY_SIZE] = {0};
+  size_t reached = 0, at = 0, count = 0, used, said;
+  while (reached < file_len) {
+    reached = reel_replies(tables, sizeof tables, fast, sizeof fast, slow, sizeof slow, file, file_len, reached,
+                           replies, sizeof replies, tally, REEL_TALLY_SIZE, &used);
+    for (said = 0; said < used; said += reel_next(replies + said, used - said)) {
+      size_t length = reel_next(file + at, file_len - at);
+      uint64_t told = reel_read_reply(kind_of(file + at, length), replies + said, used - said);
+      expect(count < messages && reel_reply_refused(told) == REEL_ACCEPTED, "every reply is read");
+      expect(reel_reply_number(told) == numbers[count], "with its number");
+      at += length;
+      count++;
+    }
+  }
+  expect(at == file_len && count == messages, "every message");
+  expect(count == tally[REEL_TALLY_MESSAGES], "as many replies as messages");
+}
+
+/* A gateway that passes on what others wrote, many messages at a time. */
 static void several_replies(void) {
   static const uint8_t file[] = {
       0, 3, 1, REEL_KIND_LOOK_FRAME, 5, /* which is retired */
@@ -110,38 +136,57 @@ static void several_replies(void) {
   };
   static const unsigned numbers[] = {REEL_ACCEPTED,        REEL_UNKNOWN_KIND, REEL_FOREIGN_VERSION,
                                      REEL_FOREIGN_VERSION, REEL_ACCEPTED,     REEL_CUT_SHORT};
-  uint8_t replies[2 * REEL_REPLY_SIZE];
-  uint32_t tally[REEL_TALLY_SIZE] = {0};
-  size_t reached = 0, at = 0, count = 0, used, said;
-  while (reached < sizeof file) {
-    reached = reel_replies(tables, sizeof tables, fast, sizeof fast, slow, sizeof slow, file, sizeof file, reached,
-                           replies, sizeof replies, tally, REEL_TALLY_SIZE, &used);
-    for (said = 0; said < used; said += reel_next(replies + said, used - said)) {
-      size_t length = reel_next(file + at, sizeof file - at);
-      uint64_t told = reel_read_reply(kind_of(file + at, length), replies + said, used - said);
-      expect(reel_reply_refused(told) == REEL_ACCEPTED, "every reply is read");
-      expect(reel_reply_number(told) == numbers[count], "with its number");
-      at += length;
-      count++;
-    }
-  }
-  expect(at == sizeof file && count == tally[REEL_TALLY_MESSAGES], "as many replies as messages");
-  printf("several: %u replies walked by their lengths, each read with its number\n", (unsigned)count);
+  answered(file, sizeof file, numbers, 6);
+  printf("several: 6 replies walked by their lengths, each read with its number\n");
+}
+
+/*
+ * Page 7 has what no other station may read: before anything is written to it, station 3 sends its create with fifteen
+ * grants of right 0. Page 5, which was made by a create alone, may be read by every station.
+ */
+static void closed_page(void) {
+  static const uint8_t recipe[] = {0x52}, three_bytes[] = {0x41, 0x37, 0};
+  static const unsigned numbers[REEL_STATIONS] = {REEL_ACCEPTED}; /* and the others, which are 0 too */
+  uint8_t file[REEL_CLOSED_SIZE];
+  uint32_t written = reel_write_create_closed(3, 7, file, sizeof file); /* station 3, page 7 */
+  uint64_t told;
+  expect(reel_written_number(written) == REEL_ACCEPTED, reel_word(reel_written_number(written)));
+  answered(file, reel_written_length(written), numbers, REEL_STATIONS);
+
+  /* The placement module gives page 7 a copy on frame 1, and station 3 writes. */
+  sent(REEL_KIND_MAKE_COPY, reel_write_make_copy(7, 0, 1, message, sizeof message));
+  sent(REEL_KIND_SET_CURRENT, reel_write_set_current(7, 0, message, sizeof message));
+  told = sent(REEL_KIND_WRITE, reel_write_write(3, 7, 0, recipe, sizeof recipe, message, sizeof message));
+  expect(reel_reply_accepted(told), "the recipe written");
+  told = sent(REEL_KIND_READ, reel_write_read(3, 7, 0, 1, message, sizeof message));
+  expect(reel_reply_accepted(told) && has_data(told, recipe, sizeof recipe), "the recipe, for its owner");
+  told = sent(REEL_KIND_READ, reel_write_read(4, 7, 0, 1, message, sizeof message));
+  expect(turned_back(told, REEL_NO_RIGHT), "and not for station 4");
+
+  told = sent(REEL_KIND_READ, reel_write_read(4, 5, 0, 3, message, sizeof message));
+  expect(reel_reply_accepted(told) && has_data(told, three_bytes, sizeof three_bytes), "page 5, for station 4");
+  told = sent(REEL_KIND_WRITE, reel_write_write(4, 5, 0, recipe, sizeof recipe, message, sizeof message));
+  expect(turned_back(told, REEL_NO_RIGHT), "which may not write it");
+  printf("closed: a page that its owner alone reads, and a plain one that every station reads\n");
 }
 
 /* Refused, the writer writes nothing. */
 static void writer_refuses(void) {
   static const uint8_t bytes[REEL_FRAME_SIZE + 1] = {0};
-  size_t room = sizeof message, i;
-  memset(message, FILLER, room);
-  expect(reel_write_look_page(5, message, room - 1) == REEL_SHORT_BUFFER, "70 bytes, also for a message of five");
-  expect(reel_write(13, 5, 0, 0, 0, bytes, 0, message, room) == REEL_UNKNOWN_KIND, "kind 13");
-  expect(reel_write_read(3, 5, 63, 2, message, room) == REEL_OUT_OF_RANGE, "offset 63 with count 2");
-  expect(reel_write_look_frame(254, message, room) == REEL_OUT_OF_RANGE, "frame 254, which no unit has");
-  expect(reel_write_retire(254, message, room) == REEL_OUT_OF_RANGE, "frame 254 retired");
-  expect(reel_write_write(3, 5, 0, bytes, 0, message, room) == REEL_OUT_OF_RANGE, "a write of no byte");
-  expect(reel_write_write(3, 5, 0, bytes, 65, message, room) == REEL_OUT_OF_RANGE, "a write of 65 bytes");
-  for (i = 0; i < room; i++) expect(message[i] == FILLER, "nothing is written");
+  uint8_t out[REEL_CLOSED_SIZE];
+  size_t room = REEL_MESSAGE_SIZE, i;
+  memset(out, FILLER, sizeof out);
+  expect(reel_write_look_page(5, out, room - 1) == REEL_SHORT_BUFFER, "70 bytes, also for a message of five");
+  expect(reel_write(13, 5, 0, 0, 0, bytes, 0, out, room) == REEL_UNKNOWN_KIND, "kind 13");
+  expect(reel_write_read(3, 5, 63, 2, out, room) == REEL_OUT_OF_RANGE, "offset 63 with count 2");
+  expect(reel_write_look_frame(254, out, room) == REEL_OUT_OF_RANGE, "frame 254, which no unit has");
+  expect(reel_write_retire(254, out, room) == REEL_OUT_OF_RANGE, "frame 254 retired");
+  expect(reel_write_write(3, 5, 0, bytes, 0, out, room) == REEL_OUT_OF_RANGE, "a write of no byte");
+  expect(reel_write_write(3, 5, 0, bytes, 65, out, room) == REEL_OUT_OF_RANGE, "a write of 65 bytes");
+  expect(reel_write_create_closed(3, 7, out, sizeof out - 1) == REEL_SHORT_BUFFER, "a closed page in 125 bytes");
+  expect(reel_write_create_closed(16, 7, out, sizeof out) == REEL_OUT_OF_RANGE, "a closed page of station 16");
+  expect(reel_write_create_closed(3, 64, out, sizeof out) == REEL_OUT_OF_RANGE, "page 64 closed");
+  for (i = 0; i < sizeof out; i++) expect(out[i] == FILLER, "nothing is written");
   printf("writer: each refusal with its number, and nothing written\n");
 }
 
@@ -175,6 +220,7 @@ int main(void) {
   worked_example();
   retired_frame();
   several_replies();
+  closed_page();
   writer_refuses();
   reader_refuses();
   return 0;

@@ -157,6 +157,7 @@ static void in_place(void) {
   /* Page 5 moves to the slow store: copy 0 to frame 5, which becomes CURRENT, and copy 0 is no longer so. */
   static const uint8_t moves[] = {0, 5, 1, REEL_KIND_MAKE_COPY, 5, 0, 5, 0, 4, 1, REEL_KIND_SET_CURRENT, 5, 1,
                                   0, 4, 1, REEL_KIND_REMOVE_CURRENT, 5, 0};
+  static const uint8_t grant[] = {0, 6, 1, REEL_KIND_GRANT, 3, 5, 4, 0}; /* station 3, page 5, to station 4, right 0 */
   struct unit u = fresh_unit(REEL_REPLY_SIZE);
   uint32_t place;
   run(u, calls, sizeof calls);
@@ -171,6 +172,9 @@ static void in_place(void) {
   expect(reel_read_bytes(place, u.fast, u.slow) == u.slow + REEL_FRAME_SIZE * (5 - P) + 1, "a place on frame 5");
   expect(*reel_read_bytes(place, u.fast, u.slow) == 0x37, "its bytes");
 
+  /* Every station may read a new page, until the owner takes its right away. */
+  expect(reel_read(u.tables, u.tables_len, u.fast_len, u.slow_len, 4, 5, 1, 2) == place, "the same for station 4");
+  run(u, grant, sizeof grant);
   expect(reel_read(u.tables, u.tables_len, u.fast_len, u.slow_len, 4, 5, 1, 2) == 0, "station 4 has no right");
   give_up(u);
   printf("in place: the rules hold, page 5 is read in the fast store and in the slow one\n");

@@ -8,8 +8,8 @@
  *   tables  REEL_TABLES_SIZE bytes, made by reel_fresh and then kept by the caller
  *   fast    REEL_FRAME_SIZE * P bytes, frames 0 to P - 1; P and S as given to reel_fresh
  *   slow    REEL_FRAME_SIZE * S bytes, frames P to P + S - 1
- *   out     REEL_REPLY_SIZE bytes or more, for reel_write REEL_MESSAGE_SIZE or more; what no reply or message takes
- *           remains as it was
+ *   out     REEL_REPLY_SIZE bytes or more, for reel_write REEL_MESSAGE_SIZE or more, for reel_write_create_closed
+ *           REEL_CLOSED_SIZE or more; what no reply or message takes remains as it was
  *   tally   REEL_TALLY_SIZE numbers: messages, refusals, bytes laid; each stops at 4294967295
  *   used    one size_t, without a length beside it; it is only written
  *
@@ -42,7 +42,7 @@ extern "C" {
 
 /* ---- the version: major, minor and patch */
 
-#define REEL_VERSION_MAJOR 4
+#define REEL_VERSION_MAJOR 5
 #define REEL_VERSION_MINOR 0
 #define REEL_VERSION_PATCH 0
 #define REEL_VERSION (65536 * REEL_VERSION_MAJOR + 256 * REEL_VERSION_MINOR + REEL_VERSION_PATCH)
@@ -100,6 +100,7 @@ uint32_t reel_version(void);
 
 #define REEL_MESSAGE_VERSION 1 /* the third byte of messages and replies */
 #define REEL_MESSAGE_SIZE 71   /* the longest accepted message, with its bytes of length; the writer's least buffer */
+#define REEL_CLOSED_SIZE 126   /* the messages of reel_write_create_closed: a create of 6 bytes, fifteen grants of 8 */
 #define REEL_REPLY_SIZE 70     /* the longest reply, and the least reply buffer */
 #define REEL_REPLY_HEAD 6      /* length, version, number and bytes laid; the data of a read or look come after */
 
@@ -118,6 +119,9 @@ enum reel_kind {
   REEL_KIND_LOOK_FRAME = 11,    /* frame */
   REEL_KIND_RETIRE = 12         /* frame */
 };
+
+/* A create gives its station, the owner, right 2 on the new page and every other station right 1, so that all may read
+   it. reel_write_create_closed is for a page that they may not read. */
 
 /* The data of a look at a frame are three bytes: 1, page, copy where a copy is on it; 0, 255, 255 where it is free;
    2, 255, 255 where it is retired. */
@@ -364,8 +368,49 @@ static inline uint32_t reel_write_retire(uint8_t frame, uint8_t *out, size_t out
 /* The number: REEL_ACCEPTED, or why nothing was written. */
 static inline unsigned reel_written_number(uint32_t written) { return written & 255; }
 
-/* The length of the message in out; 0 where nothing was written. */
+/* The length of the message in out, or of the sixteen of a closed page; 0 where nothing was written. */
 static inline size_t reel_written_length(uint32_t written) { return written >> 8; }
+
+/* ---- the writer for a closed page, on which every station but its owner has right 0 */
+
+/* For reel_write_create_closed alone: a create of the page and grants of right 0 to the other stations, one behind the
+   other, in a buffer that has REEL_MESSAGE_SIZE bytes for the last one too. Gives number + 256 * length of all, or what
+   the writer gives for the first that it refuses; those before it are then in out. */
+static inline uint32_t reel_write_closing(uint8_t station, uint8_t page, uint8_t *out, size_t out_len) {
+  uint32_t written = reel_write_create(station, page, out, out_len);
+  size_t length = reel_written_length(written);
+  for (uint8_t other = 0; other < REEL_STATIONS && reel_written_number(written) == REEL_ACCEPTED; other++) {
+    if (other == station) continue;
+    written = reel_write_grant(station, page, other, 0, out + length, out_len - length);
+    length += reel_written_length(written);
+  }
+  return reel_written_number(written) == REEL_ACCEPTED ? REEL_ACCEPTED + 256 * (uint32_t)length : written;
+}
+
+/*
+ * Writes sixteen messages at the head of out, one behind the other: the create of a page by a station, and its grants
+ * of right 0 to the fifteen others in ascending order. Gives number + 256 * length of all, as reel_write does of one.
+ * The number is REEL_ACCEPTED, and then the length REEL_CLOSED_SIZE, or the first that applies of
+ *
+ *   REEL_SHORT_BUFFER  out_len is below REEL_CLOSED_SIZE
+ *   REEL_OUT_OF_RANGE  station or page too large, as the writer gives it
+ *
+ * and then the length is 0 and nothing is written.
+ *
+ * For a page that no other station may read, such as one of recipes or prices. The kernel checks none of this: the
+ * station sends all sixteen before its first write to the page, as one call file or one by one, and writes only once
+ * every grant was accepted. On a page that stands already the create is answered REEL_PAGE_STANDS and changes no right;
+ * the grants are then accepted from the page's owner, and close it, while its own right stays as it was; to any other
+ * station each is answered REEL_NO_RIGHT. So an owner that lost a reply sends all sixteen again.
+ */
+static inline uint32_t reel_write_create_closed(uint8_t station, uint8_t page, uint8_t *out, size_t out_len) {
+  uint8_t file[REEL_CLOSED_SIZE + REEL_MESSAGE_SIZE]; /* so that a refusal leaves no part of them in out */
+  uint32_t written;
+  if (out_len < REEL_CLOSED_SIZE) return REEL_SHORT_BUFFER;
+  written = reel_write_closing(station, page, file, sizeof file);
+  for (size_t i = 0; i < reel_written_length(written); i++) out[i] = file[i];
+  return written;
+}
 
 /* ---- what reel_read_reply gives, taken apart */
 

@@ -24,9 +24,9 @@ struct call {
 
 static struct unit full, unit;
 
-/* Station 3 grants station 4 to read page 0; a message follows. */
+/* Station 3 grants station 4 to write page 0, which it may read already; a message follows. */
 enum { GRANT = 8 };
-static uint8_t file[GRANT + REEL_MESSAGE_SIZE] = {0, GRANT - 2, REEL_MESSAGE_VERSION, REEL_KIND_GRANT, 3, 0, 4, 1};
+static uint8_t file[GRANT + REEL_MESSAGE_SIZE] = {0, GRANT - 2, REEL_MESSAGE_VERSION, REEL_KIND_GRANT, 3, 0, 4, 2};
 static uint8_t *const second = file + GRANT;
 
 /* Lays out a message behind the grant; a write gets 64 bytes. */

@@ -1,6 +1,7 @@
 //! Call files, made up beside a peer that keeps the tables: a shift of placement moves with reads,
 //! writes, looks and some refusals, a steady round of calls on tables of a given size, deletes, and
-//! calls that retire frames. The shift has none of the last, so that its figures stay comparable.
+//! calls that retire frames. The shift has none of the last, and its readers are those that were
+//! granted a right, as before request [6]: its bytes are the same, and its figures stay comparable.
 
 use crate::peer::{Peer, Tables, NULL_FRAME};
 
@@ -46,6 +47,9 @@ pub struct Calls {
     pub peer: Peer<true>,
     pub file: Vec<u8>,
     pub counts: Counts,
+    /// For each page the rights that its owner gave and has; 0 where a station has right 1 from the
+    /// creation alone.
+    granted: [[u8; 16]; 64],
     random: Random,
 }
 
@@ -55,6 +59,7 @@ impl Calls {
             peer: Peer::fresh(fast, slow),
             file: vec![],
             counts: Counts::default(),
+            granted: [[0; 16]; 64],
             random: Random(0x9E3779B97F4A7C15),
         }
     }
@@ -90,6 +95,24 @@ impl Calls {
             Some(5) => counts.writes += 1,
             Some(6..=9) => counts.moves += 1,
             Some(10 | 11) => counts.looks += 1,
+            _ => (),
+        }
+        if self.peer.out[3] == 0 {
+            self.note_grant(m);
+        }
+    }
+
+    /// Keeps what an accepted creation or grant gives.
+    fn note_grant(&mut self, m: &[u8]) {
+        match m[1..] {
+            [1, station, page] => {
+                let granted = &mut self.granted[usize::from(page)];
+                *granted = [0; 16];
+                granted[usize::from(station)] = 2;
+            }
+            [3, _, page, other, right] => {
+                self.granted[usize::from(page)][usize::from(other)] = right;
+            }
             _ => (),
         }
     }
@@ -169,12 +192,12 @@ impl Calls {
         }
     }
 
-    /// A station with such a right to the page, if there is any.
+    /// A station that was granted such a right to the page, if there is any.
     fn station(&mut self, page: usize, right: u8) -> u8 {
         let start = self.random.below(16);
         let mut stations = (0..16).map(|k| (start + k) % 16);
-        let rights = self.tables().pages[page].rights;
-        stations.find(|&s| rights[s] >= right).unwrap_or(start) as u8
+        let granted = self.granted[page];
+        stations.find(|&s| granted[s] >= right).unwrap_or(start) as u8
     }
 
     fn read(&mut self, page: usize) {
@@ -308,10 +331,10 @@ impl Calls {
         self.send(&[1, 7, page, copy]);
     }
 
-    /// The owner of page 0 grants station 15 to read it.
-    pub fn grant_to_read(&mut self) {
-        let owner = self.tables().pages[0].owner;
-        self.send(&[1, 3, owner, 0, 15, 1]);
+    /// The owner of page 0 grants station 15 another right than it has.
+    pub fn grant_anew(&mut self) {
+        let g = self.tables().pages[0];
+        self.send(&[1, 3, g.owner, 0, 15, (g.rights[15] + 1) % 3]);
     }
 
     /// Deletes copies of so many pages, of each in turn, until each has one left.

@@ -161,7 +161,7 @@ impl Work {
     /// these calls also puts them back.
     fn alone(copies: u8, make: impl Fn(&mut Calls)) -> Work {
         let work = Work::accepted(copies, |calls| {
-            calls.grant_to_read();
+            calls.grant_anew();
             make(calls);
         });
         let before = (2 + usize::from(work.file[1]), 1);
@@ -375,7 +375,8 @@ impl Call {
             Call {
                 name: "grant",
                 what: "`reel_answer`, a grant that changes the tables",
-                messages: vec![grant(1), grant(2)],
+                // Right 2 first: a new page gives right 1.
+                messages: vec![grant(2), grant(1)],
                 number: 0,
             },
             Call {

@@ -254,6 +254,7 @@ fn station_step<const REGISTER: bool>(
             test(g.n == 0, 8)?;
             *g = ABSENT;
             g.owner = station;
+            g.rights = [1; 16];
             g.rights[s] = 2;
             g.n = 1;
             g.copies[0].recent = true;

@@ -4,8 +4,8 @@
  * which no instrumentation of this file could see. The same file is served message by message, in one run and in parts,
  * and all that is left is compared. Of each delete it is tested what it leaves in the lent stores: zeros in the frames
  * that it frees, by the register, and every other byte as it was; of each retire that it sets the mark of its frame and
- * changes nothing else. Each message that is a call is written again, and each reply read where nothing follows it.
- * Messages and sizes follow from a seed.
+ * changes nothing else. Each message that is a call is written again, and each reply read where nothing follows it. The
+ * messages of every closed page are written too. Messages and sizes follow from a seed.
  */
 #define _DEFAULT_SOURCE
 #include "test.h"
@@ -288,6 +288,39 @@ static void serve(struct unit one, struct unit whole, struct unit parts, struct 
   same(one, parts);
 }
 
+/* The messages of a closed page, byte by byte. */
+static void close_page(uint8_t station, uint8_t page, uint8_t *to) {
+  const uint8_t create[] = {0, 4, 1, REEL_KIND_CREATE, station, page};
+  uint8_t other;
+  memcpy(to, create, sizeof create);
+  for (other = 0; other < REEL_STATIONS; other++) {
+    const uint8_t grant[] = {0, 6, 1, REEL_KIND_GRANT, station, page, other, 0};
+    if (other != station) memcpy(to + 6 + 8 * (other - (other > station)), grant, sizeof grant);
+  }
+}
+
+/* A closed page is written into so many bytes, or nothing is; all others remain as they were. */
+static void closed_into(uint8_t *out, size_t room, uint8_t station, uint8_t page) {
+  uint8_t due[PAGE];
+  uint32_t given = REEL_ACCEPTED + 256 * 126;
+  memset(due, FILLER, room);
+  memset(out, FILLER, room);
+  if (room < 126)
+    given = REEL_SHORT_BUFFER;
+  else if (station > 15 || page > 63)
+    given = REEL_OUT_OF_RANGE;
+  else
+    close_page(station, page, due);
+  expect(reel_write_create_closed(station, page, out, room) == given, "what is given for a closed page");
+  expect(memcmp(out, due, room) == 0, "the messages of a closed page");
+}
+
+/* Every station and page, also those that are none, in a buffer of just the length. */
+static void closed_pages(struct block out) {
+  unsigned call;
+  for (call = 0; call < 65536; call++) closed_into(part(out, 126), 126, (uint8_t)(call / 256), (uint8_t)(call % 256));
+}
+
 /* Calls and replies of any sort, between fences. */
 static void senseless_call(struct unit u, struct block lent) {
   uint8_t bytes[REEL_MESSAGE_SIZE + 9], arguments[4], kind = (uint8_t)any(14);
@@ -299,6 +332,7 @@ static void senseless_call(struct unit u, struct block lent) {
   written = write_into(part(u.out, room), room, kind, arguments, sealed(lent, bytes, count), count);
   expect((reel_written_number(written) == REEL_SHORT_BUFFER) == (room < REEL_MESSAGE_SIZE),
          "a short buffer for a message");
+  closed_into(part(u.out, room), room, arguments[0], arguments[1]);
 
   bytes[0] = (uint8_t)(any(50) == 0);
   bytes[1] = (uint8_t)(any(2) == 0 ? 4 + any(8) : any(sizeof bytes));
@@ -344,6 +378,7 @@ int main(void) {
   size_t i;
   for (behind = 0; behind < 2; behind++) {
     for (i = 0; i < sizeof sizes / sizeof *sizes; i++) serve(one, whole, parts, lent, sizes[i][0], sizes[i][1]);
+    closed_pages(one.out);
     for (i = 0; i < 20000; i++) {
       senseless(one, lent);
       senseless_call(one, lent);

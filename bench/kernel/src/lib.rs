@@ -4,7 +4,7 @@
 pub mod layout;
 
 /// The version of the library that this binding is for: 65536 * major + 256 * minor + patch.
-pub const VERSION: u32 = 4 * 65536;
+pub const VERSION: u32 = 5 * 65536;
 /// How many bytes the tables take; `layout` says what stands where.
 pub const TABLES: usize = 3198;
 /// The bytes of a frame, and so of a page.
@@ -15,6 +15,12 @@ pub const MOST_FRAMES: u8 = 127;
 pub const LEAST_BUFFER: usize = 70;
 /// The shortest buffer that `write` lays a message into: the length of the longest one.
 pub const MESSAGE: usize = 71;
+/// The length of what `write_create_closed` lays: a create of 6 bytes and fifteen grants of 8.
+pub const CLOSED: usize = 126;
+
+const CREATE: u8 = 1;
+const GRANT: u8 = 3;
+const SHORT_BUFFER: u8 = 18;
 
 // A slice passes as pointer and length.
 #[link(name = "embed", kind = "static")]
@@ -263,6 +269,27 @@ pub fn write(kind: u8, arguments: [u8; 4], bytes: &[u8], out: &mut [u8]) -> Resu
     }
 }
 
+/// Writes the messages of a closed page to the front of `out`, one behind the other, and gives their
+/// length, `CLOSED`: the create of the page by the station, and its grants of right 0 to the fifteen
+/// others in ascending order. Refused 18 in a buffer below `CLOSED` bytes, then 7 as `write` gives
+/// it; then nothing is written. Bytes past the messages remain as lent.
+///
+/// For a page that no other station may read: a create alone gives each of them right 1. The kernel
+/// checks none of this, so the station writes to the page only once every grant was accepted. On a
+/// page that stands the create is answered 8 and changes no right; the grants are then accepted from
+/// the owner, and close it, and answered 10 to any other station.
+pub fn write_create_closed(station: u8, page: u8, out: &mut [u8]) -> Result<usize, u8> {
+    let out = out.get_mut(..CLOSED).ok_or(SHORT_BUFFER)?;
+    // `write` asks for `MESSAGE` bytes for the last one too.
+    let mut file = [0; CLOSED + MESSAGE];
+    let mut length = write(CREATE, [station, page, 0, 0], &[], &mut file)?;
+    for other in (0..layout::STATIONS as u8).filter(|&other| other != station) {
+        length += write(GRANT, [station, page, other, 0], &[], &mut file[length..])?;
+    }
+    out.copy_from_slice(&file[..CLOSED]);
+    Ok(length)
+}
+
 /// What a reply tells.
 #[derive(Clone, Copy, Debug, PartialEq, Eq)]
 pub struct Told {
@@ -432,7 +459,7 @@ impl Unit {
 
 #[cfg(test)]
 mod tests {
-    use super::{read_reply, write, Answer, Unit, MESSAGE, TABLES};
+    use super::{read_reply, write, write_create_closed, Answer, Unit, CLOSED, MESSAGE, TABLES};
 
     /// The worked example of document 01, and its replies.
     const FILE: [&[u8]; 6] = [
@@ -508,6 +535,9 @@ mod tests {
         }
         assert_eq!(unit.read(3, 5, 0, 3), Some(&[0x41, 0x37, 0][..]));
         assert_eq!(unit.read(3, 5, 1, 1).unwrap().as_ptr(), &unit.fast[1]);
+        // Every station reads a new page, until its owner takes the right away.
+        assert_eq!(unit.read(4, 5, 0, 3), Some(&[0x41, 0x37, 0][..]));
+        assert_eq!(unit.answer(&[0, 6, 1, 3, 3, 5, 4, 0]).number, 0);
         assert_eq!(unit.read(4, 5, 0, 3), None);
         // The same bytes on the second slow frame.
         for message in [&[0, 5, 1, 6, 5, 0, 2][..], &[0, 4, 1, 7, 5, 0], FILE[2]] {
@@ -579,6 +609,83 @@ mod tests {
         assert_eq!((told.number, told.laid, told.length), (1, 0, 0));
         let told = read_reply(1, &[0, 4, 1, 20, 0, 0]).unwrap();
         assert_eq!((told.number, told.laid, told.length), (20, 0, 0));
+    }
+
+    /// The messages of a closed page, byte by byte.
+    fn closing(station: u8, page: u8) -> Vec<u8> {
+        let mut file = vec![0, 4, 1, 1, station, page];
+        for other in [0, 1, 2, 3, 4, 5, 6, 7, 8, 9, 10, 11, 12, 13, 14, 15] {
+            if other != station {
+                file.extend([0, 6, 1, 3, station, page, other, 0]);
+            }
+        }
+        file
+    }
+
+    #[test]
+    fn the_messages_of_every_closed_page() {
+        for call in 0..16 * 64 {
+            let (station, page) = ((call / 64) as u8, (call % 64) as u8);
+            for room in [126, 135] {
+                let mut out = [0xAA; 135];
+                let given = write_create_closed(station, page, &mut out[..room]);
+                assert_eq!(given, Ok(126), "{station} {page} in {room} bytes");
+                assert_eq!(out[..126], closing(station, page));
+                assert_eq!(out[126..], [0xAA; 9]);
+            }
+        }
+    }
+
+    #[test]
+    fn closed_pages_that_are_refused() {
+        let mut out = [0xAA; 135];
+        for (station, page, room, number) in [
+            (16, 64, 0, 18),
+            (3, 5, 70, 18),
+            (3, 5, 125, 18),
+            (16, 5, 125, 18),
+            (16, 5, 126, 7),
+            (255, 5, 135, 7),
+            (3, 64, 126, 7),
+            (3, 255, 135, 7),
+        ] {
+            let given = write_create_closed(station, page, &mut out[..room]);
+            assert_eq!(given, Err(number), "{station} {page} in {room} bytes");
+            assert_eq!(out, [0xAA; 135]);
+        }
+    }
+
+    /// How each station's read is answered, once page 5 of station 3 has a CURRENT copy and is written.
+    fn reads(unit: &mut Unit) -> Vec<u8> {
+        for message in &FILE[1..4] {
+            assert_eq!(unit.answer(message).number, 0);
+        }
+        let read = |station| unit.answer(&[0, 6, 1, 4, station, 5, 0, 1]).number;
+        (0..16).map(read).collect()
+    }
+
+    #[test]
+    fn a_closed_page_is_read_by_its_owner_alone() {
+        let mut file = [0; CLOSED];
+        write_create_closed(3, 5, &mut file).unwrap();
+        let mut unit = Unit::fresh(4, 4).unwrap();
+        unit.run(&file);
+        assert_eq!(unit.tally, [16, 0, 0]);
+        let mut due = [10; 16];
+        due[3] = 0;
+        assert_eq!(reads(&mut unit), due);
+        // On the page that stands: 8, and the grants close it again; by another station 8 and then 10.
+        let tables = unit.tables.clone();
+        assert_eq!(unit.answer(&[0, 6, 1, 3, 3, 5, 15, 2]).number, 0);
+        unit.run(&file);
+        assert_eq!((unit.tally, &unit.tables), ([32, 1, 0], &tables));
+        write_create_closed(4, 5, &mut file).unwrap();
+        unit.run(&file);
+        assert_eq!((unit.tally, &unit.tables), ([48, 17, 0], &tables));
+
+        let mut unit = Unit::fresh(4, 4).unwrap();
+        assert_eq!(unit.answer(FILE[0]).number, 0);
+        assert_eq!(reads(&mut unit), [0; 16]);
     }
 
     #[test]

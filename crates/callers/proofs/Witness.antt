@@ -74,12 +74,12 @@ each X a b c d e cleared = c
 each X a b c d e retired-exactly = d
 each X a b c d e never-again = e
 
--- the create; the read that is refused; a look at page 5; a copy of page 5 made on frame 0
+-- the create; the write that is refused; a look at page 5; a copy of page 5 made on frame 0
 abbrev pub create : Sent
 create = whole (1 ∷ 1 ∷ 3 ∷ 5 ∷ [])
 
-abbrev pub read : Sent
-read = whole (1 ∷ 4 ∷ 4 ∷ 5 ∷ 0 ∷ 1 ∷ [])
+abbrev pub write : Sent
+write = whole (1 ∷ 5 ∷ 4 ∷ 5 ∷ 0 ∷ 1 ∷ [])
 
 abbrev pub look : Sent
 look = whole (1 ∷ 10 ∷ 5 ∷ [])
@@ -88,7 +88,7 @@ abbrev pub move : Sent
 move = whole (1 ∷ 6 ∷ 5 ∷ 0 ∷ 0 ∷ [])
 
 abbrev pub sent : Demand → List Sent
-sent obeys = create ∷ read ∷ []
+sent obeys = create ∷ write ∷ []
 sent agrees = create ∷ []
 sent cleared = create ∷ []
 sent retired-exactly = create ∷ []
@@ -105,7 +105,7 @@ abbrev pub ending : List Turn → State → Run
 ending ts s = record { turns = ts; final = s }
 
 abbrev pub wrong : Demand → Run
--- the refused read moves page 5 to frame 0, which holds the same zeros
+-- the refused write moves page 5 to frame 0, which holds the same zeros
 wrong obeys = ending (first ∷ second 10 ∷ []) (with56 1 1 uncleared freshPage (replicate 64 0) slowBytes)
 -- page 5 has another owner
 wrong agrees = ending (first ∷ []) (with56 1 1 foreign freshPage fastBytes slowBytes)

@@ -1,5 +1,5 @@
 -- For each field of the statements over lent bytes a wrong unit or a wrong answer that this field rules out and no
--- other does, computed. P = S = 1; station 3 creates page 5 and station 4 reads of it, as in
+-- other does, computed. P = S = 1; station 3 creates page 5 and station 4 writes a byte of it, as in
 -- theorems/specs/Witness3.antt.
 use Prim.Native.Nat.{ℕ, _+_, _*_, _<_}
 use mathlib.Core.Path.{_≡_, refl, ap}
@@ -107,7 +107,7 @@ each X a b c d e f fast-is = d
 each X a b c d e f slow-is = e
 each X a b c d e f tally-left = f
 
--- the replies to the create and to the read, which is answered n
+-- the replies to the create and to the write, which is answered n
 abbrev pub replies₃ : ℕ → List ℕ
 replies₃ n = 0 ∷ 4 ∷ 1 ∷ 0 ∷ 0 ∷ 0 ∷ 0 ∷ 4 ∷ 1 ∷ n ∷ 0 ∷ 0 ∷ []
 

@@ -30,9 +30,9 @@ use Rattle.embed.specs.Bytes.{tablesSize, tablesBytes, tablesFrom, marks
 abbrev pub versionNumber : ℕ → ℕ → ℕ → ℕ
 versionNumber major minor patch = 65536 * major + 256 * minor + patch
 
--- 4.0.0
+-- 5.0.0
 abbrev pub version : ℕ
-version = versionNumber 4 0 0
+version = versionNumber 5 0 0
 
 -- ---- tables
 

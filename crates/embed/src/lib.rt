@@ -34,8 +34,8 @@ ghost use Rattle.stations.specs.Reader.{readReply};
 ghost use Rattle.embed.specs.Exports.{version, tablesOf, freshInto, readNumber, kept};
 ghost use Rattle.embed.specs.Exports.{AnswerPromised, RunPromised, RepliesPromised, WriteLent, readingNumber};
 
-// The version of what C and Rust see: these functions, and the tables as bytes.
-const MAJOR: u32 = 4;
+// The version of what C and Rust see: these functions, what they do, and the tables as bytes.
+const MAJOR: u32 = 5;
 
 const MINOR: u32 = 0;
 

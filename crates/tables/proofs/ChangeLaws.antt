@@ -95,7 +95,7 @@ gap-without (x ∷ xs) (suc k) h = ap (λ (r : List Copy). x ∷ r) (gap-without
 pub changed-rights : (g : Page) (c : Edit) → length (g .rights) ≡ 16 → length (changed g c .rights) ≡ 16
 unfolding changed created freshPage
 changed-rights g Kept e = e
-changed-rights g (Created s) e = length-set (replicate 16 0) s 2
+changed-rights g (Created s) e = length-set (replicate 16 1) s 2
 changed-rights g Deleted e = refl
 changed-rights g (Granted s r) e = length-set (g .rights) s r ∙ e
 changed-rights g Staled e = e

@@ -1,5 +1,6 @@
--- A change that is seen at a glance to leave a record as it is does so.
-use Prim.Native.Nat.{ℕ, _<_}
+-- A change that is seen at a glance to leave a record as it is does so; one between records without frames leaves the
+-- register.
+use Prim.Native.Nat.{ℕ, _+_, _≤_, _<_}
 use mathlib.Core.Path.{_≡_, refl, sym, ap, ap₂, _∙_}
 use mathlib.Core.Bool.{Bool, true, false, not, _&&_, _||_, cond, false≢true}
 use mathlib.Core.List.{List, [], _∷_, map}
@@ -7,16 +8,16 @@ use native.Mathlib.Omega.{arith}
 use lib.ListN.{length, getD, set}
 use lib.Seq.{set-out, set-getD}
 use lib.Dec.{leb, ltb}
-use borrow.Author.Tests.{leb-true, ltb-true}
+use borrow.Author.Tests.{leb-true, ltb-true, eqb-true}
 use Rattle.tables.specs.declared.Copy.{Copy}
 use Rattle.tables.specs.declared.Page.{Page}
 use Rattle.tables.specs.declared.Tables.{Tables}
 use Rattle.tables.specs.declared.Edit.{Edit}
 use Rattle.tables.specs.declared.Edit.the-variants.{Kept, Created, Deleted, Granted, Staled, Placed, Added, Removed, Marked}
 use Rattle.tables.specs.Lists.{all}
-use Rattle.tables.specs.Model.{retiredEntry, zeroCopy, zeroPage, pageAt}
+use Rattle.tables.specs.Model.{freeEntry, retiredEntry, isNull, inUse, withPages, zeroCopy, zeroPage, pageAt}
 use Rattle.tables.specs.Rules.{sound}
-use Rattle.tables.specs.Register.{reregistered}
+use Rattle.tables.specs.Register.{entryFor, vacated, occupied, reregistered}
 use Rattle.tables.specs.Changes.{staleCopy, withCurrent, withCopies, changed, changeTo, edited, withRetired, after}
 use Rattle.tables.specs.Keep.{staysRecent, agree, currentIs, leavesRecord}
 use Rattle.tables.proofs.ListLaws.{and-left, and-right}
@@ -90,3 +91,33 @@ unchanged-after t p c ok e =
     ap (λ (g : Page). after t (changeTo p g 255)) (leaves-same (pageAt t p) c e)
     ∙ kept-after t p 255 ok (λ l. absurd (omega arith))
     ∙ retired-none t (sound-of t ok .right .register-long)
+
+-- ---- a record without frames in the place of another
+
+vacated-bare : (cs : List Copy) (r : List ℕ) → length r ≤ 255 → all isNull cs ≡ true → vacated cs r ≡ r
+unfolding vacated all
+vacated-bare [] r h e = refl
+vacated-bare (c ∷ cs) r h e =
+    let none : c .frame ≡ 255 = eqb-true (c .frame) 255 (and-left (isNull c) _ e) in
+    ap (vacated cs) (set-out r (c .frame) freeEntry (rw none h)) ∙ vacated-bare cs r h (and-right (isNull c) _ e)
+
+occupied-bare : (p k : ℕ) (cs : List Copy) (r : List ℕ) → length r ≤ 255 → all isNull cs ≡ true → occupied p k cs r ≡ r
+unfolding occupied all
+occupied-bare p k [] r h e = refl
+occupied-bare p k (c ∷ cs) r h e =
+    let none : c .frame ≡ 255 = eqb-true (c .frame) 255 (and-left (isNull c) _ e) in
+    ap (occupied p (k + 1) cs) (set-out r (c .frame) (entryFor p k) (rw none h)) ∙ occupied-bare p (k + 1) cs r h (and-right (isNull c) _ e)
+
+-- the register is as it was
+pub bare-after : (t : Tables) (p : ℕ) (g : Page) → length (t .register) ≡ 254 → all isNull (inUse (pageAt t p)) ≡ true → all isNull (inUse g) ≡ true
+    → after t (changeTo p g 255) ≡ withPages t (set (t .pages) p g) (t .register)
+unfolding after
+bare-after t p g long e e′ =
+    ap (withPages t (set (t .pages) p g)) (rw (set-out r 255 retiredEntry (omega arith)) (by (ltb p 64)))
+  where
+    r : List ℕ
+    r = t .register
+
+    by : (b : Bool) → cond b (reregistered p (pageAt t p) g r) r ≡ r
+    by true = ap (occupied p 0 (inUse g)) (vacated-bare (inUse (pageAt t p)) r (omega arith) e) ∙ occupied-bare p 0 (inUse g) r (omega arith) e′
+    by false = refl

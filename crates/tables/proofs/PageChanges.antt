@@ -264,10 +264,10 @@ pub created-ok : (limit st : ℕ) → st < 16 → StandingPage limit (created st
 unfolding created all count
 created-ok limit st h =
     record {
-      rights-long = length-set (replicate 16 0) st 2;
+      rights-long = length-set (replicate 16 1) st 2;
       copies-long = refl;
       owner-ok = omega arith;
-      rights-ok = all-set (atMost 2) (replicate 16 0) st 2 refl refl;
+      rights-ok = all-set (atMost 2) (replicate 16 1) st 2 refl refl;
       some = omega arith;
       most = omega arith;
       copies-ok = refl;

@@ -13,11 +13,12 @@ use Rattle.tables.specs.declared.Edit.the-variants.{Kept, Created, Delet
 use Rattle.tables.specs.Model.{nullFrame, retiredEntry, freshCopy, freshPage, withPages, zeroCopy, pageAt}
 use Rattle.tables.specs.Register.{registerAfter}
 
--- step 1: "the page stands with one null copy; the station is owner with right 2, others 0". The null copy is recent
+-- step 1: "the page stands with one null copy; the station is owner with right 2"; document 02, request [6]: "Create
+-- now gives right 1 to every station but the owner." The null copy is recent
 unfoldable pub created : ℕ → Page
 created station =
     record {
-      rights = set (replicate 16 0) station 2;
+      rights = set (replicate 16 1) station 2;
       copies = set (replicate 8 freshCopy) 0 (record { frame = nullFrame; current = false; recent = true });
       owner = station;
       n = 1;
@@ -58,7 +59,7 @@ withCurrent c current = record { frame = c .frame; current = current; recent = c
 unfoldable pub changed : Page → Edit → Page
 -- "accepted, no change", and kinds that change no page
 changed g Kept = g
--- step 1: "the page stands with one null copy; the station is owner with right 2, others 0"
+-- step 1, with the rights of request [6]
 changed g (Created station) = created station
 -- step 2: "All copies go": the page is absent
 changed g Deleted = freshPage

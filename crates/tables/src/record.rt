@@ -50,7 +50,7 @@ fn with_right(rights: [u8; 16], station: u8, right: u8) -> [u8; 16]
 fn created_page(station: u8) -> Page
     ensures { λ r. ⌜ r ≡ created station ⌝ }
 {
-    let rights = with_right([0; 16], station, 2);
+    let rights = with_right([1; 16], station, 2);
     let c = fresh_copy();
     let mut copies = [c; 8];
     copies[0] = Copy {

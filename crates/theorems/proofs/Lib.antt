@@ -18,3 +18,4 @@ pub mod Retired
 pub mod Written
 pub mod Told
 pub mod Stations
+pub mod Closed

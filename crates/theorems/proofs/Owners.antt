@@ -48,7 +48,7 @@ module _ (s : State) (f : Flat) (i : Inv s f) (c : Call) (bs : List ℕ) where
           (test (not (absent (pageAt (s .tables) (pageFor c)))) pageStands (editing (Created (c .station)))) (creating f (ofKind Create c) x)
       go near gone e =
           rw (lt-ltb (c .page) 64 near, e) (both-accept refl (page-changed s f i (c .page) near (Created (c .station)) (joined s)
-          (here (record { owner = c .station; rights = set (replicate 16 0) (c .station) 2; bytes = replicate 64 0 }))
+          (here (record { owner = c .station; rights = set (replicate 16 1) (c .station) 2; bytes = replicate 64 0 }))
           (refl, record { owners = refl; rights = refl; holds = (λ _. refl, tt) }) (stores-kept s (c .page))))
       go near (here b) e = rw (lt-ltb (c .page) 64 near, e .0) (both-refuse refl)
 

@@ -50,7 +50,7 @@ module _ (c : Call) (bs : List ℕ) (i : InRange c bs) where
   body-long : length (body c bs) ≡ 2 + (count k + length (ending k bs))
   body-long = let n = values-count c bs in omega arith
 
-  parsed : parse (body c bs) ≡ Asked (canonical c)
+  pub parsed : parse (body c bs) ≡ Asked (canonical c)
   unfolding parse callOf
   parsed =
       let m : List ℕ = body c bs in

@@ -1,4 +1,5 @@
--- Document 01, "Cases": the worked example and the starred cases, computed from the definitions.
+-- Document 01, "Cases": the worked example and the starred cases; cases of requests [2], [5] and [6] of document 02.
+-- Computed from the definitions.
 use Prim.Native.Nat.{ℕ}
 use mathlib.Core.Path.{_≡_, refl}
 use mathlib.Core.Bool.{true, false}
@@ -12,12 +13,14 @@ use Rattle.tables.specs.Register.{registerRule, vacated, occupied}
 use Rattle.tables.specs.Changes.{created, closeGap, changed, withRetired, after}
 use Rattle.tables.specs.Keep.{leavesRecord}
 use Rattle.steps.specs.Stores.{part, splice, zeros, fits, framesOf, layFrames}
-use Rattle.steps.specs.Kinds.{names, kinds, code, among, leastLength, mostLength, argument, callOf}
+use Rattle.steps.specs.Kinds.{names, kinds, code, among, leastLength, mostLength, argument, callOf, value, values}
 use Rattle.steps.specs.Steps.{Outcome, firstCurrent, perform, decideOn}
 use Rattle.steps.specs.Effects.{copiesShown, laidFrames, shownOf, State, joined, Result, step}
 use Rattle.messages.specs.Messages.{parse}
 use Rattle.messages.specs.Replies.{reply}
 use Rattle.messages.specs.Run.{Sent, split, messagesOf, turnsOf, endOf, answer, Run, run, replies}
+use Rattle.stations.specs.Writer.{written}
+use Rattle.theorems.specs.Closed.{besides, closingFile}
 use Rattle.theorems.specs.Flat.{none, reactAs, reactTo, Answer}
 use Rattle.theorems.specs.Demand3.{elevens, flatAfter, flatAnswers, runAnswers}
 
@@ -113,20 +116,25 @@ refusedWith n = 0x00 ∷ 0x04 ∷ 0x01 ∷ n ∷ 0x00 ∷ 0x00 ∷ []
 abbrev pub laidReply : ℕ → List ℕ
 laidReply n = 0x00 ∷ 0x04 ∷ 0x01 ∷ 0x00 ∷ 0x00 ∷ n ∷ []
 
+-- the reply to a read of one byte
+abbrev pub byteReply : ℕ → List ℕ
+byteReply b = 0x00 ∷ 0x05 ∷ 0x01 ∷ 0x00 ∷ 0x00 ∷ 0x00 ∷ b ∷ []
+
 -- "each on that end state anew, by station 3 and on page 5 where no other is named"
 abbrev pub cases : List Case
 cases =
     -- read offset 63 count 1 gives 00; count 2 there: 7
     ((0x00 ∷ 0x06 ∷ 0x01 ∷ 0x04 ∷ 0x03 ∷ 0x05 ∷ 0x3F ∷ 0x01 ∷ [])
-    ↝ (0x00 ∷ 0x05 ∷ 0x01 ∷ 0x00 ∷ 0x00 ∷ 0x00 ∷ 0x00 ∷ []) ∷ [])
+    ↝ byteReply 0x00 ∷ [])
     ∷ ((0x00 ∷ 0x06 ∷ 0x01 ∷ 0x04 ∷ 0x03 ∷ 0x05 ∷ 0x3F ∷ 0x02 ∷ []) ↝ refusedWith 7 ∷ [])
     -- frame 7 copied to: accepted; frame 8: 7; frame 0: 13
     ∷ ((0x00 ∷ 0x05 ∷ 0x01 ∷ 0x06 ∷ 0x05 ∷ 0x00 ∷ 0x07 ∷ []) ↝ laidReply 64 ∷ [])
     ∷ ((0x00 ∷ 0x05 ∷ 0x01 ∷ 0x06 ∷ 0x05 ∷ 0x00 ∷ 0x08 ∷ []) ↝ refusedWith 7 ∷ [])
     ∷ ((0x00 ∷ 0x05 ∷ 0x01 ∷ 0x06 ∷ 0x05 ∷ 0x00 ∷ 0x00 ∷ []) ↝ refusedWith 13 ∷ [])
-    -- delete copy 0: 15; station 4 reads: 10; create page 5: 8
+    -- delete copy 0: 15; station 4 reads, which request [6] accepts; create page 5: 8
     ∷ ((0x00 ∷ 0x04 ∷ 0x01 ∷ 0x07 ∷ 0x05 ∷ 0x00 ∷ []) ↝ refusedWith 15 ∷ [])
-    ∷ ((0x00 ∷ 0x06 ∷ 0x01 ∷ 0x04 ∷ 0x04 ∷ 0x05 ∷ 0x00 ∷ 0x01 ∷ []) ↝ refusedWith 10 ∷ [])
+    ∷ ((0x00 ∷ 0x06 ∷ 0x01 ∷ 0x04 ∷ 0x04 ∷ 0x05 ∷ 0x00 ∷ 0x01 ∷ [])
+    ↝ byteReply 0x41 ∷ [])
     ∷ ((0x00 ∷ 0x04 ∷ 0x01 ∷ 0x01 ∷ 0x03 ∷ 0x05 ∷ []) ↝ refusedWith 8 ∷ [])
     -- copy 1 made, then a write: set current 1 gives 16
     ∷ ((0x00 ∷ 0x05 ∷ 0x01 ∷ 0x06 ∷ 0x05 ∷ 0x00 ∷ 0x01 ∷ []) ↝ laidReply 64
@@ -257,6 +265,74 @@ pub retired-tested :
 unfolding runOn sound sizesRule pagesRule noneShared allBelow all count holders uses pageRule standingRule absentRule
     registerRule inPages inCopies
 retired-tested = refl
+
+-- ---- document 02, request [6]: new pages open for reading
+
+-- page 6 with a CURRENT copy on frame 1
+abbrev pub placing : Case
+placing =
+    (0x00 ∷ 0x05 ∷ 0x01 ∷ 0x06 ∷ 0x06 ∷ 0x00 ∷ 0x01 ∷ []) ↝ laidReply 64
+    ∷ (0x00 ∷ 0x04 ∷ 0x01 ∷ 0x08 ∷ 0x06 ∷ 0x00 ∷ []) ↝ laidReply 0
+    ∷ []
+
+-- station x reads the first byte of page 6, and writes it
+abbrev pub readBy : ℕ → List ℕ
+readBy x = 0x00 ∷ 0x06 ∷ 0x01 ∷ 0x04 ∷ x ∷ 0x06 ∷ 0x00 ∷ 0x01 ∷ []
+
+abbrev pub writeBy : ℕ → List ℕ
+writeBy x = 0x00 ∷ 0x06 ∷ 0x01 ∷ 0x05 ∷ x ∷ 0x06 ∷ 0x00 ∷ 0x7F ∷ []
+
+-- page 6 is created by station 3: every station may read it, and only station 3 may write and grant, as to station 4
+abbrev pub opening : Case
+opening =
+    (0x00 ∷ 0x04 ∷ 0x01 ∷ 0x01 ∷ 0x03 ∷ 0x06 ∷ []) ↝ laidReply 0
+    ∷ placing
+    ++ (readBy 0 ↝ byteReply 0x00
+    ∷ readBy 15 ↝ byteReply 0x00
+    ∷ writeBy 2 ↝ refusedWith 10
+    ∷ writeBy 4 ↝ refusedWith 10
+    ∷ writeBy 3 ↝ laidReply 1
+    ∷ readBy 4 ↝ byteReply 0x7F
+    ∷ (0x00 ∷ 0x06 ∷ 0x01 ∷ 0x03 ∷ 0x04 ∷ 0x06 ∷ 0x04 ∷ 0x02 ∷ []) ↝ refusedWith 10
+    ∷ (0x00 ∷ 0x06 ∷ 0x01 ∷ 0x03 ∷ 0x03 ∷ 0x06 ∷ 0x04 ∷ 0x02 ∷ []) ↝ laidReply 0
+    ∷ writeBy 4 ↝ laidReply 1
+    ∷ [])
+
+pub opening-replies : repliesOf state₀ (fileOf opening) ≡ replies₁ ++ answersIn opening
+unfolding runOn flatten
+opening-replies = refl
+
+-- station 3 grants right 0 of page 6 to station x
+abbrev pub closeTo : ℕ → MessageReply
+closeTo x = (0x00 ∷ 0x06 ∷ 0x01 ∷ 0x03 ∷ 0x03 ∷ 0x06 ∷ x ∷ 0x00 ∷ []) ↝ laidReply 0
+
+-- page 6 is created by station 3, and closed
+abbrev pub sixteen : Case
+sixteen =
+    (0x00 ∷ 0x04 ∷ 0x01 ∷ 0x01 ∷ 0x03 ∷ 0x06 ∷ []) ↝ laidReply 0
+    ∷ closeTo 0 ∷ closeTo 1 ∷ closeTo 2 ∷ closeTo 4 ∷ closeTo 5 ∷ closeTo 6 ∷ closeTo 7 ∷ closeTo 8 ∷ closeTo 9
+    ∷ closeTo 10 ∷ closeTo 11 ∷ closeTo 12 ∷ closeTo 13 ∷ closeTo 14 ∷ closeTo 15 ∷ []
+
+pub closing-bytes : closingFile 3 6 ≡ flatten (messagesIn sixteen)
+unfolding flatten besides written names code among argument callOf values value
+closing-bytes = refl
+
+-- what was written then, only station 3 may read; a create that is refused does not open the page again
+abbrev pub closedCase : Case
+closedCase =
+    sixteen ++ (placing
+    ++ (writeBy 3 ↝ laidReply 1
+    ∷ readBy 0 ↝ refusedWith 10
+    ∷ readBy 15 ↝ refusedWith 10
+    ∷ (0x00 ∷ 0x04 ∷ 0x01 ∷ 0x01 ∷ 0x04 ∷ 0x06 ∷ []) ↝ refusedWith 8
+    ∷ (0x00 ∷ 0x04 ∷ 0x01 ∷ 0x01 ∷ 0x03 ∷ 0x06 ∷ []) ↝ refusedWith 8
+    ∷ readBy 4 ↝ refusedWith 10
+    ∷ readBy 3 ↝ byteReply 0x7F
+    ∷ []))
+
+pub closed-replies : repliesOf state₀ (fileOf closedCase) ≡ replies₁ ++ answersIn closedCase
+unfolding runOn flatten
+closed-replies = refl
 
 -- ---- the flat memory beside the worked example, a read answered 11 after it and a delete by another station
 

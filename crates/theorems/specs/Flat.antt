@@ -58,13 +58,13 @@ farRest k c bs =
     (cond (eqb k 4) (farSpan (c .offset) (c .count))
     (cond (eqb k 5) (farSpan (c .offset) (length bs)) false))
 
--- "8: create, page not absent." "Create: the station is owner with right 2, the other rights are 0, the bytes 64
--- zeros."
+-- "8: create, page not absent." "Create: the station is owner with right 2, .. the bytes 64 zeros." Document 02,
+-- request [6]: "Create now gives right 1 to every station but the owner. .. The flat memory's create changes alike"
 abbrev pub creating : Flat → Call → Slot → Reaction
 creating f c gone =
     yes (set f (c .page) (here (record {
       owner = c .station;
-      rights = set (replicate 16 0) (c .station) 2;
+      rights = set (replicate 16 1) (c .station) 2;
       bytes = replicate 64 0;
     }))) []
 creating f c (here b) = no 8

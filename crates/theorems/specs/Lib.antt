@@ -10,6 +10,7 @@ pub mod Unmoved
 pub mod Laid
 pub mod Retired
 pub mod Stations
+pub mod Closed
 pub mod Cases
 pub mod Borders
 pub mod StationCases
@@ -21,3 +22,4 @@ pub mod WitnessRetired
 pub mod WitnessStations
 pub mod WitnessCaller
 pub mod WitnessSteps
+pub mod WitnessClosed

@@ -283,7 +283,7 @@ runs-at-0 k = k .runs 0 file₃ broken
 
 -- ---- the tally
 
--- of a create and of a read that is refused, after seven messages
+-- of a create and of a write that is refused, after seven messages
 abbrev pub two : List Turn
 two = first ∷ second 10 ∷ []
 

@@ -166,9 +166,9 @@ each X a b c d e f g h i j k l rights = j
 each X a b c d e f g h i j k l some-recent = k
 each X a b c d e f g h i j k l holds = l
 
--- With P = S = 1, station 3 creates page 5, and station 4 reads of it: 0 and 10.
+-- With P = S = 1, station 3 creates page 5, and station 4 writes a byte of it: 0 and 10.
 abbrev pub file₃ : List ℕ
-file₃ = 0 ∷ 4 ∷ 1 ∷ 1 ∷ 3 ∷ 5 ∷ 0 ∷ 6 ∷ 1 ∷ 4 ∷ 4 ∷ 5 ∷ 0 ∷ 1 ∷ []
+file₃ = 0 ∷ 4 ∷ 1 ∷ 1 ∷ 3 ∷ 5 ∷ 0 ∷ 6 ∷ 1 ∷ 5 ∷ 4 ∷ 5 ∷ 0 ∷ 1 ∷ []
 
 abbrev pub fastBytes : List ℕ
 fastBytes = replicate 64 0xEE
@@ -200,9 +200,9 @@ first =
       outcome = accept (record { state = made; moved = true; laid = 0; data-out = [] });
     }
 
--- the read, answered with n
+-- the write, answered with n
 abbrev pub second : ℕ → Turn
-second n = record { found = made; sent = whole (1 ∷ 4 ∷ 4 ∷ 5 ∷ 0 ∷ 1 ∷ []); outcome = refuse n }
+second n = record { found = made; sent = whole (1 ∷ 5 ∷ 4 ∷ 5 ∷ 0 ∷ 1 ∷ []); outcome = refuse n }
 
 abbrev pub answering : ℕ → Run
 answering n = record { turns = first ∷ second n ∷ []; final = made }
@@ -214,13 +214,13 @@ pub right-run : runOn start file₃ ≡ answering 10
 unfolding runOn
 right-run = refl
 
--- page 5 with another owner; with no rights; with no MOST RECENT copy; with a MOST RECENT copy on frame 0, whose bytes
--- are 0xEE
+-- page 5 with another owner; with right 0 for the others, as before request [6]; with no MOST RECENT copy; with a MOST
+-- RECENT copy on frame 0, whose bytes are 0xEE
 abbrev pub foreign : Page
 foreign = record { rights = created 3 .rights; copies = created 3 .copies; owner = 4; n = 1 }
 
 abbrev pub closed : Page
-closed = record { rights = replicate 16 0; copies = created 3 .copies; owner = 3; n = 1 }
+closed = record { rights = set (replicate 16 0) 3 2; copies = created 3 .copies; owner = 3; n = 1 }
 
 abbrev pub outdated : Page
 outdated = withCopies (created 3) 1 (replicate 8 freshCopy)
@@ -255,7 +255,7 @@ early-run = refl
 
 -- as the flat memory has page 5
 abbrev pub flat₅ : Slot
-flat₅ = here (record { owner = 3; rights = set (replicate 16 0) 3 2; bytes = replicate 64 0 })
+flat₅ = here (record { owner = 3; rights = set (replicate 16 1) 3 2; bytes = replicate 64 0 })
 
 -- what holds of pages 5 and 6 and of an absent page holds of every page
 module _ (X : Page → Slot → Type 0) (g g′ : Page) where
@@ -335,7 +335,7 @@ alone owners =
 alone rights =
     each (Row rights) refl refl refl refl refl refl refl (on Standing closed freshPage refl refl refl)
     (on Owners closed freshPage refl tt tt)
-    (λ h. false≢true (ap (λ (l : List ℕ). eqb (getD l 3 0) 2) (h 5 (omega arith))))
+    (λ h. false≢true (ap (λ (l : List ℕ). eqb (getD l 15 0) 1) (h 5 (omega arith))))
     (on Recent closed freshPage (omega arith) tt tt)
     (on (Holding _) closed freshPage (λ _. refl, tt) tt tt)
 alone some-recent =

@@ -1,8 +1,10 @@
 //! The cases of document 01 as call files, each with the whole list of its replies: the worked example, the starred
 //! cases on its end state, for each trap and impostor a file whose replies it gets wrong, and borders that these leave
-//! out. Then the pairs of right and act of request [3] of document 02, the deletes of its request [2] and the retired
-//! frames of its request [5], each also with the bytes that it leaves in the stores. Last the calls and the replies of
-//! its request [4]: the worked example's, and such as are refused or just not.
+//! out. Station 4's read among the starred cases is accepted, as request [6] of document 02 has it. Then the pairs of
+//! right and act of its request [3] and the rights of new pages of its request [6], the pages that are closed by grants
+//! of right 0, the deletes of its request [2] and the retired frames of its request [5], the last three each also with
+//! the bytes that it leaves in the stores. Last the calls and the replies of its request [4]: the worked example's, and
+//! such as are refused or just not.
 
 use crate::kernel::Kernel;
 use crate::model::{frame_bytes, Lent, Reader, Tables, Tally, FRAME, LEAST_BUFFER, PROGRAM_FRAMES};
@@ -41,6 +43,8 @@ pub const REPLIES: [&str; 6] = [
 const DONE: &str = "00 04 01 00 00 00";
 /// Accepted, 64 bytes laid: a frame copied to, or freed and filled with zeros.
 const ONE_FRAME: &str = "00 04 01 00 00 40";
+/// An accepted read of the worked example's first two bytes.
+const EXAMPLE_BYTES: &str = "00 06 01 00 00 00 41 37";
 
 pub const STARRED: [Case; 11] = [
     Case {
@@ -74,9 +78,9 @@ pub const STARRED: [Case; 11] = [
         replies: &["00 04 01 0F 00 00"],
     },
     Case {
-        name: "station 4 reads: 10",
+        name: "station 4 reads: accepted since request [6], 10 before it",
         calls: &["read 4 5 0 1"],
-        replies: &["00 04 01 0A 00 00"],
+        replies: &["00 05 01 00 00 00 41"],
     },
     Case {
         name: "create page 5: 8",
@@ -207,6 +211,7 @@ pub const EXPOSING: [Case; 13] = [
 ];
 
 const NO_RIGHT: &str = "00 04 01 0A 00 00";
+const STANDS: &str = "00 04 01 08 00 00";
 
 /// "Rights: 0 none, 1 read, 2 read and write": for each pair of right and act a file, and the name
 /// of the wrong kernel that it exposes.
@@ -224,7 +229,7 @@ pub const PAIRS: [Case; 6] = [
     Case {
         name: "a read with right 1 refused",
         calls: &["grant 3 5 4 1", "read 4 5 0 2"],
-        replies: &[DONE, "00 06 01 00 00 00 41 37"],
+        replies: &[DONE, EXAMPLE_BYTES],
     },
     Case {
         name: "a write with right 1 accepted",
@@ -234,12 +239,74 @@ pub const PAIRS: [Case; 6] = [
     Case {
         name: "a read with right 2 refused",
         calls: &["grant 3 5 4 2", "read 4 5 0 2"],
-        replies: &[DONE, "00 06 01 00 00 00 41 37"],
+        replies: &[DONE, EXAMPLE_BYTES],
     },
     Case {
         name: "a write with right 2 refused",
         calls: &["grant 3 5 4 2", "write 4 5 0 01"],
         replies: &[DONE, "00 04 01 00 00 01"],
+    },
+];
+
+/// "Create now gives right 1 to every station but the owner", request [6] of document 02: for each
+/// wrong create a file, and the name of the wrong kernel that it exposes.
+pub const CREATES: [Case; 9] = [
+    Case {
+        name: "the owner of a new page gets right 1",
+        calls: &[
+            "create 4 6",
+            "copy 6 0 1",
+            "current 6 0",
+            "write 4 6 0 55",
+            "read 4 6 0 2",
+        ],
+        replies: &[
+            DONE,
+            ONE_FRAME,
+            DONE,
+            "00 04 01 00 00 01",
+            "00 06 01 00 00 00 55 00",
+        ],
+    },
+    Case {
+        name: "the last station left with right 0 on a new page",
+        calls: &["read 15 5 0 2"],
+        replies: &[EXAMPLE_BYTES],
+    },
+    Case {
+        name: "a station in the middle left with right 0 on a new page",
+        calls: &["read 8 5 0 2"],
+        replies: &[EXAMPLE_BYTES],
+    },
+    Case {
+        name: "the first station left with right 0 on a new page",
+        calls: &["read 0 5 0 2"],
+        replies: &[EXAMPLE_BYTES],
+    },
+    Case {
+        name: "every station gets right 2 on a new page",
+        calls: &["write 4 5 0 01"],
+        replies: &[NO_RIGHT],
+    },
+    Case {
+        name: "the others get right 0 on a new page, as document 01 had it",
+        calls: &["read 4 5 0 2"],
+        replies: &[EXAMPLE_BYTES],
+    },
+    Case {
+        name: "a create that is refused opens the page",
+        calls: &["grant 3 5 4 0", "create 3 5", "read 4 5 0 2"],
+        replies: &[DONE, STANDS, NO_RIGHT],
+    },
+    Case {
+        name: "a create that is refused opens the page to its station",
+        calls: &["grant 3 5 4 0", "create 4 5", "read 4 5 0 2"],
+        replies: &[DONE, STANDS, NO_RIGHT],
+    },
+    Case {
+        name: "a grant of right 0 to the last station lost",
+        calls: &["grant 3 5 15 0", "read 15 5 0 2"],
+        replies: &[DONE, NO_RIGHT],
     },
 ];
 
@@ -343,8 +410,22 @@ pub const BORDERS: [Case; 18] = [
     },
     Case {
         name: "10 before 11",
-        calls: &["create 3 6", "read 4 6 0 1", "write 4 6 0 01"],
-        replies: &[DONE, NO_RIGHT, NO_RIGHT],
+        calls: &[
+            "create 3 6",
+            "read 4 6 0 1",
+            "write 4 6 0 01",
+            "grant 3 6 4 0",
+            "read 4 6 0 1",
+            "write 4 6 0 01",
+        ],
+        replies: &[
+            DONE,
+            "00 04 01 0B 00 00",
+            NO_RIGHT,
+            DONE,
+            NO_RIGHT,
+            NO_RIGHT,
+        ],
     },
     Case {
         name: "12 before 13",
@@ -464,6 +545,81 @@ pub const WIDEST: StoreCase = StoreCase {
     },
     frames: [whole_page!(); 8],
 };
+
+/// "Their stations must send fifteen grants of right 0 before the first write": pages that are
+/// closed so, and new ones that are not.
+#[rustfmt::skip]
+pub const CLOSINGS: [StoreCase; 3] = [
+    StoreCase {
+        case: Case {
+            name: "created and closed beside other pages: its owner alone reads it",
+            calls: &[
+                "create 2 9",
+                "create 7 6", "grant 7 6 0 0", "grant 7 6 1 0", "grant 7 6 2 0", "grant 7 6 3 0",
+                "grant 7 6 4 0", "grant 7 6 5 0", "grant 7 6 6 0", "grant 7 6 8 0", "grant 7 6 9 0",
+                "grant 7 6 10 0", "grant 7 6 11 0", "grant 7 6 12 0", "grant 7 6 13 0",
+                "grant 7 6 14 0", "grant 7 6 15 0",
+                "look-page 6", "copy 6 0 1", "current 6 0",
+                "write 7 6 0 55", "read 7 6 0 2",
+                "read 0 6 0 2", "read 1 6 0 2", "read 2 6 0 2", "read 3 6 0 2", "read 4 6 0 2",
+                "read 5 6 0 2", "read 6 6 0 2", "read 8 6 0 2", "read 9 6 0 2", "read 10 6 0 2",
+                "read 11 6 0 2", "read 12 6 0 2", "read 13 6 0 2", "read 14 6 0 2", "read 15 6 0 2",
+                "read 4 5 0 2", "look-page 5", "look-page 9",
+            ],
+            replies: &[
+                DONE,
+                DONE, DONE, DONE, DONE, DONE, DONE, DONE, DONE, DONE, DONE, DONE, DONE, DONE, DONE,
+                DONE, DONE,
+                "00 08 01 00 00 00 01 FF 00 01", ONE_FRAME, DONE,
+                "00 04 01 00 00 01", "00 06 01 00 00 00 55 00",
+                NO_RIGHT, NO_RIGHT, NO_RIGHT, NO_RIGHT, NO_RIGHT, NO_RIGHT, NO_RIGHT, NO_RIGHT,
+                NO_RIGHT, NO_RIGHT, NO_RIGHT, NO_RIGHT, NO_RIGHT, NO_RIGHT, NO_RIGHT,
+                EXAMPLE_BYTES, "00 08 01 00 00 00 01 00 01 01", "00 08 01 00 00 00 01 FF 00 01",
+            ],
+        },
+        frames: [PAGE, "55", FIRST, FIRST, FIRST, FIRST, FIRST, FIRST],
+    },
+    StoreCase {
+        case: Case {
+            name: "new pages: the first and the last of the others read them and do not write them",
+            calls: &[
+                "read 0 5 0 2", "read 15 5 0 2", "write 0 5 0 01", "write 15 5 0 01",
+                "create 15 6", "copy 6 0 7", "current 6 0", "write 15 6 0 01",
+                "read 0 6 0 1", "read 14 6 0 1",
+                "write 0 6 0 02", "write 14 6 0 02",
+            ],
+            replies: &[
+                EXAMPLE_BYTES, EXAMPLE_BYTES, NO_RIGHT, NO_RIGHT,
+                DONE, ONE_FRAME, DONE, "00 04 01 00 00 01",
+                "00 05 01 00 00 00 01", "00 05 01 00 00 00 01",
+                NO_RIGHT, NO_RIGHT,
+            ],
+        },
+        frames: [PAGE, FIRST, FIRST, FIRST, FIRST, FIRST, FIRST, "01"],
+    },
+    StoreCase {
+        case: Case {
+            name: "create on a closed page: 8, and it stays closed until it is deleted",
+            calls: &[
+                "grant 3 5 0 0", "grant 3 5 1 0", "grant 3 5 2 0", "grant 3 5 4 0", "grant 3 5 5 0",
+                "grant 3 5 6 0", "grant 3 5 7 0", "grant 3 5 8 0", "grant 3 5 9 0",
+                "grant 3 5 10 0", "grant 3 5 11 0", "grant 3 5 12 0", "grant 3 5 13 0",
+                "grant 3 5 14 0", "grant 3 5 15 0",
+                "create 3 5", "create 15 5",
+                "read 0 5 0 1", "read 15 5 0 1", "write 15 5 0 01", "read 3 5 0 2",
+                "delete-page 3 5", "create 3 5", "copy 5 0 0", "current 5 0", "read 15 5 0 1",
+            ],
+            replies: &[
+                DONE, DONE, DONE, DONE, DONE, DONE, DONE, DONE, DONE, DONE, DONE, DONE, DONE, DONE,
+                DONE,
+                STANDS, STANDS,
+                NO_RIGHT, NO_RIGHT, NO_RIGHT, EXAMPLE_BYTES,
+                ONE_FRAME, DONE, ONE_FRAME, DONE, "00 05 01 00 00 00 00",
+            ],
+        },
+        frames: [ZEROS, FIRST, FIRST, FIRST, FIRST, FIRST, FIRST, FIRST],
+    },
+];
 
 pub const DELETES: [StoreCase; 13] = [
     StoreCase {

@@ -7,8 +7,8 @@ use crate::frames::Frames;
 use crate::gen::{self, Moves, Rng, BUFFERS, DAMAGES, SHORT_BUFFERS};
 use crate::kernel::{packed, Kernel, Modelled};
 use crate::model::{
-    self, frame_bytes, Call, Lent, PageCopy, Reached, Reader, Refusal, Tables, ENTRIES, FRAME,
-    LEAST_BUFFER, MOST_FRAMES, RAW, RECORD, REGISTER,
+    self, frame_bytes, Call, Lent, Page, PageCopy, Reached, Reader, Refusal, Tables, ENTRIES,
+    FRAME, LEAST_BUFFER, MOST_FRAMES, RAW, RECORD, REGISTER,
 };
 use reel::words::{self, hex, WORDS};
 
@@ -45,12 +45,27 @@ pub const DEPTHS: [&str; 26] = [
     "no frame free, some retired",
 ];
 
+/// The same of rights: those of reads and writes, and pages whose rights are as a create or the
+/// fifteen grants of right 0 leave them.
+pub const RIGHTS: [&str; 9] = [
+    "a read with right 0",
+    "a read with right 1",
+    "a write with right 0",
+    "a write with right 1",
+    "a page as created read by another",
+    "a new page closed by grants",
+    "a closed page read by its owner",
+    "a closed page read by another",
+    "a create on a closed page",
+];
+
 #[derive(Default)]
 pub struct Counts {
     pub messages: u64,
     /// How often each number was given: 19 by fresh tables, the others by answers.
     pub numbers: [u64; WORDS.len()],
     pub depths: [u64; DEPTHS.len()],
+    pub rights: [u64; RIGHTS.len()],
     /// Whole files run, those of them on which demand 3 and the clean cards were checked, and those on
     /// which the three sorts of frames were.
     pub runs: u64,
@@ -63,11 +78,18 @@ pub struct Counts {
 }
 
 impl Counts {
-    /// The numbers and depths that came up too seldom.
+    /// The states and events with how often they came up.
+    pub fn reached(&self) -> impl Iterator<Item = (u64, &'static str)> + '_ {
+        let depths = self.depths.into_iter().zip(DEPTHS);
+        depths.chain(self.rights.into_iter().zip(RIGHTS))
+    }
+
+    /// The numbers, states and events that came up too seldom.
     pub fn too_few(&self) -> Vec<String> {
-        let numbers = self.numbers.iter().zip(WORDS);
-        let depths = self.depths.iter().zip(DEPTHS);
-        let few = numbers.chain(depths).filter(|(&count, _)| count < LEAST);
+        let numbers = self.numbers.into_iter().zip(WORDS);
+        let few = numbers
+            .chain(self.reached())
+            .filter(|(count, _)| *count < LEAST);
         few.map(|(count, word)| format!("\"{word}\" came up {count} times only"))
             .collect()
     }
@@ -465,8 +487,8 @@ impl Compare<'_> {
                 let checked = demand3.turn(&before, message, reply);
                 checked.map_err(|error| format!("{}\n  {error}", words::message(message)))?;
                 clean.turn(&after);
-                let accepted = reply[3] == 0;
-                trial.reach(&mut self.counts, &before, &lent, message, accepted);
+                let number = reply[3];
+                trial.reach(&mut self.counts, &before, &lent, message, number);
             }
         }
         Ok(())
@@ -586,8 +608,9 @@ impl Trial {
         before: &Tables,
         lent: &Lent,
         message: &[u8],
-        accepted: bool,
+        number: u8,
     ) {
+        let accepted = number == 0;
         let pages = || before.pages.iter().flatten();
         let anew = |used: &mut [bool; 256], number: u8| {
             accepted && std::mem::replace(&mut used[usize::from(number)], true)
@@ -655,10 +678,113 @@ impl Trial {
             retired > 0 && !freed.is_empty() && !by_copy,
             retired > 0 && held + retired == before.frames(),
         ];
-        for (count, reached) in counts.depths.iter_mut().zip(reached) {
-            *count += u64::from(reached);
+        add(&mut counts.depths, reached);
+        if let Ok(call) = call {
+            add(&mut counts.rights, rights_reached(before, &call, number));
         }
     }
+}
+
+/// Counts what was reached.
+fn add<const N: usize>(counts: &mut [u64; N], reached: [bool; N]) {
+    for (count, reached) in counts.iter_mut().zip(reached) {
+        *count += u64::from(reached);
+    }
+}
+
+/// A read or a write as its right is tested.
+struct Asked<'a> {
+    is_read: bool,
+    page: &'a Page,
+    station: u8,
+    right: u8,
+}
+
+impl<'a> Asked<'a> {
+    /// Of a call on a page that stands; None if it is refused before its right is looked at.
+    fn of(before: &'a Tables, call: &Call, number: u8) -> Option<Asked<'a>> {
+        let (is_read, station, page) = match *call {
+            Call::Read { station, page, .. } => (true, station, page),
+            Call::Write { station, page, .. } => (false, station, page),
+            _ => return None,
+        };
+        if number == Refusal::OutOfRange.number() {
+            return None;
+        }
+        let page = before.pages[usize::from(page)].as_ref()?;
+        Some(Asked {
+            is_read,
+            page,
+            station,
+            right: page.rights[usize::from(station)],
+        })
+    }
+}
+
+/// Which of `RIGHTS` a call found or reached.
+fn rights_reached(before: &Tables, call: &Call, number: u8) -> [bool; RIGHTS.len()] {
+    let asked = Asked::of(before, call, number);
+    let asks = |is_read: bool, right: u8| {
+        asked
+            .as_ref()
+            .is_some_and(|asked| (asked.is_read, asked.right) == (is_read, right))
+    };
+    // A read of a page on which every station but the owner has this right, by the owner or by
+    // another.
+    let reads = |others: u8, by_owner: bool, due: u8| {
+        number == due
+            && asked.as_ref().is_some_and(|asked| {
+                let is_owner = asked.station == asked.page.owner;
+                asked.is_read && is_owner == by_owner && others_have(asked.page, others)
+            })
+    };
+    let no_right = Refusal::NoRight.number();
+    [
+        asks(true, 0),
+        asks(true, 1),
+        asks(false, 0),
+        asks(false, 1),
+        reads(1, false, 0),
+        number == 0 && closes(before, call),
+        reads(0, true, 0),
+        reads(0, false, no_right),
+        number == Refusal::PageStands.number() && is_closed(before, call),
+    ]
+}
+
+/// Whether every station but the owner has this right on a page.
+fn others_have(page: &Page, right: u8) -> bool {
+    let mut others = (0..).zip(page.rights).filter(|(s, _)| *s != page.owner);
+    others.all(|(_, has)| has == right)
+}
+
+/// Whether an accepted call is the last grant of right 0 that a page without a frame needs to be
+/// closed.
+fn closes(before: &Tables, call: &Call) -> bool {
+    let Call::Grant {
+        page,
+        other,
+        right: 0,
+        ..
+    } = *call
+    else {
+        return false;
+    };
+    let page = before.pages[usize::from(page)].as_ref();
+    page.is_some_and(|page| {
+        let mut closed = page.clone();
+        closed.rights[usize::from(other)] = 0;
+        page.copies[0].frame.is_none() && !others_have(page, 0) && others_have(&closed, 0)
+    })
+}
+
+/// Whether a create names a page that is closed to every station but its owner.
+fn is_closed(before: &Tables, call: &Call) -> bool {
+    let Call::Create { page, .. } = *call else {
+        return false;
+    };
+    let page = before.pages[usize::from(page)].as_ref();
+    page.is_some_and(|page| others_have(page, 0))
 }
 
 /// The copies that an accepted delete takes away.

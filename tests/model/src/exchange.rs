@@ -9,7 +9,9 @@
 use crate::compare::LEAST;
 use crate::gen::{self, Moves, Rng};
 use crate::kernel::{Modelled, Stations};
-use crate::model::{self, Call, Reader, Refusal, Tables, ENTRIES, KINDS, LEAST_BUFFER, VERSION};
+use crate::model::{
+    self, Call, Lent, Reader, Refusal, Tables, ENTRIES, KINDS, LEAST_BUFFER, VERSION,
+};
 use crate::stations::{Sent, Told, MESSAGE};
 use reel::kinds;
 use reel::words::{hex, WORDS};
@@ -407,23 +409,39 @@ impl Exchange<'_> {
         Ok(())
     }
 
-    /// The model's replies to calls on lawful tables of all sorts, whole and damaged.
+    /// The model's replies to a look at eight copies and to a copy that is refused 20, which random
+    /// calls seldom get, and to calls on lawful tables of all sorts.
     fn replies(&mut self) -> Result<(), Difference> {
+        let mut shaped = gen::shaped(&mut self.rng);
+        let refused = Call::MakeCopy {
+            page: 0,
+            copy: 0,
+            frame: gen::WORN,
+        };
+        for call in [Call::LookPage { page: 2 }, refused] {
+            self.turn(&mut shaped, &call.encode())?;
+        }
         for _ in 0..100 {
             let mut lent = gen::lawful(&mut self.rng);
             let mut moves = Moves::new(&mut self.rng);
             for _ in 0..60 {
                 let tables = Tables::from_raw(&lent.tables).expect("a run keeps the rules");
                 let message = moves.next(&mut self.rng, &tables, &lent, false);
-                let room = LEAST_BUFFER + self.rng.below(9);
-                lent.out = self.rng.bytes(room);
-                let answer = model::answer(&mut lent, &message);
-                let (turns, out) = (&mut self.counts.turns, &lent.out);
-                turns.check(self.stations, &message, out, answer.length)?;
-                if let Some(kind) = known_kind(&message) {
-                    self.variants(kind, answer.length, out)?;
-                }
+                self.turn(&mut lent, &message)?;
             }
+        }
+        Ok(())
+    }
+
+    /// A message answered by the model; the reply is read whole and damaged.
+    fn turn(&mut self, lent: &mut Lent, message: &[u8]) -> Result<(), Difference> {
+        let room = LEAST_BUFFER + self.rng.below(9);
+        lent.out = self.rng.bytes(room);
+        let answer = model::answer(lent, message);
+        let (turns, out) = (&mut self.counts.turns, &lent.out);
+        turns.check(self.stations, message, out, answer.length)?;
+        if let Some(kind) = known_kind(message) {
+            self.variants(kind, answer.length, out)?;
         }
         Ok(())
     }

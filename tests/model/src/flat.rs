@@ -1,4 +1,5 @@
-//! The flat memory of document 01, and demand 3 checked by execution over a run.
+//! The flat memory of document 01 with the create of request [6] of document 02, and demand 3
+//! checked by execution over a run.
 
 use crate::model::{frame_bytes, Call, Refusal, Tables, FRAME, PAGES, STATIONS};
 
@@ -95,7 +96,7 @@ impl Flat {
         let place = &mut self.pages[page];
         match (call, place.as_mut()) {
             (&Call::Create { station, .. }, _) => {
-                let mut rights = [0; STATIONS];
+                let mut rights = [1; STATIONS];
                 rights[usize::from(station)] = 2;
                 *place = Some(FlatPage {
                     owner: station,

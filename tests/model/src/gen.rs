@@ -6,6 +6,7 @@ use crate::model::{
     STATIONS, VERSION,
 };
 use crate::stations::{arguments, Sent};
+use std::collections::VecDeque;
 
 /// A small generator of random numbers (splitmix64).
 pub struct Rng(u64);
@@ -268,7 +269,7 @@ pub type Damage = (&'static str, fn(&mut Rng, &mut Lent));
 const EIGHT: [u8; 8] = [1, 2, 4, 5, 6, 7, 9, 10];
 const HELD: [u8; 13] = [0, 1, 2, 3, 4, 5, 6, 7, 8, 9, 10, 11, 15];
 const FREE: [u8; 2] = [12, 13];
-const WORN: u8 = 14;
+pub(crate) const WORN: u8 = 14;
 
 /// Every table rule broken in turn, and no other: where frames or n change, the register follows.
 pub const DAMAGES: [Damage; 56] = [
@@ -632,6 +633,8 @@ pub struct Moves {
     left: usize,
     /// So many quarters of the frames may be retired.
     worn: usize,
+    /// What is left of the grants that close a new page.
+    closing: VecDeque<Call>,
 }
 
 impl Moves {
@@ -642,6 +645,7 @@ impl Moves {
             weights: WEIGHTS,
             left: 0,
             worn: rng.pick(&[0, 1, 1, 2, 4]),
+            closing: VecDeque::new(),
         };
         moves.new_phase(rng);
         moves
@@ -664,17 +668,33 @@ impl Moves {
             self.new_phase(rng);
         }
         self.left -= 1;
-        let call = match rng.below(12) {
-            0 => any_call(rng),
-            _ => self.sensible(rng, tables, lent),
+        let call = match self.closing.pop_front() {
+            Some(grant) => grant,
+            None => {
+                let call = match rng.below(12) {
+                    0 => any_call(rng),
+                    _ => self.sensible(rng, tables, lent),
+                };
+                self.spared(tables, call)
+            }
         };
-        let call = self.spared(tables, call);
         if last && rng.once_in(2) {
             return cut(rng, &call.encode());
         }
-        match rng.below(24) {
-            0 => broken(rng, &call),
-            _ => call.encode(),
+        if rng.once_in(24) {
+            return broken(rng, &call);
+        }
+        self.close(rng, tables, &call);
+        call.encode()
+    }
+
+    /// Now and then a page is closed to all but its owner as soon as it is created.
+    fn close(&mut self, rng: &mut Rng, tables: &Tables, call: &Call) {
+        if let Call::Create { station, page } = *call {
+            let is_absent = tables.pages.get(usize::from(page)) == Some(&None);
+            if is_absent && usize::from(station) < STATIONS && rng.once_in(4) {
+                self.closing = closing(station, page).collect();
+            }
         }
     }
 
@@ -693,8 +713,9 @@ impl Moves {
             0 => any_station,
             _ => record.owner,
         };
-        let reader = entitled(rng, record, 1).unwrap_or(any_station);
-        let writer = entitled(rng, record, 2).unwrap_or(any_station);
+        let guest = barred(rng, record).unwrap_or(any_station);
+        let reader = entitled(rng, record, 1).unwrap_or(guest);
+        let writer = entitled(rng, record, 2).unwrap_or(guest);
         let copy = rng.below(record.copies.len()) as u8;
         // A page with nothing current is often brought forward first.
         if record.current_frames().is_empty() && rng.once_in(3) {
@@ -717,7 +738,8 @@ impl Moves {
                 station: owner,
                 page,
                 other: rng.pick(&self.stations),
-                right: rng.within(0, 2),
+                // Right 0 comes by grants alone, so it is granted more often than the others.
+                right: rng.pick(&[0, 0, 1, 2]),
             },
             3 => {
                 let (offset, count) = part(rng);
@@ -824,10 +846,33 @@ fn part(rng: &mut Rng) -> (u8, u8) {
     (offset, rng.pick(&[1, count, count, 64 - offset]))
 }
 
+/// The fifteen grants of right 0 that close a page to every station but its owner, in ascending
+/// order.
+pub fn closing(owner: u8, page: u8) -> impl Iterator<Item = Call> {
+    let others = (0..STATIONS as u8).filter(move |&other| other != owner);
+    others.map(move |other| Call::Grant {
+        station: owner,
+        page,
+        other,
+        right: 0,
+    })
+}
+
+/// The stations whose right on the page passes.
+fn stations(page: &Page, passes: impl Fn(u8) -> bool) -> Vec<u8> {
+    let stations = (0..).zip(page.rights).filter(|&(_, has)| passes(has));
+    stations.map(|(station, _)| station).collect()
+}
+
 /// Mostly a station with this right on the page or a higher one.
 fn entitled(rng: &mut Rng, page: &Page, right: u8) -> Option<u8> {
-    let stations = (0..STATIONS as u8).filter(|&s| page.rights[usize::from(s)] >= right);
-    let stations: Vec<u8> = stations.collect();
+    let stations = stations(page, |has| has >= right);
+    (!stations.is_empty() && !rng.once_in(6)).then(|| rng.pick(&stations))
+}
+
+/// Mostly a station without any right on the page.
+fn barred(rng: &mut Rng, page: &Page) -> Option<u8> {
+    let stations = stations(page, |has| has == 0);
     (!stations.is_empty() && !rng.once_in(6)).then(|| rng.pick(&stations))
 }
 
@@ -1071,8 +1116,9 @@ pub fn deep_file(rng: &mut Rng, fast: u8, slow: u8) -> Vec<u8> {
     let last = ENTRIES as u8 - 1;
     let (whole, one) = (write(FRAME), write(1));
 
+    let mut calls = closed_and_open([station, guest], pages[2], eight[0]);
     // Eight CURRENT copies; then one that is not, and is stale after the next write.
-    let mut calls = vec![Call::Create { station, page }];
+    calls.push(Call::Create { station, page });
     calls.extend(eight.iter().map(|&frame| copy_to(page, frame)));
     calls.extend((0..=last).map(|copy| Call::SetCurrent { page, copy }));
     calls.extend([
@@ -1165,6 +1211,45 @@ pub fn deep_file(rng: &mut Rng, fast: u8, slow: u8) -> Vec<u8> {
     let broken = [&[0, 2, 2, 1][..], &[0, 2, 1, 13], &[0, 3, 1, 1, 0], &[0]];
     let calls: Vec<Vec<u8>> = calls.iter().map(Call::encode).collect();
     [calls.concat(), broken.concat()].concat()
+}
+
+/// A page that is closed as soon as it is created, then read by its owner and in vain by a guest,
+/// who may not write it and cannot create it anew; deleted, created again and left open, it is read
+/// by the guest.
+fn closed_and_open([owner, guest]: [u8; 2], page: u8, frame: u8) -> Vec<Call> {
+    let create = |station| Call::Create { station, page };
+    let forward = [
+        Call::MakeCopy {
+            page,
+            copy: 0,
+            frame,
+        },
+        Call::SetCurrent { page, copy: 0 },
+    ];
+    let [by_owner, by_guest] = [owner, guest].map(|station| Call::Read {
+        station,
+        page,
+        offset: 0,
+        count: 1,
+    });
+    let write = Call::Write {
+        station: guest,
+        page,
+        offset: 0,
+        bytes: vec![1],
+    };
+    let delete = Call::DeletePage {
+        station: owner,
+        page,
+    };
+    let mut calls = vec![create(owner)];
+    calls.extend(closing(owner, page));
+    calls.extend(forward.clone());
+    calls.extend([by_owner, by_guest.clone(), write.clone(), create(guest)]);
+    calls.extend([by_guest.clone(), delete.clone(), create(owner)]);
+    calls.extend(forward);
+    calls.extend([by_guest, write, delete]);
+    calls
 }
 
 /// One accepted call of each kind for `shaped` tables.

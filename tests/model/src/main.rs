@@ -1,6 +1,6 @@
 //! `compare [--seed N] [--messages N]`: compares the kernel with the model.
 
-use model::compare::{compare, DEPTHS};
+use model::compare::compare;
 use model::exchange;
 use model::kernel::Embedded;
 use reel::words::WORDS;
@@ -44,8 +44,8 @@ fn main() -> ExitCode {
     for (number, (count, word)) in counts.numbers.iter().zip(WORDS).enumerate() {
         println!("{number:4} {word:33} {count:9}");
     }
-    for (count, depth) in counts.depths.iter().zip(DEPTHS) {
-        println!("     {depth:33} {count:9}");
+    for (count, reached) in counts.reached() {
+        println!("     {reached:33} {count:9}");
     }
     println!(
         "{} whole files run, demand 3 and the clean cards checked on {} of them from fresh tables, free, \

@@ -1,6 +1,6 @@
-//! The model of document 01, with the deletes of request [2] and the retired frames of request [5] of
-//! document 02, in the order of the paper: tables and stores, steps, call files and replies, refusals,
-//! the run, the program.
+//! The model of document 01, with the deletes of request [2], the retired frames of request [5] and
+//! the rights of new pages of request [6] of document 02, in the order of the paper: tables and
+//! stores, steps, call files and replies, refusals, the run, the program.
 
 pub const PAGES: usize = 64;
 pub const STATIONS: usize = 16;
@@ -454,12 +454,13 @@ impl Reel<'_> {
         }
     }
 
+    /// The station is owner with right 2; by request [6] every other station has right 1.
     fn create(&mut self, station: u8, page: u8) -> Result<Done, Refusal> {
         station_in_range(station)?;
         page_in_range(page)?;
         let place = &mut self.tables.pages[usize::from(page)];
         require(place.is_none(), Refusal::PageStands)?;
-        let mut rights = [0; STATIONS];
+        let mut rights = [1; STATIONS];
         rights[usize::from(station)] = 2;
         *place = Some(Page {
             owner: station,

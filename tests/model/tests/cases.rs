@@ -1,16 +1,17 @@
 //! The cases of document 01, on the kernel and on the model: the worked example, the starred cases,
-//! the traps, the impostors and the order of the refusals; and of document 02 the pairs of right and
-//! act of request [3], the deletes of request [2] and the retired frames of request [5].
+//! the traps, the impostors and the order of the refusals; and of document 02 the pairs of right
+//! and act of request [3], the deletes of request [2], the retired frames of request [5] and the
+//! rights of new pages of request [6].
 
 use ::model::cases::{
-    bytes, example, in_parts, one_by_one, unit, Case, Served, StoreCase, BORDERS, CALLS, DELETES,
-    EXPOSING, PAIRS, REPLIES, RETIRES, RETIRES_ON_SHAPED, STARRED, WIDEST,
+    bytes, example, in_parts, one_by_one, unit, Case, Served, StoreCase, BORDERS, CALLS, CLOSINGS,
+    CREATES, DELETES, EXPOSING, PAIRS, REPLIES, RETIRES, RETIRES_ON_SHAPED, STARRED, WIDEST,
 };
 use ::model::gen::{self, Rng, DAMAGES};
 use ::model::kernel::{Embedded, Kernel, Modelled};
 use ::model::model::{
-    self, frame_bytes, program, Lent, Reader, Tables, FRAME, FREE_ENTRY, KINDS, LEAST_BUFFER,
-    MOST_FRAMES, PROGRAM_INPUT, RAW, RETIRED,
+    self, frame_bytes, program, Call, Lent, Reader, Tables, FRAME, FREE_ENTRY, KINDS, LEAST_BUFFER,
+    MOST_FRAMES, PROGRAM_INPUT, RAW, RECORD, RETIRED, STATIONS,
 };
 use reel::words::hex;
 
@@ -157,6 +158,55 @@ fn borders() {
 fn pairs_of_right_and_act() {
     for kernel in BOTH {
         PAIRS.iter().for_each(|case| check(kernel, case));
+    }
+}
+
+/// Who reads and writes a new page, and one that is closed; and what this leaves in the stores.
+#[test]
+fn new_pages_and_closed_ones() {
+    for kernel in BOTH {
+        CREATES.iter().for_each(|case| check(kernel, case));
+        check_all(kernel, &CLOSINGS);
+    }
+}
+
+/// A create and the fifteen grants of right 0, by every station, beside pages of every shape: each
+/// is accepted and lays nothing, and the page is left as document 01's create left it, all else as
+/// it was.
+#[test]
+fn a_page_closed_by_each_station() {
+    let lent = gen::shaped(&mut Rng::new(1));
+    for kernel in BOTH {
+        for station in 0..STATIONS as u8 {
+            let lent = lent.clone();
+            let mut due = lent.clone();
+            let mut desk = Desk { kernel, lent };
+            let create = Call::Create { station, page: 7 };
+            for call in [create].into_iter().chain(gen::closing(station, 7)) {
+                assert_eq!(desk.give(&call.encode()), (0, 0, vec![]), "{call:?}");
+            }
+            let record = &mut due.tables[2 + 7 * RECORD..][..RECORD];
+            record[usize::from(station)] = 2;
+            record[STATIONS..][..3].copy_from_slice(&[255, 0, 1]);
+            record[RECORD - 2..].copy_from_slice(&[station, 1]);
+            due.out = desk.lent.out.clone();
+            assert_eq!(desk.lent, due, "station {station}");
+        }
+    }
+}
+
+/// The rights in the bytes of a new page, created by each station: 2 for the owner and 1 for all
+/// others.
+#[test]
+fn the_rights_of_a_new_page() {
+    for kernel in BOTH {
+        for station in 0..STATIONS {
+            let mut desk = Desk::fresh(kernel);
+            desk.accept(&format!("create {station} 63"));
+            let mut due = [1; STATIONS];
+            due[station] = 2;
+            assert_eq!(desk.lent.tables[2 + 63 * RECORD..][..STATIONS], due);
+        }
     }
 }
 
@@ -358,6 +408,8 @@ fn owner_with_lowered_right_still_owns() {
         let mut desk = Desk::example_end(kernel);
         desk.accept("grant 3 5 3 0");
         assert_eq!(desk.refuse("read 3 5 0 1"), 10);
+        desk.accept("grant 3 5 4 0");
+        assert_eq!(desk.refuse("read 4 5 0 1"), 10);
         desk.accept("grant 3 5 4 1");
         desk.accept("read 4 5 0 1");
         assert_eq!(desk.refuse("write 4 5 0 01"), 10);
@@ -661,6 +713,8 @@ fn reads_as_places() {
         assert_eq!(place(&desk, [3, 5, 0, 3]), (3, 0, 0));
         assert_eq!(place(&desk, [3, 5, 63, 1]), (1, 0, 63));
         assert_eq!(place(&desk, [3, 5, 63, 2]), (0, 0, 0));
+        assert_eq!(place(&desk, [4, 5, 0, 1]), (1, 0, 0));
+        desk.accept("grant 3 5 4 0");
         assert_eq!(place(&desk, [4, 5, 0, 1]), (0, 0, 0));
         desk.accept("copy 5 0 6");
         desk.accept("current 5 1");

@@ -2,7 +2,7 @@
 //! model with one flaw.
 
 use ::model::cases::{
-    bytes, in_parts, StoreCase, DELETES, EXPOSING, PAIRS, RETIRES, RETIRES_ON_SHAPED,
+    bytes, in_parts, StoreCase, CREATES, DELETES, EXPOSING, PAIRS, RETIRES, RETIRES_ON_SHAPED,
 };
 use ::model::clean::Clean;
 use ::model::compare::compare;
@@ -209,6 +209,32 @@ impl Turn<'_> {
         };
         let before = Tables::from_raw(&self.before.tables)?;
         (self.answer.number == 0).then(|| (page, before.pages[page].clone().expect("a page")))
+    }
+
+    /// The station and the page of a create, by the number that it got.
+    fn creates(&self, number: u8) -> Option<(usize, usize)> {
+        match self.call {
+            Some(Call::Create { station, page }) if self.answer.number == number => {
+                Some((station.into(), page.into()))
+            }
+            _ => None,
+        }
+    }
+
+    /// Another right for a station on a page that is created, unless it is the owner.
+    fn create_with(&mut self, other: usize, right: u8) {
+        if let Some((station, page)) = self.creates(0) {
+            if station != other {
+                self.change_page(page, |page| page.rights[other] = right);
+            }
+        }
+    }
+
+    /// The same for every station but the owner.
+    fn create_with_all(&mut self, right: u8) {
+        for other in 0..STATIONS {
+            self.create_with(other, right);
+        }
     }
 
     /// The copies that an accepted delete took away.
@@ -1211,6 +1237,77 @@ const WRONG_PAIRS: [(&str, Flaw); 6] = [
     ),
 ];
 
+/// Wrong creates: the rights of a new page, of one that stands, and of one that is closed, request
+/// [6] of document 02.
+const WRONG_CREATES: [(&str, Flaw); 9] = [
+    (
+        "the owner of a new page gets right 1",
+        Flaw::Answer(|turn| {
+            if let Some((station, page)) = turn.creates(0) {
+                turn.change_page(page, |page| page.rights[station] = 1);
+            }
+        }),
+    ),
+    (
+        "the last station left with right 0 on a new page",
+        Flaw::Answer(|turn| turn.create_with(15, 0)),
+    ),
+    (
+        "a station in the middle left with right 0 on a new page",
+        Flaw::Answer(|turn| turn.create_with(8, 0)),
+    ),
+    (
+        "the first station left with right 0 on a new page",
+        Flaw::Answer(|turn| turn.create_with(0, 0)),
+    ),
+    (
+        "every station gets right 2 on a new page",
+        Flaw::Answer(|turn| turn.create_with_all(2)),
+    ),
+    (
+        "the others get right 0 on a new page, as document 01 had it",
+        Flaw::Answer(|turn| turn.create_with_all(0)),
+    ),
+    (
+        "a create that is refused opens the page",
+        Flaw::Answer(|turn| {
+            if let Some((_, page)) = turn.creates(8) {
+                turn.change_page(page, |page| {
+                    let owner = usize::from(page.owner);
+                    let others = (0..).zip(&mut page.rights).filter(|(s, _)| *s != owner);
+                    others.for_each(|(_, right)| *right = 1);
+                });
+            }
+        }),
+    ),
+    (
+        "a create that is refused opens the page to its station",
+        Flaw::Answer(|turn| {
+            if let Some((station, page)) = turn.creates(8) {
+                turn.change_page(page, |page| {
+                    page.rights[station] = page.rights[station].max(1);
+                });
+            }
+        }),
+    ),
+    (
+        "a grant of right 0 to the last station lost",
+        Flaw::Answer(|turn| {
+            let lost = matches!(
+                turn.call,
+                Some(Call::Grant {
+                    other: 15,
+                    right: 0,
+                    ..
+                })
+            );
+            if lost {
+                turn.after.tables = turn.before.tables.clone();
+            }
+        }),
+    ),
+];
+
 /// Wrong deletes: what a kernel lays, fills and counts where a frame is freed, request [2] of
 /// document 02.
 const WRONG_DELETES: [(&str, Flaw); 21] = [
@@ -1661,8 +1758,9 @@ const WRONG_STATES: [(&str, Flaw); 4] = [
 ];
 
 fn mutants() -> impl Iterator<Item = (&'static str, Flaw)> {
-    let of_document_2 = WRONG_PAIRS.into_iter().chain(WRONG_DELETES);
-    let of_document_2 = of_document_2.chain(WRONG_RETIRES).chain(WRONG_STATES);
+    let of_document_2 = WRONG_PAIRS.into_iter().chain(WRONG_CREATES);
+    let of_document_2 = of_document_2.chain(WRONG_DELETES).chain(WRONG_RETIRES);
+    let of_document_2 = of_document_2.chain(WRONG_STATES);
     MUTANTS.into_iter().chain(of_document_2)
 }
 
@@ -1709,11 +1807,11 @@ fn every_mutant_is_caught() {
     assert_eq!(missed, Vec::<&str>::new());
 }
 
-/// Each trap and each impostor of document 01, and each wrong pair of right and act, gets a reply of
-/// its file wrong.
+/// Each trap and each impostor of document 01, each wrong pair of right and act and each wrong
+/// create gets a reply of its file wrong.
 #[test]
-fn traps_impostors_and_wrong_pairs_are_exposed() {
-    for case in EXPOSING.iter().chain(&PAIRS) {
+fn traps_impostors_wrong_pairs_and_wrong_creates_are_exposed() {
+    for case in EXPOSING.iter().chain(&PAIRS).chain(&CREATES) {
         let flaw = mutants().find(|(name, _)| *name == case.name);
         let (_, flaw) = flaw.unwrap_or_else(|| panic!("no mutant: {}", case.name));
         let served = in_parts(&Mutant(flaw), &case.file(), 1000);
@@ -1959,6 +2057,15 @@ fn demand_3_catches_what_breaks_it() {
     assert_eq!(missed, Vec::<&str>::new());
     let missed = missed_of(&NOT_DEMAND_3, |mutant| demand3(mutant));
     assert_eq!(missed, NOT_DEMAND_3);
+}
+
+/// The flat memory's create is that of request [6] too, and owners and rights are compared at the
+/// end: demand 3 sees every wrong create.
+#[test]
+fn demand_3_catches_every_wrong_create() {
+    let names = WRONG_CREATES.map(|(name, _)| name);
+    let missed = missed_of(&names, |mutant| demand3(mutant));
+    assert_eq!(missed, Vec::<&str>::new());
 }
 
 /// The flat memory passes over kind 12, and over the copies and looks that retired frames bear on:

@@ -98,7 +98,9 @@ fn first_and_last_bytes_in_either_store() {
 
 #[test]
 fn refused_reads() {
-    let lent = after(&[]);
+    // Station 4 reads the page as long as its right is not taken away.
+    assert_eq!(told(&after(&[]), [4, 5, 0, 1]), (1, 0x41));
+    let lent = after(&["grant 3 5 4 0"]);
     // Out of range; no page; no right.
     for arguments in [
         [16, 5, 0, 1],

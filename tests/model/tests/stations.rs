@@ -750,7 +750,7 @@ const MUTANTS: [(&str, Check, Flaw); 83] = [
     ),
     (
         "number 20 told as 13",
-        Check::Alike,
+        Check::ReadBack,
         Flaw::Read(|kind, reply| {
             let mut told = Modelled.read_reply(kind, reply)?;
             if told.number == 20 {

@@ -133,7 +133,7 @@ fn a_retired_frame() {
         (16, "page 5 stale since message 14"),
         (21, "free since message 17"),
         (22, "retired since message 22"),
-        (33, "retired since message 22"),
+        (34, "retired since message 22"),
     ] {
         let document = document(browser, &page, &format!("#at={at}&frame=4"));
         assert_eq!(frame_in_panel(&document), due, "at {at}");

@@ -1,11 +1,14 @@
 //! Lines of words to the bytes of a call file, and back.
 
 use crate::kinds::{number_of, Call, Kind, KINDS, VERSION};
+use crate::looks::STATIONS;
 use crate::words::hex;
 use kernel::MESSAGE;
 
 /// The word of a line whose bytes are laid as they are.
 const RAW: &str = "raw";
+/// The word of a line that stands for the messages of a closed page.
+const CLOSED: &str = "create-closed";
 /// So many bytes behind version, kind and four arguments go into any message: its length has two.
 const MOST_BYTES: usize = 65535 - 6;
 
@@ -24,16 +27,37 @@ pub fn written(line: &str) -> Result<Written, String> {
     let Some((&name, rest)) = words.split_first() else {
         return Ok(Written::default());
     };
-    if name == RAW {
-        return Ok(Written {
+    match name {
+        RAW => Ok(Written {
             bytes: bytes_of(rest)?,
             refused: None,
-        });
+        }),
+        CLOSED => closed(rest),
+        _ => {
+            let kind = named(name)?;
+            let (arguments, bytes) = parts(name, kind, rest)?;
+            Ok(message(kind, &arguments, &bytes))
+        }
     }
-    let kind = KINDS.iter().find(|kind| kind.word == name);
-    let kind = kind.ok_or_else(|| format!("unknown word: {name}"))?;
-    let (arguments, bytes) = parts(kind, rest)?;
-    Ok(message(kind, &arguments, &bytes))
+}
+
+/// The kind of this word.
+fn named(word: &str) -> Result<&'static Kind, String> {
+    let kind = KINDS.iter().find(|kind| kind.word == word);
+    kind.ok_or_else(|| format!("unknown word: {word}"))
+}
+
+/// A create, and grants of right 0 to every station but its own; refused as the first of them is.
+fn closed(words: &[&str]) -> Result<Written, String> {
+    let (create, grant) = (named("create")?, named("grant")?);
+    let (arguments, _) = parts(CLOSED, create, words)?;
+    let mut all = message(create, &arguments, &[]);
+    for other in (0..STATIONS).filter(|&other| other != arguments[0]) {
+        let granted = message(grant, &[&arguments[..], &[other, 0]].concat(), &[]);
+        all.bytes.extend(granted.bytes);
+        all.refused = all.refused.or(granted.refused);
+    }
+    Ok(all)
 }
 
 /// The bytes alone that a line stands for.
@@ -41,23 +65,23 @@ pub fn bytes(line: &str) -> Result<Vec<u8>, String> {
     written(line).map(|written| written.bytes)
 }
 
-/// The arguments and the bytes of this kind that the words name.
-fn parts(kind: &Kind, words: &[&str]) -> Result<(Vec<u8>, Vec<u8>), String> {
+/// The arguments and the bytes of this kind that the words name, behind the word `name`.
+fn parts(name: &str, kind: &Kind, words: &[&str]) -> Result<(Vec<u8>, Vec<u8>), String> {
     let mut arguments = Vec::new();
     let mut words = words.iter();
     for argument in kind.arguments {
-        let name = argument.name();
+        let argument = argument.name();
         let word = words.next();
-        let word = word.ok_or_else(|| format!("{}: the {name} is missing", kind.word))?;
-        arguments.push(decimal(word, name)?);
+        let word = word.ok_or_else(|| format!("{name}: the {argument} is missing"))?;
+        arguments.push(decimal(word, argument)?);
     }
     let rest = words.as_slice();
     if let (false, [word, ..]) = (kind.has_bytes(), rest) {
-        return Err(format!("{}: one word too many: {word}", kind.word));
+        return Err(format!("{name}: one word too many: {word}"));
     }
     if rest.len() > MOST_BYTES {
-        let (word, count) = (kind.word, rest.len());
-        return Err(format!("{word}: {count} bytes are more than a message has"));
+        let count = rest.len();
+        return Err(format!("{name}: {count} bytes are more than a message has"));
     }
     Ok((arguments, bytes_of(rest)?))
 }
@@ -113,7 +137,7 @@ pub fn line(message: &[u8]) -> String {
 
 #[cfg(test)]
 mod tests {
-    use super::{bytes, line, written};
+    use super::{bytes, line, written, Written};
 
     #[test]
     fn lines_and_their_messages() {
@@ -160,10 +184,36 @@ mod tests {
     }
 
     #[test]
+    fn a_closed_page_is_the_calls_that_the_binding_writes() {
+        let mut due = [0; kernel::CLOSED];
+        for call in 0..16 * 64 {
+            let (station, page) = ((call / 64) as u8, (call % 64) as u8);
+            kernel::write_create_closed(station, page, &mut due).unwrap();
+            let written = written(&format!("create-closed {station} {page} # closed")).unwrap();
+            assert_eq!((&written.bytes[..], written.refused), (&due[..], None));
+        }
+    }
+
+    #[test]
+    fn a_closed_page_that_the_writer_refuses_is_written_all_the_same() {
+        // Stations 16 and 255 are none of the sixteen, so each of these has its grant.
+        for (station, page) in [(3, 64), (16, 5), (255, 255)] {
+            let others = (0..16).filter(|&other| other != station);
+            let grants = others.flat_map(|other| [0, 6, 1, 3, station, page, other, 0]);
+            let mut bytes = vec![0, 4, 1, 1, station, page];
+            bytes.extend(grants);
+            let refused = Some(7);
+            let given = written(&format!("create-closed {station} {page}"));
+            assert_eq!(given, Ok(Written { bytes, refused }));
+        }
+    }
+
+    #[test]
     fn calls_at_the_ends_of_the_ranges_are_not_refused() {
         let longest = format!("write 15 63 0{}", " FF".repeat(64));
         for words in [
             "grant 15 63 15 2",
+            "create-closed 15 63",
             "read 15 63 63 1",
             "copy 63 255 253",
             "look-frame 253",
@@ -183,6 +233,10 @@ mod tests {
             ("turn 3", "turn"),
             ("create 3", "page"),
             ("create 3 5 7", "7"),
+            ("create-closed", "create-closed: the station"),
+            ("create-closed 3", "create-closed: the page"),
+            ("create-closed 3 5 7", "create-closed: one word too many: 7"),
+            ("create-closed 3 256", "256"),
             ("look-page x", "x"),
             ("look-page 256", "256"),
             ("look-page +5", "+5"),

@@ -55,8 +55,15 @@ runs part; 2 bad usage, or a file that cannot be read or written.
 
 A line of words is one of these, with decimal numbers 0 to 255; BYTES are hexadecimal, two digits
 each. What follows a `#` is a comment. A call that the kernel's writer refuses, as one with a number
-out of range, is written all the same, with a warning on standard error.
+out of range, is written all the same, with a warning on standard error. A create-closed stands for
+sixteen calls, a create and fifteen grants, and `reel words` gives it back as these.
 ";
+
+/// Lines of words that are no kind's.
+const OTHER_LINES: [&str; 2] = [
+    "  create-closed STATION PAGE (create, and grant right 0 to every other station)\n",
+    "  raw BYTES (laid as they are)\n",
+];
 
 /// All that `reel --help` says.
 pub fn help() -> String {
@@ -73,7 +80,7 @@ pub fn help() -> String {
         }
         text.push('\n');
     }
-    text + "  raw BYTES (laid as they are)\n"
+    text + &OTHER_LINES.concat()
 }
 
 /// Where tables and stores are kept.
