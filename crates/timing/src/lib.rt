@@ -154,7 +154,8 @@ fn three_bytes(first: u8, second: u8, third: u8) -> u32
     first as u32 + 256 * second as u32 + 65536 * third as u32
 }
 
-// What the search of the pages finds on a frame, or that it is retired: the three bytes that a look shows, in one number.
+// What the search of the pages finds on a frame, or that it is retired: the three bytes that a look
+// shows, in one number.
 #[no_mangle]
 pub extern "C" fn reel_searched(tables: &[u8], frame: u8) -> u32
     ensures { λ r. ⌜ r ≡ shownNumber (shown (holderOf (tablesOf (now (tables .entry))) frame)) ⌝ }
