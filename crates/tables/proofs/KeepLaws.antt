@@ -94,30 +94,30 @@ unchanged-after t p c ok e =
 
 -- ---- a record without frames in the place of another
 
-vacated-bare : (cs : List Copy) (r : List ℕ) → length r ≤ 255 → all isNull cs ≡ true → vacated cs r ≡ r
+vacated-frameless : (cs : List Copy) (r : List ℕ) → length r ≤ 255 → all isNull cs ≡ true → vacated cs r ≡ r
 unfolding vacated all
-vacated-bare [] r h e = refl
-vacated-bare (c ∷ cs) r h e =
+vacated-frameless [] r h e = refl
+vacated-frameless (c ∷ cs) r h e =
     let none : c .frame ≡ 255 = eqb-true (c .frame) 255 (and-left (isNull c) _ e) in
-    ap (vacated cs) (set-out r (c .frame) freeEntry (rw none h)) ∙ vacated-bare cs r h (and-right (isNull c) _ e)
+    ap (vacated cs) (set-out r (c .frame) freeEntry (rw none h)) ∙ vacated-frameless cs r h (and-right (isNull c) _ e)
 
-occupied-bare : (p k : ℕ) (cs : List Copy) (r : List ℕ) → length r ≤ 255 → all isNull cs ≡ true → occupied p k cs r ≡ r
+occupied-frameless : (p k : ℕ) (cs : List Copy) (r : List ℕ) → length r ≤ 255 → all isNull cs ≡ true → occupied p k cs r ≡ r
 unfolding occupied all
-occupied-bare p k [] r h e = refl
-occupied-bare p k (c ∷ cs) r h e =
+occupied-frameless p k [] r h e = refl
+occupied-frameless p k (c ∷ cs) r h e =
     let none : c .frame ≡ 255 = eqb-true (c .frame) 255 (and-left (isNull c) _ e) in
-    ap (occupied p (k + 1) cs) (set-out r (c .frame) (entryFor p k) (rw none h)) ∙ occupied-bare p (k + 1) cs r h (and-right (isNull c) _ e)
+    ap (occupied p (k + 1) cs) (set-out r (c .frame) (entryFor p k) (rw none h)) ∙ occupied-frameless p (k + 1) cs r h (and-right (isNull c) _ e)
 
 -- the register is as it was
-pub bare-after : (t : Tables) (p : ℕ) (g : Page) → length (t .register) ≡ 254 → all isNull (inUse (pageAt t p)) ≡ true → all isNull (inUse g) ≡ true
+pub frameless-after : (t : Tables) (p : ℕ) (g : Page) → length (t .register) ≡ 254 → all isNull (inUse (pageAt t p)) ≡ true → all isNull (inUse g) ≡ true
     → after t (changeTo p g 255) ≡ withPages t (set (t .pages) p g) (t .register)
 unfolding after
-bare-after t p g long e e′ =
+frameless-after t p g long e e′ =
     ap (withPages t (set (t .pages) p g)) (rw (set-out r 255 retiredEntry (omega arith)) (by (ltb p 64)))
   where
     r : List ℕ
     r = t .register
 
     by : (b : Bool) → cond b (reregistered p (pageAt t p) g r) r ≡ r
-    by true = ap (occupied p 0 (inUse g)) (vacated-bare (inUse (pageAt t p)) r (omega arith) e) ∙ occupied-bare p 0 (inUse g) r (omega arith) e′
+    by true = ap (occupied p 0 (inUse g)) (vacated-frameless (inUse (pageAt t p)) r (omega arith) e) ∙ occupied-frameless p 0 (inUse g) r (omega arith) e′
     by false = refl

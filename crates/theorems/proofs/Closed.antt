@@ -21,7 +21,7 @@ use Rattle.tables.specs.Rules.{sound}
 use Rattle.tables.specs.Changes.{created, granted, changed, changeTo, after}
 use Rattle.tables.proofs.ListLaws.{and-left, and-right, below-at}
 use Rattle.tables.proofs.RuleLaws.{sound-of}
-use Rattle.tables.proofs.KeepLaws.{bare-after}
+use Rattle.tables.proofs.KeepLaws.{frameless-after}
 use Rattle.steps.specs.declared.Kind.the-variants.{Create, Grant}
 use Rattle.steps.specs.declared.Call.{Call}
 use Rattle.steps.specs.Kinds.{names, code, among, argument, callOf, values, value}
@@ -66,9 +66,9 @@ abbrev frameless : Page → Bool
 frameless g = all isNull (inUse g)
 
 -- an absent page has no copy
-gone-bare : (g : Page) → absent g ≡ true → frameless g ≡ true
+gone-frameless : (g : Page) → absent g ≡ true → frameless g ≡ true
 unfolding all
-gone-bare g gone = let none : g .n ≡ 0 = eqb-true (g .n) 0 gone in rw none
+gone-frameless g gone = let none : g .n ≡ 0 = eqb-true (g .n) 0 gone in rw none
 
 -- a message that is accepted, lays nothing, shows nothing, and leaves state s′
 record Quiet (room : ℕ) (s : State) (x : Sent) (s′ : State) : Type 0 where
@@ -92,10 +92,10 @@ module _ (room : ℕ) (s : State) (c : Call) (e : Edit) (wide : 70 ≤ room) (go
       rw (le-ltb room 70 wide, asks)
       (ap (mapped (carriedOut s c bs)) (decide-ruled (s .tables) (length (s .fast)) (length (s .slow)) c (length bs) (good-rules good) ∙ d))
 
-  bare-left : frameless was ≡ true → frameless (changed was e) ≡ true → carriedOut s c bs plan .state ≡ withRecord s (pageFor c) (changed was e)
+  frameless-left : frameless was ≡ true → frameless (changed was e) ≡ true → carriedOut s c bs plan .state ≡ withRecord s (pageFor c) (changed was e)
   unfolding laidFrames layFrames
-  bare-left from to =
-      rw (bare-after (s .tables) (pageFor c) (changed was e) (sound-of (s .tables) (good .tables-sound) .right .register-long) from to, take-at (s .fast) (s .slow) (length (s .fast)) refl, drop-at (s .fast) (s .slow) (length (s .fast)) refl)
+  frameless-left from to =
+      rw (frameless-after (s .tables) (pageFor c) (changed was e) (sound-of (s .tables) (good .tables-sound) .right .register-long) from to, take-at (s .fast) (s .slow) (length (s .fast)) refl, drop-at (s .fast) (s .slow) (length (s .fast)) refl)
 
   quiet-at : decide (s .tables) c (length bs) ≡ accept plan → frameless was ≡ true → frameless (changed was e) ≡ true
       → Quiet room s (whole (body c [])) (withRecord s (pageFor c) (changed was e))
@@ -104,7 +104,7 @@ module _ (room : ℕ) (s : State) (c : Call) (e : Edit) (wide : 70 ≤ room) (go
       let a = answer-is d in
       record {
         reply-is = ap (replyIn room) a ∙ rw (le-ltb room 70 wide);
-        left-is = ap (left s) a ∙ bare-left from to;
+        left-is = ap (left s) a ∙ frameless-left from to;
       }
 
 -- ---- the create and a grant
@@ -136,7 +136,7 @@ module _ (room station page : ℕ) (wide : 70 ≤ room) (low : station < 16) (ne
     create-quiet good gone =
         let c : Call = createCall station page in
         let at : pageFor c ≡ page = rw (lt-ltb page 64 near) in
-        let from : frameless (pageAt (s .tables) page) ≡ true = gone-bare (pageAt (s .tables) page) gone in
+        let from : frameless (pageAt (s .tables) page) ≡ true = gone-frameless (pageAt (s .tables) page) gone in
         subst (λ (p : ℕ). Quiet room s (whole (body c [])) (withRecord s p (created station))) at
         (quiet-at room s c (Created station) wide good create-in (named-made Create (station ∷ page ∷ []) []) (create-decided (s .tables) _ gone) (rw at from) refl)
 
@@ -145,12 +145,12 @@ module _ (room station page : ℕ) (wide : 70 ≤ room) (low : station < 16) (ne
         → frameless (pageAt (s .tables) page) ≡ true
         → Quiet room s (whole (body (closeCall station page other) [])) (withRecord s page (granted (pageAt (s .tables) page) other 0))
     unfolding changed callOf names code argument
-    close-quiet other h good some own bare =
+    close-quiet other h good some own null =
         let c : Call = closeCall station page other in
         let at : pageFor c ≡ page = rw (lt-ltb page 64 near) in
         subst (λ (p : ℕ). Quiet room s (whole (body c [])) (withRecord s p (granted (pageAt (s .tables) p) other 0))) at
         (quiet-at room s c (Granted other 0) wide good (close-in other h) (named-made Grant (station ∷ page ∷ other ∷ 0 ∷ []) [])
-        (close-decided (s .tables) _ other h some own) (rw at bare) (rw at bare))
+        (close-decided (s .tables) _ other h some own) (rw at null) (rw at null))
 
 -- ---- messages that are accepted one after the other
 
@@ -185,12 +185,12 @@ module _ (room station page : ℕ) (wide : 70 ≤ room) (low : station < 16) (ne
 
   closes-one : (other : ℕ) (g : Page) → other < 16 → rulesOf (withRecord s page g) ≡ accepted → absent g ≡ false → g .owner ≡ station → frameless g ≡ true
       → Quiet room (withRecord s page g) (whole (body (closeCall station page other) [])) (withRecord s page (granted g other 0))
-  closes-one other g h ruled some own bare =
+  closes-one other g h ruled some own null =
       let is = had g in
       let twice : set (set (s .tables .pages) page g) page (granted g other 0) ≡ set (s .tables .pages) page (granted g other 0) =
       set-set (s .tables .pages) page g (granted g other 0) in
       let x : Sent = whole (body (closeCall station page other) []) in
-      let q = close-quiet room station page wide low near (withRecord s page g) other h (rules-good ruled) (rw is some) (rw is own) (rw is bare) in
+      let q = close-quiet room station page wide low near (withRecord s page g) other h (rules-good ruled) (rw is some) (rw is own) (rw is null) in
       subst (λ (gs : List Page). Quiet room (withRecord s page g) x (stateOf (withPages (s .tables) gs (s .tables .register)) (s .fast) (s .slow))) twice
       (rw is at q)
 
@@ -198,14 +198,14 @@ module _ (room station page : ℕ) (wide : 70 ≤ room) (low : station < 16) (ne
       → frameless g ≡ true
       → Ends room (length os) (withRecord s page g) (messagesOf (fileFor (map (closeCall station page) os))) (withRecord s page (closedBy g os))
   unfolding flatten messagesOf split all closedBy isStation
-  closes-all [] g each ruled some own bare = ends-none room (withRecord s page g)
-  closes-all (o ∷ os) g each ruled some own bare =
+  closes-all [] g each ruled some own null = ends-none room (withRecord s page g)
+  closes-all (o ∷ os) g each ruled some own null =
       let h : o < 16 = ltb-true o 16 (and-left (ltb o 16) _ each) in
-      let q = closes-one o g h ruled some own bare in
+      let q = closes-one o g h ruled some own null in
       let still : rulesOf (withRecord s page (granted g o 0)) ≡ accepted =
       subst (λ (s′ : State). rulesOf s′ ≡ accepted) (q .left-is) (rules-kept room (withRecord s page g) _ ∙ ruled) in
       rw (one-sent (closeCall station page o) (close-in room station page wide low near o h) (fileFor (map (closeCall station page) os)))
-      (ends-more room (length os) _ _ _ _ _ q (closes-all os (granted g o 0) (and-right (ltb o 16) _ each) still some own bare))
+      (ends-more room (length os) _ _ _ _ _ q (closes-all os (granted g o 0) (and-right (ltb o 16) _ each) still some own null))
 
 -- ---- the other stations of each station
 
@@ -279,7 +279,7 @@ closes-page room station page s wide low near good gone =
 created-before : (t : Tables) (station page : ℕ) → sound t ≡ true → absent (pageAt t page) ≡ true
     → after t (changeTo page (closedPage station) 255) ≡ closedTables t station page
 unfolding all
-created-before t station page ok gone = bare-after t page (closedPage station) (sound-of t ok .right .register-long) (gone-bare (pageAt t page) gone) refl
+created-before t station page ok gone = frameless-after t page (closedPage station) (sound-of t ok .right .register-long) (gone-frameless (pageAt t page) gone) refl
 
 pub closing : Closing
 closing =

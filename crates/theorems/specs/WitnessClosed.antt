@@ -1,5 +1,5 @@
--- Request [6]: for each field of `Closed` a wrong run that this field rules out and the other does not; for each part
--- of what the closing file leaves a wrong one; the least that `closes` asks for; what the file comes to on a page that
+-- Request [6]: for each field of `Closed` a wrong run that this field rules out and the other does not; for parts of
+-- what the closing file leaves a wrong one each; the least that `closes` asks for; what the file comes to on a page that
 -- stands. Computed.
 use Prim.Native.Nat.{ℕ}
 use mathlib.Core.Path.{_≡_, refl, ap}
@@ -145,13 +145,13 @@ not-store = (
 
 -- ---- the least that `closes` asks for: no frame, no byte of a store, a buffer of 70, the last station and page
 
-abbrev pub frameless : State
-frameless = stateOf (freshTables 0 0) [] []
+abbrev pub noFrames : State
+noFrames = stateOf (freshTables 0 0) [] []
 
-pub closed-at-70 : Closing → Closed 70 15 63 frameless (run 70 (closingFile 15 63) frameless)
+pub closed-at-70 : Closing → Closed 70 15 63 noFrames (run 70 (closingFile 15 63) noFrames)
 unfolding sound sizesRule pagesRule noneShared allBelow all count holders uses pageRule standingRule absentRule
     registerRule inPages inCopies freshTables freshPage fits
-closed-at-70 k = k .closes 70 15 63 frameless (omega arith) (omega arith) (omega arith) refl refl refl
+closed-at-70 k = k .closes 70 15 63 noFrames (omega arith) (omega arith) (omega arith) refl refl refl
 
 -- ---- on a page that stands: 8, and then a grant is its owner's alone
 
