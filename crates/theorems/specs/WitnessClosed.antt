@@ -1,6 +1,6 @@
 -- Request [6]: for each field of `Closed` a wrong run that this field rules out and the other does not; for parts of
--- what the closing file leaves a wrong one each; the least that `closes` asks for; what the file comes to on a page that
--- stands. Computed.
+-- what the closing file leaves a wrong one each; the least that `closes` asks for; what the file comes to on a page
+-- that stands. Computed.
 use Prim.Native.Nat.{ℕ}
 use mathlib.Core.Path.{_≡_, refl, ap}
 use mathlib.Core.Bool.{true, true≢false, false≢true}
