@@ -208,3 +208,12 @@ through k (c ∷ cs) sane calls =
     state : (b : Bool) → ltb (room c) 70 ≡ b → endOf 70 (stateIn (leftOf c)) ys ≡ endOf 70 s (cond b [] xs ++ ys)
     state true e = ap (λ (x : State). endOf 70 x ys) (short e)
     state false e = ap (λ (x : State). endOf 70 x ys) (wide e) ∙ sym (end-both xs ys s)
+
+-- where their turns are those of messages xs, they leave what these leave
+pub end-reached : (k : Kept) (cs : List Called) → Through k cs → (xs : List Sent)
+    → turnsThrough k cs ≡ turnsOf 70 (stateIn k) xs → stateIn (keptAfter k cs) ≡ endOf 70 (stateIn k) xs
+end-reached k cs q xs same =
+    q .state-is
+    ∙ sym (end-is 70 (stateIn k) (messagesThrough cs))
+    ∙ ap (stateAfter (stateIn k)) (sym (q .turns-are) ∙ same)
+    ∙ end-is 70 (stateIn k) xs

@@ -31,10 +31,10 @@ use Rattle.embed.proofs.LentLaws.{laid-in, found-again}
 
 -- ---- the bytes of sound tables
 
-put : (t t′ : Tables) → sound t ≡ true → withTables (tablesBytes t) t′ ≡ tablesBytes t′
+pub put : (t t′ : Tables) → sound t ≡ true → withTables (tablesBytes t) t′ ≡ tablesBytes t′
 put t t′ e = rw (laid-in t e) refl
 
-found : (t : Tables) → sound t ≡ true → tablesOf (tablesBytes t) ≡ t
+pub found : (t : Tables) → sound t ≡ true → tablesOf (tablesBytes t) ≡ t
 found t e = ap tablesOf (sym (put t t e)) ∙ found-again (tablesBytes t) t (laid-in t e) e
 
 -- ---- what is kept

@@ -46,7 +46,7 @@ use Rattle.callers.specs.Lent.{runFresh, Upheld, AllHold, KeptIs, Demand
 use Rattle.callers.specs.Lent.{placeReached, tallyReached, FileReplied, RepliesEnough, InFull, front, fileOf}
 use Rattle.callers.specs.Lent.{FileAnswered, numberTold, MessageLent}
 use Rattle.callers.proofs.Kept.{Sane, Leaves, Freshly, freshly, fresh-leaves, put-own, put-twice}
-use Rattle.callers.proofs.Calls.{told-number, part-turns, Does, does, Through, through}
+use Rattle.callers.proofs.Calls.{told-number, part-turns, Does, does, Through, through, end-reached}
 
 -- ---- the demands of bytes that hold the state at the end of the run
 
@@ -134,11 +134,7 @@ module _ (p s : ℕ) (b fast slow : List ℕ) (answered-0 : freshInto p s b .num
       → Came cs xs
   came cs q xs same =
       let e : stateIn (keptAfter k₀ cs) ≡ endOf 70 f₀ xs =
-      q .state-is
-      ∙ sym (end-is 70 (stateIn k₀) (messagesThrough cs))
-      ∙ ap (stateAfter (stateIn k₀)) (sym (q .turns-are) ∙ same)
-      ∙ end-is 70 (stateIn k₀) xs
-      ∙ ap (λ (x : State). endOf 70 x xs) (start .state-is) in
+      end-reached k₀ cs q xs same ∙ ap (λ (x : State). endOf 70 x xs) (start .state-is) in
       record {
         each = q .each;
         turns-are = same ∙ ap (λ (x : State). turnsOf 70 x xs) (start .state-is);
@@ -188,14 +184,14 @@ take-more k c cs h here later =
 
 module _ (file : List ℕ) where
   -- of calls from a place and a tally on
-  record Replies (at : ℕ) (k : Kept) (n : List ℕ) (cs : List RepliesCall) : Type 0 where
-    taken-is : takenThrough (map replied cs) ≡ joinedReplies 70 (turnsThrough k (map replied cs))
-    tally-is : tallyReached n cs ≡ countedOn (turnsThrough k (map replied cs)) n
-    turns-are : length file ≤ placeReached at cs
+  pub record Replies (at : ℕ) (k : Kept) (n : List ℕ) (cs : List RepliesCall) : Type 0 where
+    pub taken-is : takenThrough (map replied cs) ≡ joinedReplies 70 (turnsThrough k (map replied cs))
+    pub tally-is : tallyReached n cs ≡ countedOn (turnsThrough k (map replied cs)) n
+    pub turns-are : length file ≤ placeReached at cs
         → turnsThrough k (map replied cs) ≡ turnsOf 70 (stateIn k) (messagesOf (drop at file))
-    far : length file ≤ at + length cs → length file ≤ placeReached at cs
+    pub far : length file ≤ at + length cs → length file ≤ placeReached at cs
 
-  replies-through : (at : ℕ) (k : Kept) (n : List ℕ) (cs : List RepliesCall) → Sane k → Calls k (map replied cs)
+  pub replies-through : (at : ℕ) (k : Kept) (n : List ℕ) (cs : List RepliesCall) → Sane k → Calls k (map replied cs)
       → OnFile file at n cs → Replies at k n cs
   unfolding flatten tally turnsOf
   replies-through at k n [] sane calls on =
@@ -300,7 +296,7 @@ first-of (a ∷ b ∷ l) rest h =
       le-ltb (length (a ∷ b ∷ l)) (2 + n) (omega arith),
     ) refl
 
-messages-are : (cs : List AnswerCall) → InFull cs → messagesThrough (map answered cs) ≡ messagesOf (fileOf cs)
+pub messages-are : (cs : List AnswerCall) → InFull cs → messagesThrough (map answered cs) ≡ messagesOf (fileOf cs)
 unfolding messagesOf split
 messages-are [] full = refl
 messages-are (c ∷ cs) full =
@@ -315,11 +311,11 @@ same-told size ts h =
     packed (numberOf (t .outcome)) (length (cond w [] (reply (t .outcome)))) (laidBy (t .outcome))) ts)
     (le-ltb size 70 h)
 
-record Answers (k : Kept) (cs : List AnswerCall) : Type 0 where
-  taken-is : takenThrough (map answered cs) ≡ joinedReplies 70 (turnsThrough k (map answered cs))
-  told-is : map (λ (c : AnswerCall). c .told) cs ≡ map (toldOf 70) (turnsThrough k (map answered cs))
+pub record Answers (k : Kept) (cs : List AnswerCall) : Type 0 where
+  pub taken-is : takenThrough (map answered cs) ≡ joinedReplies 70 (turnsThrough k (map answered cs))
+  pub told-is : map (λ (c : AnswerCall). c .told) cs ≡ map (toldOf 70) (turnsThrough k (map answered cs))
 
-answers-through : (k : Kept) (cs : List AnswerCall) → EachHad k (map answered cs) → InFull cs → Answers k cs
+pub answers-through : (k : Kept) (cs : List AnswerCall) → EachHad k (map answered cs) → InFull cs → Answers k cs
 unfolding flatten
 answers-through k [] each full = record { taken-is = refl; told-is = refl }
 answers-through k (c ∷ cs) each full =

@@ -3,4 +3,5 @@ pub mod Kept
 pub mod Calls
 pub mod Lent
 pub mod Read
+pub mod Hidden
 pub mod Witness

@@ -1,5 +1,6 @@
 pub mod Calls
 pub mod Lent
 pub mod Read
+pub mod Hidden
 pub mod Witness
 pub mod WitnessRead

@@ -19,7 +19,7 @@ use Rattle.steps.specs.declared.Show.the-variants as Show
 use Rattle.steps.specs.Steps.{Outcome, refuse, accept, Plan, rulesNumber, decideAny}
 use Rattle.steps.specs.Effects.{framePlace, noPlace, shownAt, workAt, placeOf, readPlace}
 use Rattle.steps.specs.Promises.{showWithin, workWithin}
-use Rattle.steps.proofs.DecideLaws.{IfAccepted, if-accepted, past-number, then-keeps, PlanOk, decide-ok}
+use Rattle.steps.proofs.DecideLaws.{IfAccepted, if-accepted, past-number, then-keeps, as-listed, PlanOk, decide-ok}
 use Rattle.steps.proofs.StepLaws.{rules-listed, ruled}
 use Rattle.embed.specs.Private.{Small}
 
@@ -53,7 +53,7 @@ module _ (t : Tables) (fast slow : ℕ) (c : Call) where
   sure =
       past-number (rulesNumber t fast slow) (rules-listed t fast slow) (λ z.
       let ok = ruled t fast slow z .0 in
-      then-keeps (λ plan k. (ok, k)) (decide-ok t c 0 ok))
+      then-keeps (λ plan k. (ok, k)) (as-listed (decide-ok t c 0 ok)))
 
   pub read-small : Small (readPlace t fast slow c)
   read-small = go (decideAny t fast slow c 0) sure

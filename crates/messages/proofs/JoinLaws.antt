@@ -378,6 +378,11 @@ reply-framed (accept r) few =
 answer-framed : (s : State) (x : Sent) → Framed (replyIn 70 (answer 70 s x))
 answer-framed s x = reply-framed (answer 70 s x) (omega (arith, reply-short 70 s x, reply-length 70 (answer 70 s x)))
 
+-- its own L tells how long it is, whatever follows
+pub reply-tells : (s : State) (x : Sent) (more : List ℕ)
+    → 2 + lengthAt (replyIn 70 (answer 70 s x) ++ more) 0 ≡ length (replyIn 70 (answer 70 s x))
+reply-tells s x more = let f = answer-framed s x in rw (f .is) (omega (arith, f .tells))
+
 one-apart : (r more : List ℕ) → Framed r → messagesOf (r ++ more) ≡ whole (drop 2 r) ∷ messagesOf more
 one-apart r more f =
     let long : length (f .rest) ≤ length (f .rest ++ more) = omega (arith, length-append (f .rest) more) in

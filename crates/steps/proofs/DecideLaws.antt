@@ -3,7 +3,7 @@
 use Prim.Native.Nat.{ℕ, _+_, _*_, _≤_, _<_, zero-le}
 use mathlib.Core.Path.{_≡_, refl, sym, ap, subst, _∙_}
 use mathlib.Core.Logic.{_≢_}
-use mathlib.Core.Bool.{Bool, true, false, not, _&&_, _||_, cond, false≢true}
+use mathlib.Core.Bool.{Bool, true, false, not, _&&_, _||_, cond, false≢true, true≢false}
 use mathlib.Core.List.{List, [], _∷_}
 use native.Mathlib.Nat.{add-zero, mul-comm, mul-le-mul}
 use native.Mathlib.Omega.{arith}
@@ -16,13 +16,13 @@ use Rattle.tables.specs.declared.Tables.{Tables}
 use Rattle.tables.specs.declared.Edit.{Edit}
 use Rattle.tables.specs.declared.Edit.the-variants.{Kept, Created, Deleted, Granted, Staled, Placed, Added, Removed, Marked}
 use Rattle.tables.specs.Lists.{all, count, listed}
-use Rattle.tables.specs.Numbers.{accepted, noPage, noRight, noCopy, frameHeld, messageNumbers}
+use Rattle.tables.specs.Numbers.{accepted, outOfRange, pageStands, noPage, noRight, nothingCurrent, noCopy, frameHeld, eightCopies, lastRecent, stale, noFrame, retired, messageNumbers}
 use Rattle.tables.specs.Model.{frames, isNull, inUse, absent, pageAt}
 use Rattle.tables.specs.Rules.{free, isCurrent, copyRule, sound}
 use Rattle.tables.specs.Search.{isFree, isRetired}
 use Rattle.tables.specs.Register.{registered}
 use Rattle.tables.specs.Changes.{changed}
-use Rattle.tables.proofs.ListLaws.{and-intro, and-left, and-right, or-left, or-right, all-imp, count-le, not-so}
+use Rattle.tables.proofs.ListLaws.{and-intro, and-left, and-right, or-left, or-right, all-imp, all-listed, count-le, not-so}
 use Rattle.tables.proofs.RuleLaws.{GoodCopy, good-copy, current-placed, StandingPage, copy-at, length-in-use, Sound, sound-of, few-frames, standing-at}
 use Rattle.tables.proofs.HolderLaws.{three-shown}
 use Rattle.tables.proofs.RegisterLaws.{registered-free}
@@ -43,7 +43,7 @@ use Rattle.steps.specs.declared.Show.{Show}
 use Rattle.steps.specs.declared.Show.the-variants as Show
 use Rattle.steps.specs.declared.Work.{Work}
 use Rattle.steps.specs.declared.Work.the-variants.{Shows, Lays}
-use Rattle.steps.specs.Kinds.{offset, bytes, frame, names, tells, isRetire, code, among, has, leastLength}
+use Rattle.steps.specs.Kinds.{offset, bytes, frame, names, tells, isRead, isRetire, code, among, has, leastLength}
 use Rattle.steps.specs.Calls.{badSpan, outside}
 use Rattle.steps.specs.Steps.{Outcome, refuse, accept, test, guarded, Plan, planOf, planned, noWork, editing, retiring, showing, laying, clearing, may, owns, isPlaced, copyAt, currents, recents, placedCount, firstCurrent, lacksRight, lacksOwner, lacksCopy, copying, perform, decideOn, pageFor, viewOf, decide}
 use Rattle.steps.specs.Data.{copyMarksValid, eachIs, formed}
@@ -58,55 +58,73 @@ use Rattle.steps.proofs.ClearLaws.{on, Frees, kept-frees, written-frees
 
 -- ---- what holds of an outcome if it is accepted
 
--- and if it is turned back, that is with a number of the table
-pub data IfAccepted {A : Type 0} (P : A → Type 0) : Outcome A → Type 0 where
-  if-refused : {n : ℕ} → listed n messageNumbers ≡ true → IfAccepted P (refuse n)
-  if-accepted : {a : A} → P a → IfAccepted P (accept a)
+-- and if it is turned back, that is with one of the numbers ns
+pub data Comes (ns : List ℕ) {A : Type 0} (P : A → Type 0) : Outcome A → Type 0 where
+  if-refused : {n : ℕ} → listed n ns ≡ true → Comes ns P (refuse n)
+  if-accepted : {a : A} → P a → Comes ns P (accept a)
+
+-- with a number of the table
+abbrev pub IfAccepted : {A : Type 0} → (A → Type 0) → Outcome A → Type 0
+IfAccepted P o = Comes messageNumbers P o
+
+-- the numbers that a call is turned back with on sound tables with fitting stores
+abbrev pub callNumbers : List ℕ
+callNumbers =
+    outOfRange ∷ pageStands ∷ noPage ∷ noRight ∷ nothingCurrent ∷ noCopy ∷ frameHeld ∷ eightCopies ∷ lastRecent ∷ stale ∷ noFrame ∷ retired ∷ []
+
+abbrev pub IfDecided : (Plan → Type 0) → Outcome Plan → Type 0
+IfDecided P o = Comes callNumbers P o
 
 -- behind a test
-pub past : {A : Type 0} {P : A → Type 0} {o : Outcome A} (b : Bool) (n : ℕ) → listed n messageNumbers ≡ true → (b ≡ false → IfAccepted P o)
-    → IfAccepted P (test b n o)
+pub past : {ns : List ℕ} {A : Type 0} {P : A → Type 0} {o : Outcome A} (b : Bool) (n : ℕ) → listed n ns ≡ true → (b ≡ false → Comes ns P o)
+    → Comes ns P (test b n o)
 past true n row h = if-refused row
 past false n row h = h refl
 
--- behind a number that is 0 or one of the table
-pub past-number : {A : Type 0} {P : A → Type 0} {o : Outcome A} (n : ℕ) → listed n (accepted ∷ messageNumbers) ≡ true → (n ≡ accepted → IfAccepted P o)
-    → IfAccepted P (guarded n o)
-past-number {A} {P} {o} n row h = go (eqb n accepted) refl row
+-- behind a number that is 0 or one of those
+pub past-number : {ns : List ℕ} {A : Type 0} {P : A → Type 0} {o : Outcome A} (n : ℕ) → listed n (accepted ∷ ns) ≡ true → (n ≡ accepted → Comes ns P o)
+    → Comes ns P (guarded n o)
+past-number {ns} {A} {P} {o} n row h = go (eqb n accepted) refl row
   where
-    go : (b : Bool) → eqb n accepted ≡ b → (b || listed n messageNumbers) ≡ true → IfAccepted P (test (not b) n o)
+    go : (b : Bool) → eqb n accepted ≡ b → (b || listed n ns) ≡ true → Comes ns P (test (not b) n o)
     go true e row = h (eqb-true n accepted e)
     go false e row = if-refused row
 
 -- behind 9 and 10
 module _ {P : Plan → Type 0} {o : Outcome Plan} (g : Page) where
-  past-nine : (b : Bool) → (absent g ≡ false → b ≡ true → IfAccepted P o) → IfAccepted P (guarded (cond (absent g) noPage (cond b accepted noRight)) o)
+  past-nine : (b : Bool) → (absent g ≡ false → b ≡ true → IfDecided P o) → IfDecided P (guarded (cond (absent g) noPage (cond b accepted noRight)) o)
   past-nine b h = go (absent g) b refl refl
     where
-      go : (a c : Bool) → absent g ≡ a → b ≡ c → IfAccepted P (guarded (cond a noPage (cond c accepted noRight)) o)
+      go : (a c : Bool) → absent g ≡ a → b ≡ c → IfDecided P (guarded (cond a noPage (cond c accepted noRight)) o)
       go true c e q = if-refused refl
       go false true e q = h e q
       go false false e q = if-refused refl
 
-  past-owner : (station : ℕ) → (absent g ≡ false → IfAccepted P o) → IfAccepted P (guarded (lacksOwner g station) o)
+  past-owner : (station : ℕ) → (absent g ≡ false → IfDecided P o) → IfDecided P (guarded (lacksOwner g station) o)
   past-owner station h = past-nine (owns g station) (λ some _. h some)
 
-  past-right : (station : ℕ) (act : Act) → (absent g ≡ false → IfAccepted P o) → IfAccepted P (guarded (lacksRight g station act) o)
+  past-right : (station : ℕ) (act : Act) → (absent g ≡ false → IfDecided P o) → IfDecided P (guarded (lacksRight g station act) o)
   past-right station act h = past-nine (may g station act) (λ some _. h some)
 
   -- behind 9 and 12
-  past-copy : (k : ℕ) → (absent g ≡ false → k < g .n → IfAccepted P o) → IfAccepted P (guarded (lacksCopy g k) o)
+  past-copy : (k : ℕ) → (absent g ≡ false → k < g .n → IfDecided P o) → IfDecided P (guarded (lacksCopy g k) o)
   past-copy k h = go (absent g) (leb (g .n) k) refl refl
     where
-      go : (a c : Bool) → absent g ≡ a → leb (g .n) k ≡ c → IfAccepted P (guarded (cond a noPage (cond c noCopy accepted)) o)
+      go : (a c : Bool) → absent g ≡ a → leb (g .n) k ≡ c → IfDecided P (guarded (cond a noPage (cond c noCopy accepted)) o)
       go true c e q = if-refused refl
       go false true e q = if-refused refl
       go false false e q = h e (leb-false (g .n) k q)
 
 -- what follows from it
-pub then-keeps : {A : Type 0} {P Q : A → Type 0} {o : Outcome A} → ((a : A) → P a → Q a) → IfAccepted P o → IfAccepted Q o
+pub then-keeps : {ns : List ℕ} {A : Type 0} {P Q : A → Type 0} {o : Outcome A} → ((a : A) → P a → Q a) → Comes ns P o → Comes ns Q o
 then-keeps h (if-refused row) = if-refused row
 then-keeps h (if-accepted k) = if-accepted (h _ k)
+
+-- the numbers of a call are of the table
+pub as-listed : {P : Plan → Type 0} {o : Outcome Plan} → IfDecided P o → IfAccepted P o
+unfolding all
+as-listed (if-refused {n} row) = if-refused (all-listed (λ (m : ℕ). listed m messageNumbers) callNumbers n refl row)
+as-listed (if-accepted k) = if-accepted k
 
 -- ---- the copies of a page that stands
 
@@ -158,9 +176,9 @@ abbrev pub FrameNear : Tables → Call → Kind → Type 0
 FrameNear t c k = (has frame k && leb (frames t) (c .frame)) ≡ false
 
 -- what is known of the plan of a call of kind k on page g of tables t: its edit is allowed, and what it retires, what
--- it lays and shows fits, and lies within the frames; its data have the form of the kind's; it clears the frames that
--- it frees; its reply has at most 35 bytes for each 4 of its message; the frame that it names is in range, and it is
--- retired by that kind alone, where it is not already
+-- it lays and shows fits, and lies within the frames; its data have the form of the kind's, and unless it is a read they
+-- are the same whatever the stores hold; it clears the frames that it frees; its reply has at most 35 bytes for each 4
+-- of its message; the frame that it names is in range, and it is retired by that kind alone, where it is not already
 pub record PlanOk (t : Tables) (c : Call) (size : ℕ) (k : Kind) (plan : Plan) : Type 0 where
   pub frame-near : FrameNear t c k
   pub allowed : Allowed t (pageFor c) (plan .edit)
@@ -173,6 +191,8 @@ pub record PlanOk (t : Tables) (c : Call) (size : ℕ) (k : Kind) (plan : Plan) 
   pub shows : (st : List ℕ) → length st ≡ 64 * frames t → length (workData (pageAt t (pageFor c)) (plan .work) (plan .len) st) ≡ plan .len
   pub as-told : (st : List ℕ) → length st ≡ 64 * frames t
       → formed (tells k) (workData (pageAt t (pageFor c)) (plan .work) (plan .len) st) ≡ true
+  pub hides : isRead k ≡ false → (st st′ : List ℕ)
+      → workData (pageAt t (pageFor c)) (plan .work) (plan .len) st ≡ workData (pageAt t (pageFor c)) (plan .work) (plan .len) st′
   pub laid-is : (bs st : List ℕ) → length bs ≡ size → length st ≡ 64 * frames t
       → plan .laid ≡ bytesLaid (pageAt t (pageFor c)) (plan .work) bs st
   pub frees : Frees (frames t) size (pageAt t (pageFor c)) (changed (pageAt t (pageFor c)) (plan .edit)) (plan .work)
@@ -204,7 +224,7 @@ module _ (t : Tables) (c : Call) (size : ℕ) (rules : Sound t)
     lay-ok : tells kind ≡ Empty → (e : Edit) (x : ℕ) → Marks kind x → (laid : ℕ) (l : Lay) (f : ℕ) → Allowed t p e → MayRetire t p e x
         → laid ≤ 512 → Exact laid (Lays l f) → workWithin g 0 (frames t) size (Lays l f) ≡ true
         → Frees (frames t) size g (changed g e) (Lays l f)
-        → IfAccepted (PlanOk t c size kind) (planned e x laid 0 (Lays l f))
+        → IfDecided (PlanOk t c size kind) (planned e x laid 0 (Lays l f))
     unfolding formed
     lay-ok is e x m laid l f a may few exact inside frees =
         if-accepted
@@ -219,6 +239,7 @@ module _ (t : Tables) (c : Call) (size : ℕ) (rules : Sound t)
           inside = inside;
           shows = λ st l. refl;
           as-told = λ st l. ap (λ (x : Data). formed x []) is;
+          hides = λ _ st st′. refl;
           laid-is = exact;
           frees = frees;
         })
@@ -226,13 +247,13 @@ module _ (t : Tables) (c : Call) (size : ℕ) (rules : Sound t)
     -- one that only changes the tables
     change-ok : tells kind ≡ Empty → (e : Edit) (x : ℕ) → Marks kind x → Allowed t p e → MayRetire t p e x
         → ((f : ℕ) → f < frames t → on f (changed g e) ≡ on f g)
-        → IfAccepted (PlanOk t c size kind) (planned e x 0 0 noWork)
+        → IfDecided (PlanOk t c size kind) (planned e x 0 0 noWork)
     unfolding laidFrames
     change-ok is e x m a may same =
         lay-ok is e x m 0 Nothing 255 a may zero-le (λ bs st _ l. refl) refl (kept-frees (frames t) size g (changed g e) noWork refl same)
 
     edit-ok : tells kind ≡ Empty → (e : Edit) → Marks kind 255 → Allowed t p e → ((f : ℕ) → f < frames t → on f (changed g e) ≡ on f g)
-        → IfAccepted (PlanOk t c size kind) (editing e)
+        → IfDecided (PlanOk t c size kind) (editing e)
     edit-ok is e m a same = change-ok is e 255 m a (retires-none t p e) same
 
     -- one that shows
@@ -240,9 +261,10 @@ module _ (t : Tables) (c : Call) (size : ℕ) (rules : Sound t)
         → showWithin len (frames t) s ≡ true
         → ((st : List ℕ) → length st ≡ 64 * frames t → length (shownOf g s len st) ≡ len)
         → ((st : List ℕ) → length (shownOf g s len st) ≡ len → formed (tells kind) (shownOf g s len st) ≡ true)
-        → IfAccepted (PlanOk t c size kind) (showing len s)
+        → (isRead kind ≡ false → (st st′ : List ℕ) → shownOf g s len st ≡ shownOf g s len st′)
+        → IfDecided (PlanOk t c size kind) (showing len s)
     unfolding changed
-    show-ok other len s short paid inside shows form =
+    show-ok other len s short paid inside shows form hides =
         let m : Marks kind 255 = rw other in
         if-accepted
         (record {
@@ -256,6 +278,7 @@ module _ (t : Tables) (c : Call) (size : ℕ) (rules : Sound t)
           inside = inside;
           shows = shows;
           as-told = λ st l. form st (shows st l);
+          hides = hides;
           laid-is = λ bs st _ l. refl;
           frees = kept-frees (frames t) size g g (Shows s) refl (λ y _. refl);
         })
@@ -263,14 +286,14 @@ module _ (t : Tables) (c : Call) (size : ℕ) (rules : Sound t)
     -- one that lays, and fills no other frame
     only-ok : tells kind ≡ Empty → (e : Edit) → Marks kind 255 → (laid : ℕ) (l : Lay) → Allowed t p e → laid ≤ 512
         → Exact laid (Lays l 255) → layWithin g (frames t) size l ≡ true → Frees (frames t) size g (changed g e) (Lays l 255)
-        → IfAccepted (PlanOk t c size kind) (laying e laid l)
+        → IfDecided (PlanOk t c size kind) (laying e laid l)
     only-ok is e m laid l a few exact inside frees =
         lay-ok is e 255 m laid l 255 a (retires-none t p e) few exact (and-intro inside refl) frees
 
   -- ---- the walk
 
   copy-ok : (kind : Kind) → FrameNear t c kind → tells kind ≡ Empty → isRetire kind ≡ false → (k f : ℕ) → k < g .n → f < frames t → free t f ≡ true → absent g ≡ false
-      → g .n ≢ 8 → IfAccepted (PlanOk t c size kind) (copying (copyAt g k) f)
+      → g .n ≢ 8 → IfDecided (PlanOk t c size kind) (copying (copyAt g k) f)
   unfolding laidFrames
   copy-ok kind far is other k f less low spare some room =
       go (isNull (copyAt g k)) refl (copy-at (stands some) k less .placed)
@@ -279,7 +302,7 @@ module _ (t : Tables) (c : Call) (size : ℕ) (rules : Sound t)
       onto = record { in-range = low; unused = spare }
 
       go : (z : Bool) → isNull (copyAt g k) ≡ z → (z ≡ false → copyAt g k .frame < frames t)
-          → IfAccepted (PlanOk t c size kind) (cond z (laying (Placed f) 64 (Zeros f))
+          → IfDecided (PlanOk t c size kind) (cond z (laying (Placed f) 64 (Zeros f))
           (laying (Added f (copyAt g k .recent)) 64 (Duplicate (copyAt g k .frame) f)))
       go true e at =
           only-ok kind far is (Placed f) (rw other) 64 (Zeros f) (record { onto = onto; stands = some }) (omega arith) (λ bs st _ l. refl)
@@ -299,7 +322,7 @@ module _ (t : Tables) (c : Call) (size : ℕ) (rules : Sound t)
 
   -- delete copy fills the frame that it frees
   remove-ok : FrameNear t c DeleteCopy → (k : ℕ) → absent g ≡ false → k < g .n → RemoveOk g k
-      → IfAccepted (PlanOk t c size DeleteCopy) (clearing (Removed k) (copyAt g k .frame))
+      → IfDecided (PlanOk t c size DeleteCopy) (clearing (Removed k) (copyAt g k .frame))
   unfolding laidFrames tells
   remove-ok far k some less ok =
       let placedCount = removed-placed (stands some) k ok in
@@ -311,7 +334,7 @@ module _ (t : Tables) (c : Call) (size : ℕ) (rules : Sound t)
 
   perform-ok : (k : Kind) → NamesNear c k → FrameNear t c k
       → (has offset k && badSpan (c .offset) (cond (has bytes k) size (c .count))) ≡ false
-      → IfAccepted (PlanOk t c size k) (perform (viewOf t c) c size k)
+      → IfDecided (PlanOk t c size k) (perform (viewOf t c) c size k)
   unfolding perform shownOf laidFrames names tells code among formed
   perform-ok Create name far span =
       let low = ltb-false 15 (c .station) (or-left (ltb 15 (c .station)) _ (or-left (ltb 15 (c .station) || ltb 63 (c .page)) _ name)) in
@@ -340,7 +363,8 @@ module _ (t : Tables) (c : Call) (size : ℕ) (rules : Sound t)
       let span = span-within (c .offset) (c .count) span in
       show-ok Read far refl (c .count) (Show.Frame _ (c .offset)) (omega arith) (omega arith) (and-intro (lt-ltb _ (frames t) low) (le-leb (c .offset + c .count) 64 span))
       (λ st l. length-frame-part st _ (c .offset) (c .count) (omega arith) span)
-      (λ st l. rw l (and-intro (le-leb 1 (c .count) (omega arith)) (le-leb (c .count) 64 (omega arith))))))
+      (λ st l. rw l (and-intro (le-leb 1 (c .count) (omega arith)) (le-leb (c .count) 64 (omega arith))))
+      (λ e. absurd (true≢false e))))
   perform-ok Write name far span =
       past-right g (c .station) Act.Write (λ some.
       past (eqb (currents g) 0) _ refl (λ e.
@@ -380,12 +404,13 @@ module _ (t : Tables) (c : Call) (size : ℕ) (rules : Sound t)
       let data-long = length-shown (inUse g) in
       show-ok LookPage far refl (1 + 3 * length (inUse g)) Show.Page (omega arith) (omega arith) refl (λ st l. omega arith)
       (λ st l. and-intro (and-intro (le-leb 1 (g .n) (omega arith)) (le-leb (g .n) 8 most))
-      (and-intro (eq-eqb _ (1 + 3 * g .n) (omega arith)) (subst (λ (n : ℕ). eachIs n 3 copyMarksValid (copiesShown (inUse g)) ≡ true) long (shown-marked (inUse g))))))
+      (and-intro (eq-eqb _ (1 + 3 * g .n) (omega arith)) (subst (λ (n : ℕ). eachIs n 3 copyMarksValid (copiesShown (inUse g)) ≡ true) long (shown-marked (inUse g)))))
+      (λ _ st st′. refl))
   perform-ok LookFrame name far span = show-ok LookFrame far refl 3 (Show.Holder _) (omega arith) (omega arith) refl
-      (λ st l. three-shown (registered t (c .frame))) (λ st l. eq-eqb _ 3 l)
+      (λ st l. three-shown (registered t (c .frame))) (λ st l. eq-eqb _ 3 l) (λ _ st st′. refl)
   perform-ok Retire name far span = by (isRetired (registered t (c .frame))) refl
     where
-      by : (b : Bool) → isRetired (registered t (c .frame)) ≡ b → IfAccepted (PlanOk t c size Retire)
+      by : (b : Bool) → isRetired (registered t (c .frame)) ≡ b → IfDecided (PlanOk t c size Retire)
           (cond b (editing Kept) (test (not (isFree (registered t (c .frame)))) frameHeld (retiring (c .frame))))
       by true e = edit-ok Retire far refl Kept (rw e) tt (λ f _. kept-on g f)
       by false e =
@@ -396,11 +421,11 @@ module _ (t : Tables) (c : Call) (size : ℕ) (rules : Sound t)
 
 -- ---- a call on tables that keep the rules
 
--- 0 or 7 is 0 or a number of the table
-range-listed : (frames size : ℕ) (c : Call) → listed (outside frames size c) (accepted ∷ messageNumbers) ≡ true
-range-listed frames size c = outside-listed frames size c (λ (n : ℕ). listed n (accepted ∷ messageNumbers) ≡ true) refl refl
+-- 0 or 7 is 0 or a number of a call
+range-listed : (frames size : ℕ) (c : Call) → listed (outside frames size c) (accepted ∷ callNumbers) ≡ true
+range-listed frames size c = outside-listed frames size c (λ (n : ℕ). listed n (accepted ∷ callNumbers) ≡ true) refl refl
 
-pub decide-ok : (t : Tables) (c : Call) (size : ℕ) → sound t ≡ true → IfAccepted (PlanOk t c size (c .kind)) (decide t c size)
+pub decide-ok : (t : Tables) (c : Call) (size : ℕ) → sound t ≡ true → IfDecided (PlanOk t c size (c .kind)) (decide t c size)
 unfolding decideOn
 decide-ok t c size e =
     past-number (outside (frames t) size c) (range-listed (frames t) size c) (λ z.
@@ -412,17 +437,17 @@ pub read-shows : (v : View) (c : Call) (size : ℕ) → c .kind ≡ Read
     → IfAccepted (λ (plan : Plan). plan .work ≡ Shows (Show.Frame (firstCurrent (inUse (v .page))) (c .offset))) (decideOn v c size)
 unfolding decideOn perform
 read-shows v c size is =
-    past-number (outside (v .frames) size c) (range-listed (v .frames) size c) (λ _.
-    rw is (past-right (v .page) (c .station) Act.Read (λ _. past (eqb (currents (v .page)) 0) _ refl (λ _. if-accepted refl))))
+    as-listed (past-number (outside (v .frames) size c) (range-listed (v .frames) size c) (λ _.
+    rw is (past-right (v .page) (c .station) Act.Read (λ _. past (eqb (currents (v .page)) 0) _ refl (λ _. if-accepted refl)))))
 
 -- an accepted retire retires the frame, where it is not already, and does nothing else
 pub retire-plans : (v : View) (c : Call) (size : ℕ) → c .kind ≡ Retire
     → IfAccepted (λ (plan : Plan). plan ≡ planOf Kept (cond (isRetired (v .holder)) 255 (c .frame)) 0 0 noWork) (decideOn v c size)
 unfolding decideOn perform
 retire-plans v c size is =
-    past-number (outside (v .frames) size c) (range-listed (v .frames) size c) (λ _. rw is (by (isRetired (v .holder))))
+    as-listed (past-number (outside (v .frames) size c) (range-listed (v .frames) size c) (λ _. rw is (by (isRetired (v .holder)))))
   where
-    by : (b : Bool) → IfAccepted (λ (plan : Plan). plan ≡ planOf Kept (cond b 255 (c .frame)) 0 0 noWork)
+    by : (b : Bool) → IfDecided (λ (plan : Plan). plan ≡ planOf Kept (cond b 255 (c .frame)) 0 0 noWork)
         (cond b (editing Kept) (test (not (isFree (v .holder))) frameHeld (retiring (c .frame))))
     by true = if-accepted refl
     by false = past (not (isFree (v .holder))) _ refl (λ _. if-accepted refl)

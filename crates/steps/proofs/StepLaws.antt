@@ -25,7 +25,7 @@ use Rattle.steps.specs.declared.Decision.{Decision}
 use Rattle.steps.specs.Kinds.{tells, leastLength}
 use Rattle.steps.specs.Data.{formed}
 use Rattle.steps.specs.Stores.{fits, block, contents, zeros, layFrames, over}
-use Rattle.steps.specs.Steps.{Outcome, refuse, accept, mapped, Plan, noWork, copyAt, pageFor, decide, rulesNumber, decideAny, numberOf}
+use Rattle.steps.specs.Steps.{Outcome, refuse, accept, guarded, mapped, Plan, noWork, copyAt, pageFor, decide, rulesNumber, decideAny, numberOf}
 use Rattle.steps.specs.Effects.{laidFrames, stored, workData, State, joined, Result, carriedOut, step, left, movedBy, laidBy, dataOf}
 use Rattle.steps.specs.Promises.{stateOf, decisionOf, Lent, lent, workWithin, within, carried, Stepped, settled}
 use Rattle.steps.specs.Private.{framesIn, DecisionTold}
@@ -34,7 +34,7 @@ use Rattle.steps.proofs.DecisionLaws.{page-near, decides-any}
 use Rattle.steps.proofs.StoreLaws.{length-part}
 use Rattle.steps.proofs.WorkLaws.{length-stored}
 use Rattle.steps.proofs.CarryLaws.{lent-same}
-use Rattle.steps.proofs.DecideLaws.{IfAccepted, if-refused, if-accepted, past-number, then-keeps, PlanOk, decide-ok}
+use Rattle.steps.proofs.DecideLaws.{IfAccepted, IfDecided, callNumbers, if-refused, if-accepted, past-number, then-keeps, as-listed, PlanOk, decide-ok}
 
 -- ---- tables and stores that keep the rules
 
@@ -117,7 +117,7 @@ module _ (s : State) (c : Call) (bs : List ℕ) where
   sure =
       past-number (rulesNumber (s .tables) (length (s .fast)) (length (s .slow))) (rules-listed (s .tables) (length (s .fast)) (length (s .slow))) (λ z.
       let i = rules-good z in
-      then-keeps (λ plan k. record { good = i; plan-ok = k }) (decide-ok (s .tables) c (length bs) (i .tables-sound)))
+      then-keeps (λ plan k. record { good = i; plan-ok = k }) (as-listed (decide-ok (s .tables) c (length bs) (i .tables-sound))))
 
   abbrev laidOut : Plan → List ℕ
   laidOut plan = stored (pageAt (s .tables) (pageFor c)) (plan .work) bs (joined s)
@@ -201,6 +201,20 @@ module _ (s : State) (c : Call) (bs : List ℕ) where
       go (refuse n) (if-refused row) = ap (λ (b : Bool). eqb n accepted || b) row ∙ or-true (eqb n accepted)
       go (accept plan) k = refl
 
+  -- on sound tables 0, 6 or one of a call
+  pub sound-number : sound (s .tables) ≡ true → listed (numberOf (step s c bs)) (accepted ∷ misfitStore ∷ callNumbers) ≡ true
+  unfolding step
+  sound-number ok =
+      rw ok (by (fits (s .tables) (length (s .fast)) (length (s .slow))) (decide (s .tables) c (length bs)) (decide-ok (s .tables) c (length bs) ok))
+    where
+      by : (b : Bool) (o : Outcome Plan) → IfDecided (PlanOk (s .tables) c (length bs) (c .kind)) o
+          → listed (numberOf (mapped (carriedOut s c bs) (guarded (cond b accepted misfitStore) o))) (accepted ∷ misfitStore ∷ callNumbers) ≡ true
+      by true (refuse n) (if-refused row) =
+          ap (λ (b : Bool). eqb n accepted || (eqb n misfitStore || b)) row ∙ ap (λ (b : Bool). eqb n accepted || b) (or-true (eqb n misfitStore))
+          ∙ or-true (eqb n accepted)
+      by true (accept plan) k = refl
+      by false o k = refl
+
   -- and it is not 0 where the call is turned back
   pub step-told : (n : ℕ) → step s c bs ≡ refuse n → n ≡ accepted → ⊥
   unfolding step
@@ -242,7 +256,7 @@ decided-within s c size out d i room q =
     and-intro (le-leb 64 (length out) room) (and-intro (eq-eqb (length (s .fast) % 64) 0 (omega arith))
     (rw same (go _ (decide-ok (s .tables) c size (i .tables-sound)) q)))
   where
-    go : (o : Outcome Plan) → IfAccepted (PlanOk (s .tables) c size (c .kind)) o → DecisionTold (s .tables) c o d
+    go : (o : Outcome Plan) → IfDecided (PlanOk (s .tables) c size (c .kind)) o → DecisionTold (s .tables) c o d
         → workWithin (d .before) (d .len) (frames (s .tables)) size (d .work) ≡ true
     go (refuse n) k q = rw (q .work-told) refl
     go (accept plan) (if-accepted u) q = rw (q .before-told, q .len-told, q .work-told) (u .inside)

@@ -69,6 +69,10 @@ kindNumber LookPage = 10
 kindNumber LookFrame = 11
 kindNumber Retire = 12
 
+-- "4. read (station, page, offset, count)"
+abbrev pub isRead : Kind → Bool
+isRead k = eqb (kindNumber k) (kindNumber Read)
+
 -- document 02, request [5]: "Kind 12, retire (frame)"
 abbrev pub isRetire : Kind → Bool
 isRetire k = eqb (kindNumber k) (kindNumber Retire)

@@ -19,3 +19,4 @@ pub mod Written
 pub mod Told
 pub mod Stations
 pub mod Closed
+pub mod Hidden

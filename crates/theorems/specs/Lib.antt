@@ -11,6 +11,7 @@ pub mod Laid
 pub mod Retired
 pub mod Stations
 pub mod Closed
+pub mod Hidden
 pub mod Cases
 pub mod Borders
 pub mod StationCases
