@@ -8,6 +8,7 @@
  * messages of every closed page are written too. Messages and sizes follow from a seed.
  */
 #define _DEFAULT_SOURCE
+#include "random.h"
 #include "test.h"
 
 #include <reel.h>
@@ -79,25 +80,6 @@ static void make_fresh(struct unit *u, uint8_t p, uint8_t s) {
   memset(u->fast.start, FILLER, u->fast.room);
   memset(u->slow.start, FILLER, u->slow.room);
   memset(u->tally.start, 0, u->tally.room);
-}
-
-/* A message, mostly one of the right form and with arguments that have a chance. */
-static size_t message(uint8_t *to) {
-  static const uint8_t lengths[] = {4, 4, 6, 6, 6, 5, 4, 4, 4, 3, 3, 3};
-  static const uint8_t kinds[] = {1, 1, 1, 1, 2, 3, 3, 4, 4, 4, 5, 5, 5, 5, 6,  6,
-                                  6, 6, 6, 6, 6, 7, 7, 8, 8, 8, 8, 9, 10, 11, 12};
-  size_t kind = kinds[any(sizeof kinds)], length = lengths[kind - 1], i;
-  if (kind == REEL_KIND_WRITE) length += any(64);
-  if (any(50) == 0) length = any(70);
-  for (i = 4; i < length + 2; i++) to[i] = (uint8_t)(any(20) == 0 ? any(256) : any(3));
-  to[0] = 0;
-  to[1] = (uint8_t)length;
-  if (length > 0) to[2] = any(50) == 0 ? 2 : REEL_MESSAGE_VERSION;
-  if (length > 1) to[3] = (uint8_t)(any(50) == 0 ? any(256) : kind);
-  if (kind <= REEL_KIND_WRITE && length > 3 && any(8) != 0) to[4] = 0;
-  if (kind == REEL_KIND_MAKE_COPY && length == 5) to[6] = (uint8_t)any(frames + 1);
-  if (kind == REEL_KIND_READ && length == 6) to[7] = (uint8_t)any(66);
-  return length + 2;
 }
 
 static uint32_t answer(struct unit u, const uint8_t *sent, size_t length) {
@@ -254,7 +236,7 @@ static void serve(struct unit one, struct unit whole, struct unit parts, struct 
   make_fresh(&whole, p, s);
   make_fresh(&parts, p, s);
   for (i = 0; i < MESSAGES; i++) {
-    size_t size = message(file + length);
+    size_t size = any_message(file + length, frames);
     uint8_t kind = file[length + 3];
     struct state before = state_of(one);
     uint32_t answered = answer(one, sealed(lent, file + length, size), size);
@@ -351,7 +333,7 @@ static void senseless_call(struct unit u, struct block lent) {
 static void senseless(struct unit u, struct block lent) {
   uint8_t bytes[REEL_MESSAGE_SIZE];
   size_t tables = any(4) == 0 ? any(PAGE) : REEL_TABLES_SIZE, fast = any(2 * PAGE), slow = any(2 * PAGE);
-  size_t room = any(200), size = message(bytes), tally = any(5), place = any(80), i;
+  size_t room = any(200), size = any_message(bytes, frames), tally = any(5), place = any(80), i;
   uint8_t *t = part(u.tables, tables), *f = part(u.fast, fast), *s = part(u.slow, slow), *out = part(u.out, room);
   const uint8_t *sent;
   if (any(4) == 0) size = any((uint32_t)size);

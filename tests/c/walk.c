@@ -4,72 +4,17 @@
  * sound tables, on broken ones and with a store of a wrong length; with buffers for one reply, for some and for all.
  * The places that reel_replies gives are held against the lengths by which the walk goes on.
  */
+#include "calls.h"
 #include "test.h"
 
 #include <reel.h>
 
 #include <string.h>
 
-enum { P = 5, S = 5, MOST = 4096, LAST_NUMBER = REEL_RETIRED, KINDS = REEL_KIND_RETIRE };
+enum { P = 5, S = 5 };
 
-/* Messages and the number that each is answered with where the tables are sound and the stores fit. */
-static uint8_t file[MOST];
-static size_t length, starts[MOST];
-static unsigned numbers[MOST], messages;
-
-static uint8_t tables[REEL_TABLES_SIZE], fast[REEL_FRAME_SIZE * P], slow[REEL_FRAME_SIZE * S], out[2 * MOST];
+static uint8_t tables[REEL_TABLES_SIZE], fast[REEL_FRAME_SIZE * P], slow[REEL_FRAME_SIZE * S], out[8192];
 static unsigned seen[LAST_NUMBER + 1], walked, unread; /* replies by their number, all, and those of unknown kinds */
-
-/* One more message, of this version, kind and arguments, with `more` zeros behind them. */
-static void add(unsigned number, uint8_t version, uint8_t kind, const uint8_t *arguments, size_t count, size_t more) {
-  size_t l = 2 + count + more;
-  starts[messages] = length;
-  numbers[messages++] = number;
-  file[length] = (uint8_t)(l / 256);
-  file[length + 1] = (uint8_t)(l % 256);
-  file[length + 2] = version;
-  file[length + 3] = kind;
-  memcpy(file + length + 4, arguments, count);
-  memset(file + length + 4 + count, 0, more);
-  length += 2 + l;
-}
-
-static void call(unsigned number, uint8_t kind, size_t count, uint8_t a, uint8_t b, uint8_t c, uint8_t d) {
-  uint8_t arguments[4];
-  arguments[0] = a;
-  arguments[1] = b;
-  arguments[2] = c;
-  arguments[3] = d;
-  add(number, REEL_MESSAGE_VERSION, kind, arguments, count, 0);
-}
-
-/* A message too short to have a kind: L is 0 or 1. */
-static void stub(unsigned number, uint8_t l, uint8_t version) {
-  starts[messages] = length;
-  numbers[messages++] = number;
-  file[length] = 0;
-  file[length + 1] = l;
-  file[length + 2] = version;
-  length += 2 + (size_t)l;
-}
-
-/* What its own bytes turn back: 2, 3 and 4. L may be more than any reply buffer has. */
-static void ill_formed(void) {
-  static const uint8_t none[1] = {0};
-  unsigned kind;
-  stub(REEL_FOREIGN_VERSION, 0, 0);
-  stub(REEL_FOREIGN_VERSION, 1, 0);
-  stub(REEL_UNKNOWN_KIND, 1, REEL_MESSAGE_VERSION);
-  add(REEL_FOREIGN_VERSION, 0, REEL_KIND_CREATE, none, 0, 2);
-  add(REEL_FOREIGN_VERSION, 2, REEL_KIND_CREATE, none, 0, 2);
-  add(REEL_FOREIGN_VERSION, 255, KINDS + 1, none, 0, 0);
-  add(REEL_UNKNOWN_KIND, REEL_MESSAGE_VERSION, 0, none, 0, 0);
-  add(REEL_UNKNOWN_KIND, REEL_MESSAGE_VERSION, KINDS + 1, none, 0, 5);
-  add(REEL_UNKNOWN_KIND, REEL_MESSAGE_VERSION, 255, none, 0, 300);
-  for (kind = REEL_KIND_CREATE; kind <= KINDS; kind++)
-    add(REEL_WRONG_LENGTH, REEL_MESSAGE_VERSION, (uint8_t)kind, none, 0, 0);
-  add(REEL_WRONG_LENGTH, REEL_MESSAGE_VERSION, REEL_KIND_WRITE, none, 0, 260);
-}
 
 /* What the unit turns back, 7 to 17 and 20, among messages that it accepts. */
 static void turned_back(void) {
@@ -99,11 +44,9 @@ static void turned_back(void) {
   call(REEL_ACCEPTED, REEL_KIND_DELETE_PAGE, 2, 3, 5, 0, 0);
 }
 
-/* What message m of a file with this end is answered: on tables or stores that are wrong, `state` to all but 1 to 4. */
+/* What message m of a file with this end is answered. */
 static unsigned due(unsigned m, size_t end, unsigned state) {
-  int by_its_bytes = numbers[m] >= REEL_CUT_SHORT && numbers[m] <= REEL_WRONG_LENGTH;
-  if (end < starts[m + 1]) return REEL_CUT_SHORT;
-  return state == REEL_ACCEPTED || by_its_bytes ? numbers[m] : state;
+  return end < starts[m + 1] ? REEL_CUT_SHORT : number_in(m, state);
 }
 
 /* A reply among so many bytes that are left: the reader tells its number and its end, for an unknown kind nothing. */
