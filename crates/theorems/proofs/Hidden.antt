@@ -32,7 +32,7 @@ use Rattle.messages.specs.declared.Tally.{Tally}
 use Rattle.messages.specs.Messages.{parse, lengthAt}
 use Rattle.messages.specs.Replies.{reply, replyIn, counted, isRefusal}
 use Rattle.messages.specs.Run.{Sent, cut, whole, asked, bytesOf, respond, answer, Turn, turnOf, leftBy, messagesOf, turnsOf, endOf, Run, buffer, tally, joinedReplies}
-use Rattle.messages.specs.Run.{full, served, passed, placeAfter, stateAfter}
+use Rattle.messages.specs.Run.{full, served, passed, placeAfter, stateAfter, turnsFrom}
 use Rattle.messages.specs.Promises.{FillCall, FillCalls, emptied, reached}
 use Rattle.messages.proofs.ParseLaws.{ownNumbers, Known, bad, asked-known}
 use Rattle.messages.proofs.JoinLaws.{parts-run, reply-tells}
@@ -435,7 +435,7 @@ hidden =
           callers-alike file file′ _ _ (twins t p q) n ks ks′ same calls h calls′ h′;
       one-part = λ t fast slow fast′ slow′ p q room at file file′ n long same.
           let k = part-alike room 0 (length file) at n (messagesOf (drop at file)) (messagesOf (drop at file′)) same _ _ (twins t p q) in
-          (k .0 ∙ ap (λ (end : ℕ). placeAfter end at _) long, k .1);
+          (k .0 ∙ ap (λ (end : ℕ). placeAfter end at (turnsFrom room file′ at (stateOf t fast′ slow′))) long, k .1);
       buffer-left = λ t fast slow fast′ slow′ p q xs xs′ out same none. buffer-alike (length out) xs xs′ same none _ _ (twins t p q) out;
     }
 

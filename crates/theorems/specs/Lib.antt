@@ -16,6 +16,7 @@ pub mod Cases
 pub mod Borders
 pub mod StationCases
 pub mod Impostors
+pub mod Leaks
 pub mod Witness3
 pub mod Witness1
 pub mod WitnessClean
@@ -24,3 +25,4 @@ pub mod WitnessStations
 pub mod WitnessCaller
 pub mod WitnessSteps
 pub mod WitnessClosed
+pub mod WitnessHidden
