@@ -8,9 +8,10 @@ use crate::gen::{self, Moves, Rng, BUFFERS, DAMAGES, SHORT_BUFFERS};
 use crate::kernel::{packed, Kernel, Modelled};
 use crate::model::{
     self, frame_bytes, Call, Lent, Page, PageCopy, Reached, Reader, Refusal, Tables, ENTRIES,
-    FRAME, LEAST_BUFFER, MOST_FRAMES, RAW, RECORD, REGISTER,
+    FRAME, LEAST_BUFFER, RAW, RECORD, REGISTER,
 };
 use reel::words::{self, hex, WORDS};
+use std::fmt::Display;
 
 /// Each number, and each other case that is counted, must come up this often.
 pub const LEAST: u64 = 100;
@@ -79,20 +80,25 @@ pub struct Counts {
 
 impl Counts {
     /// The states and events with how often they came up.
-    pub fn reached(&self) -> impl Iterator<Item = (u64, &'static str)> + '_ {
-        let depths = self.depths.into_iter().zip(DEPTHS);
-        depths.chain(self.rights.into_iter().zip(RIGHTS))
+    pub fn reached(&self) -> impl Iterator<Item = (&'static str, u64)> + '_ {
+        let depths = DEPTHS.into_iter().zip(self.depths);
+        depths.chain(RIGHTS.into_iter().zip(self.rights))
     }
 
     /// The numbers, states and events that came up too seldom.
     pub fn too_few(&self) -> Vec<String> {
-        let numbers = self.numbers.into_iter().zip(WORDS);
-        let few = numbers
-            .chain(self.reached())
-            .filter(|(count, _)| *count < LEAST);
-        few.map(|(count, word)| format!("\"{word}\" came up {count} times only"))
-            .collect()
+        let numbers = WORDS.into_iter().zip(self.numbers);
+        too_seldom(numbers.chain(self.reached()))
     }
+}
+
+/// Of some cases, each with how often it came up, those that came up too seldom.
+pub(crate) fn too_seldom<Word: Display>(
+    cases: impl IntoIterator<Item = (Word, u64)>,
+) -> Vec<String> {
+    let few = cases.into_iter().filter(|(_, count)| *count < LEAST);
+    few.map(|(word, count)| format!("\"{word}\" came up {count} times only"))
+        .collect()
 }
 
 /// Compares the kernel with the model on at least so many messages; an error tells the first
@@ -141,7 +147,7 @@ impl Compare<'_> {
                 return Err(format!(
                     "fresh tables of P {fast}, S {slow} in {length} bytes: number {number}, \
                      by the model {due}{}",
-                    first_difference("tables", &by_kernel, &by_model).unwrap_or_default()
+                    first_difference("tables", BESIDE, &by_kernel, &by_model).unwrap_or_default()
                 ));
             }
             if number == Refusal::TooManyFrames.number() {
@@ -183,7 +189,7 @@ impl Compare<'_> {
         self.counts.numbers[usize::from(answer.number)] += 1;
         let mut difference = difference(&by_kernel, &by_model);
         if given != due {
-            difference.insert_str(0, &format!("\n  answer: {}", in_words(given, due)));
+            difference.insert_str(0, &answer_difference(BESIDE, [given, due]));
         }
         difference += &self.looks(lent, bytes);
         let is_refused = given.to_le_bytes()[0] != 0;
@@ -208,21 +214,9 @@ impl Compare<'_> {
         ))
     }
 
-    /// A tally to count on in, now and then of a wrong length.
-    fn tally(&mut self) -> Vec<u32> {
-        match self.rng.below(8) {
-            0 => vec![7; self.rng.pick(&[0, 1, 2, 4])],
-            1 => (0..3)
-                .map(|_| u32::MAX - self.rng.below(9) as u32)
-                .collect(),
-            2 => (0..3).map(|_| self.rng.below(1 << 32) as u32).collect(),
-            _ => vec![0; 3],
-        }
-    }
-
     /// A whole file given to kernel and model; what the kernel left.
     fn run(&mut self, lent: &Lent, file: &[u8]) -> Result<Lent, String> {
-        let tally = self.tally();
+        let tally = gen::tally(&mut self.rng);
         let (mut kernels, mut models) = (tally.clone(), tally.clone());
         let mut by_kernel = lent.clone();
         let mut by_model = lent.clone();
@@ -230,7 +224,7 @@ impl Compare<'_> {
         Modelled.run(&mut by_model, file, &mut models);
         self.counts.runs += 1;
         let mut difference = difference(&by_kernel, &by_model);
-        difference += &tally_difference(&tally, &kernels, &models);
+        difference += &tally_difference(BESIDE, &tally, [&kernels, &models]);
         if difference.is_empty() {
             return Ok(by_kernel);
         }
@@ -253,7 +247,7 @@ impl Compare<'_> {
         let due = Modelled.replies(&mut by_model, file, at, &mut models);
         self.counts.parts += 1;
         let mut difference = difference(&by_kernel, &by_model);
-        difference += &tally_difference(tally, &kernels, &models);
+        difference += &tally_difference(BESIDE, tally, [&kernels, &models]);
         if given != due {
             difference += &format!("\n  kernel {given:?}, model {due:?}");
         }
@@ -272,7 +266,7 @@ impl Compare<'_> {
     /// between. Gives what the kernel left, and the replies.
     fn parts(&mut self, start: &Lent, file: &[u8], room: usize) -> Result<(Lent, Vec<u8>), String> {
         let mut lent = start.clone();
-        let mut tally = self.tally();
+        let mut tally = gen::tally(&mut self.rng);
         let (mut replies, mut at) = (Vec::new(), 0);
         loop {
             lent.out = self.rng.bytes(room);
@@ -373,7 +367,7 @@ impl Compare<'_> {
         for file in [&[], &file[..]] {
             self.run(lent, file)?;
             for at in [0, 1, file.len(), file.len() + 1, usize::MAX] {
-                let mut tally = self.tally();
+                let mut tally = gen::tally(&mut self.rng);
                 self.part(&mut lent.clone(), file, at, &mut tally)?;
             }
         }
@@ -388,13 +382,7 @@ impl Compare<'_> {
         for _ in 0..LEAST {
             let start = gen::roomy(&mut self.rng);
             let file = gen::deep_file(&mut self.rng, start.tables[0], start.tables[1]);
-            let mut short = start.clone();
-            short.out.truncate(self.rng.pick(&SHORT_BUFFERS));
-            let mut broken = start.clone();
-            broken.tables[0] = MOST_FRAMES + 1;
-            let mut misfit = start.clone();
-            misfit.fast.pop();
-            for hindered in [short, broken, misfit] {
+            for hindered in gen::hindered(&mut self.rng, &start) {
                 self.answer(&hindered, &file)?;
             }
             let mut trial = Trial::from_fresh(start);
@@ -409,12 +397,12 @@ impl Compare<'_> {
         let rng = &mut self.rng;
         match rng.below(16) {
             0..=9 => {
-                let start = self.fresh_start();
+                let start = fresh_start(self.kernel, rng);
                 let length = self.rng.pick(&[0, 3, 30, 300, 1500]);
                 self.moves(Trial::from_fresh(start), length)
             }
             10 | 11 => {
-                let start = self.fresh_start();
+                let start = fresh_start(self.kernel, rng);
                 let file = gen::nonsense(&mut self.rng);
                 let mut trial = Trial::from_fresh(start);
                 self.turns(&mut trial, &file)?;
@@ -437,22 +425,13 @@ impl Compare<'_> {
         }
     }
 
-    /// Fresh tables of the kernel.
-    fn fresh_start(&mut self) -> Lent {
-        let mut start = gen::fresh(&mut self.rng);
-        let (fast, slow) = (start.tables[0], start.tables[1]);
-        self.rng.fill(&mut start.tables);
-        self.kernel.fresh(fast, slow, &mut start.tables);
-        start
-    }
-
     fn moves(&mut self, mut trial: Trial, length: usize) -> Result<(), String> {
         let mut moves = Moves::new(&mut self.rng);
         for turn in 0..length {
             if self.counts.messages >= self.limit {
                 break;
             }
-            let tables = trial.tables();
+            let tables = gen::tables_of(&trial.lent);
             let last = turn + 1 == length;
             let bytes = moves.next(&mut self.rng, &tables, &trial.lent, last);
             self.turns(&mut trial, &bytes)?;
@@ -473,7 +452,7 @@ impl Compare<'_> {
                 bytes.extend(self.rng.bytes(past));
             }
             self.rng.fill(&mut trial.lent.out);
-            let (before, lent) = (trial.tables(), trial.lent.clone());
+            let (before, lent) = (gen::tables_of(&trial.lent), trial.lent.clone());
             trial.lent = self.answer(&lent, &bytes)?;
             trial.file.extend(message);
             trial.replies.extend(reply_in(&trial.lent.out));
@@ -481,7 +460,7 @@ impl Compare<'_> {
                 let checked = frames.turn(&lent, &trial.lent);
                 checked.map_err(|error| format!("{}\n  {error}", words::message(message)))?;
             }
-            let after = trial.tables();
+            let after = gen::tables_of(&trial.lent);
             if let Some((demand3, clean)) = &mut trial.promises {
                 let reply = reply_in(&trial.lent.out);
                 let checked = demand3.turn(&before, message, reply);
@@ -555,9 +534,18 @@ impl Compare<'_> {
             out: self.rng.bytes(room),
             ..trial.start.clone()
         };
-        let mut tally = self.tally();
+        let mut tally = gen::tally(&mut self.rng);
         self.part(&mut lent, &trial.file, at, &mut tally).map(drop)
     }
+}
+
+/// Fresh tables of a kernel.
+pub(crate) fn fresh_start(kernel: &dyn Kernel, rng: &mut Rng) -> Lent {
+    let mut start = gen::fresh(rng);
+    let (fast, slow) = (start.tables[0], start.tables[1]);
+    rng.fill(&mut start.tables);
+    kernel.fresh(fast, slow, &mut start.tables);
+    start
 }
 
 /// A whole file in the making.
@@ -594,11 +582,6 @@ impl Trial {
             promises: Some((Demand3::start(), Clean::start(&start))),
             ..Trial::new(start)
         }
-    }
-
-    /// The tables, or fresh ones instead of broken ones.
-    fn tables(&self) -> Tables {
-        Tables::from_raw(&self.lent.tables).unwrap_or_else(|| Tables::fresh(4, 4))
     }
 
     /// Counts the depths that a message found or reached.
@@ -686,7 +669,7 @@ impl Trial {
 }
 
 /// Counts what was reached.
-fn add<const N: usize>(counts: &mut [u64; N], reached: [bool; N]) {
+pub(crate) fn add<const N: usize>(counts: &mut [u64; N], reached: [bool; N]) {
     for (count, reached) in counts.iter_mut().zip(reached) {
         *count += u64::from(reached);
     }
@@ -788,42 +771,58 @@ fn is_closed(before: &Tables, call: &Call) -> bool {
 }
 
 /// The copies that an accepted delete takes away.
-fn deleted(before: &Tables, call: &Call) -> Vec<PageCopy> {
+pub(crate) fn deleted(before: &Tables, call: &Call) -> Vec<PageCopy> {
     let copies = |page: u8| {
-        let page = before.pages[usize::from(page)].as_ref();
+        let page = before.pages.get(usize::from(page)).and_then(Option::as_ref);
         page.map_or(&[][..], |page| &page.copies)
     };
     match *call {
         Call::DeletePage { page, .. } => copies(page).to_vec(),
-        Call::DeleteCopy { page, copy } => vec![copies(page)[usize::from(copy)]],
+        Call::DeleteCopy { page, copy } => {
+            Vec::from_iter(copies(page).get(usize::from(copy)).copied())
+        }
         _ => Vec::new(),
     }
 }
 
 // ---- Differences ----
 
+/// Whose two results are held against each other.
+pub(crate) type Sides = [&'static str; 2];
+
+const BESIDE: Sides = ["kernel", "model"];
+
 fn difference(kernel: &Lent, model: &Lent) -> String {
     let parts = [
-        first_difference("tables", &kernel.tables, &model.tables),
-        first_difference("fast store", &kernel.fast, &model.fast),
-        first_difference("slow store", &kernel.slow, &model.slow),
-        first_difference("reply buffer", &kernel.out, &model.out),
+        first_difference("tables", BESIDE, &kernel.tables, &model.tables),
+        first_difference("fast store", BESIDE, &kernel.fast, &model.fast),
+        first_difference("slow store", BESIDE, &kernel.slow, &model.slow),
+        first_difference("reply buffer", BESIDE, &kernel.out, &model.out),
     ];
     parts.into_iter().flatten().collect()
 }
 
-fn tally_difference(from: &[u32], kernel: &[u32], model: &[u32]) -> String {
-    if kernel == model {
+pub(crate) fn tally_difference(sides: Sides, from: &[u32], tallies: [&[u32]; 2]) -> String {
+    let ([one, other], [of_one, of_other]) = (sides, tallies);
+    if of_one == of_other {
         return String::new();
     }
-    format!("\n  tally from {from:?}: kernel {kernel:?}, model {model:?}")
+    format!("\n  tally from {from:?}: {one} {of_one:?}, {other} {of_other:?}")
 }
 
-fn first_difference(name: &str, kernel: &[u8], model: &[u8]) -> Option<String> {
-    if kernel == model {
+pub(crate) fn first_difference(
+    name: &str,
+    sides: Sides,
+    of_one: &[u8],
+    of_other: &[u8],
+) -> Option<String> {
+    if of_one == of_other {
         return None;
     }
-    let at = kernel.iter().zip(model).position(|(k, m)| k != m)?;
+    let at = of_one
+        .iter()
+        .zip(of_other)
+        .position(|(one, other)| one != other)?;
     let place = match name {
         "tables" if at >= REGISTER => {
             let (frame, byte) = ((at - REGISTER) / 2, (at - REGISTER) % 2);
@@ -836,9 +835,10 @@ fn first_difference(name: &str, kernel: &[u8], model: &[u8]) -> Option<String> {
         "fast store" | "slow store" => format!("byte {at} (frame {} of it)", at / FRAME),
         _ => format!("byte {at}"),
     };
-    let (kernel, model) = (kernel[at], model[at]);
+    let [one, other] = sides;
     Some(format!(
-        "\n  {name}, {place}: kernel {kernel:02X}, model {model:02X}"
+        "\n  {name}, {place}: {one} {:02X}, {other} {:02X}",
+        of_one[at], of_other[at]
     ))
 }
 
@@ -857,13 +857,15 @@ fn reply_in(out: &[u8]) -> &[u8] {
     }
 }
 
-fn in_words(given: u32, due: u32) -> String {
-    let [given, due] = [given, due].map(|answer| {
-        let (number, length, laid) = (answer % 256, answer / 256 % 256, answer / 65536);
-        let word = WORDS.get(number as usize).unwrap_or(&"unknown");
-        format!("{number} {word}, reply of {length}, {laid} laid")
-    });
-    format!("kernel {given}; model {due}")
+pub(crate) fn answer_difference(sides: Sides, answers: [u32; 2]) -> String {
+    let ([one, other], [by_one, by_other]) = (sides, answers.map(in_words));
+    format!("\n  answer: {one} {by_one}; {other} {by_other}")
+}
+
+fn in_words(answer: u32) -> String {
+    let (number, length, laid) = (answer % 256, answer / 256 % 256, answer / 65536);
+    let word = WORDS.get(number as usize).unwrap_or(&"unknown");
+    format!("{number} {word}, reply of {length}, {laid} laid")
 }
 
 fn place_in_words(place: u32) -> String {
@@ -871,7 +873,7 @@ fn place_in_words(place: u32) -> String {
     format!("{length} bytes from {from} on of store {store}")
 }
 
-fn file_in_words(lent: &Lent, file: &[u8]) -> String {
+pub(crate) fn file_in_words(lent: &Lent, file: &[u8]) -> String {
     format!(
         "a file of {} bytes, {} messages\n  bytes: {}{}",
         file.len(),
@@ -881,7 +883,7 @@ fn file_in_words(lent: &Lent, file: &[u8]) -> String {
     )
 }
 
-fn lent_in_words(lent: &Lent) -> String {
+pub(crate) fn lent_in_words(lent: &Lent) -> String {
     let mut words = format!(
         "\n  lent: tables of {} bytes, stores of {} and {}, a reply buffer of {}",
         lent.tables.len(),

@@ -6,7 +6,7 @@
 //! writer and reader. What they leave open is for these to say: the numbers and their order, and what
 //! is accepted beyond the calls of the ranges and the replies of the kernel.
 
-use crate::compare::LEAST;
+use crate::compare::too_seldom;
 use crate::gen::{self, Moves, Rng};
 use crate::kernel::{Modelled, Stations};
 use crate::model::{
@@ -223,9 +223,7 @@ impl Counts {
 
     /// The cases that came up too seldom.
     pub fn too_few(&self) -> Vec<String> {
-        let few = self.rows().into_iter().filter(|(_, count)| *count < LEAST);
-        few.map(|(word, count)| format!("\"{word}\" came up {count} times only"))
-            .collect()
+        too_seldom(self.rows())
     }
 }
 

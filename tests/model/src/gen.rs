@@ -59,10 +59,13 @@ impl Rng {
         bytes
     }
 
-    fn shuffle<T>(&mut self, items: &mut [T]) {
-        for last in (1..items.len()).rev() {
-            items.swap(last, self.below(last + 1));
+    /// The numbers below `count` in any order.
+    pub fn shuffled(&mut self, count: u8) -> Vec<u8> {
+        let mut numbers: Vec<u8> = (0..count).collect();
+        for last in (1..numbers.len()).rev() {
+            numbers.swap(last, self.below(last + 1));
         }
+        numbers
     }
 }
 
@@ -91,6 +94,21 @@ fn lend(rng: &mut Rng, tables: &Tables) -> Lent {
     }
 }
 
+/// The lent tables, or fresh ones instead of broken ones.
+pub(crate) fn tables_of(lent: &Lent) -> Tables {
+    Tables::from_raw(&lent.tables).unwrap_or_else(|| Tables::fresh(4, 4))
+}
+
+/// A tally to count on in, now and then of a wrong length.
+pub fn tally(rng: &mut Rng) -> Vec<u32> {
+    match rng.below(8) {
+        0 => vec![7; rng.pick(&[0, 1, 2, 4])],
+        1 => (0..3).map(|_| u32::MAX - rng.below(9) as u32).collect(),
+        2 => (0..3).map(|_| rng.below(1 << 32) as u32).collect(),
+        _ => vec![0; 3],
+    }
+}
+
 pub fn fresh(rng: &mut Rng) -> Lent {
     let tables = Tables::fresh(size(rng), size(rng));
     lend(rng, &tables)
@@ -100,8 +118,7 @@ pub fn fresh(rng: &mut Rng) -> Lent {
 /// different bytes.
 pub fn lawful(rng: &mut Rng) -> Lent {
     let mut tables = Tables::fresh(size(rng), size(rng));
-    let mut free: Vec<u8> = (0..tables.frames() as u8).collect();
-    rng.shuffle(&mut free);
+    let mut free = rng.shuffled(tables.frames() as u8);
     let share = rng.within(1, 4);
     for page in &mut tables.pages {
         if rng.within(1, 4) <= share {
@@ -600,6 +617,17 @@ pub fn misfit_tables(rng: &mut Rng, lent: &mut Lent) {
     lent.tables.resize(length, 0);
 }
 
+/// What is lent, with a reply buffer that is too short, with broken tables and with a misfit store.
+pub fn hindered(rng: &mut Rng, lent: &Lent) -> [Lent; 3] {
+    let mut short = lent.clone();
+    short.out.truncate(rng.pick(&SHORT_BUFFERS));
+    let mut broken = lent.clone();
+    broken.tables[0] = MOST_FRAMES + 1;
+    let mut misfit = lent.clone();
+    misfit.fast.pop();
+    [short, broken, misfit]
+}
+
 /// A hindrance of any sort, one that may turn every message back; none on top of tables of a
 /// wrong length.
 pub fn hinder(rng: &mut Rng, lent: &mut Lent) {
@@ -923,16 +951,30 @@ fn written(
     offset: usize,
     count: usize,
 ) -> Vec<u8> {
-    match (rng.below(4), page.current_frames().first()) {
-        (0, Some(&frame)) if stores_fit(tables, lent) => {
-            frame_bytes(tables, &lent.fast, &lent.slow, frame)[offset..][..count].to_vec()
-        }
-        (1, _) => vec![0; count],
+    match rng.below(4) {
+        0 => stored(tables, lent, page, offset, count).unwrap_or_else(|| rng.bytes(count)),
+        1 => vec![0; count],
         _ => rng.bytes(count),
     }
 }
 
-fn stores_fit(tables: &Tables, lent: &Lent) -> bool {
+/// The bytes that stand in a part of a page; None where there are none.
+pub(crate) fn stored(
+    tables: &Tables,
+    lent: &Lent,
+    page: &Page,
+    offset: usize,
+    count: usize,
+) -> Option<Vec<u8>> {
+    let frame = *page.current_frames().first()?;
+    if !stores_fit(tables, lent) {
+        return None;
+    }
+    let held = frame_bytes(tables, &lent.fast, &lent.slow, frame);
+    held.get(offset..offset + count).map(<[u8]>::to_vec)
+}
+
+pub(crate) fn stores_fit(tables: &Tables, lent: &Lent) -> bool {
     lent.fast.len() == FRAME * usize::from(tables.fast)
         && lent.slow.len() == FRAME * usize::from(tables.slow)
 }
@@ -1083,12 +1125,9 @@ pub fn roomy(rng: &mut Rng) -> Lent {
 /// every number that a message gets on sound tables with a reply buffer that serves; pages, stations,
 /// frames and bytes are drawn.
 pub fn deep_file(rng: &mut Rng, fast: u8, slow: u8) -> Vec<u8> {
-    let mut pages: Vec<u8> = (0..PAGES as u8).collect();
-    let mut stations: Vec<u8> = (0..STATIONS as u8).collect();
-    let mut frames: Vec<u8> = (0..fast + slow).collect();
-    rng.shuffle(&mut pages);
-    rng.shuffle(&mut stations);
-    rng.shuffle(&mut frames);
+    let pages = rng.shuffled(PAGES as u8);
+    let stations = rng.shuffled(STATIONS as u8);
+    let mut frames = rng.shuffled(fast + slow);
     // A fast frame comes first and a slow one second.
     frames.sort_by_key(|&frame| frame >= fast);
     frames.swap(1, usize::from(fast));

@@ -1,5 +1,6 @@
-//! An independent model of the reel page kernel, written from document 01 and requests [2], [4]
-//! and [5] of document 02 alone, and the comparison of the kernel with it.
+//! An independent model of the reel page kernel, written from document 01 and requests [2], [4],
+//! [5] and [6] of document 02 alone, and the comparison of the kernel with it; and the promise of
+//! request [7], for which the kernel is compared with itself.
 
 pub mod cases;
 pub mod clean;
@@ -8,6 +9,7 @@ pub mod exchange;
 pub mod flat;
 pub mod frames;
 pub mod gen;
+pub mod hidden;
 pub mod kernel;
 pub mod model;
 pub mod stations;

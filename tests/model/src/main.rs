@@ -1,13 +1,16 @@
-//! `compare [--seed N] [--messages N]`: compares the kernel with the model.
+//! `compare [--seed N] [--messages N]`: compares the kernel with the model, and pairs of its runs.
 
 use model::compare::compare;
 use model::exchange;
+use model::hidden;
 use model::kernel::Embedded;
 use reel::words::WORDS;
 use std::process::ExitCode;
 
 const SEED: u64 = 1;
 const MESSAGES: u64 = 1_000_000;
+/// For so many messages that are compared with the model, one is in a pair of files.
+const PER_PAIRED: u64 = 4;
 
 /// The seed and the number of messages.
 fn arguments(mut given: impl Iterator<Item = String>) -> Option<(u64, u64)> {
@@ -32,9 +35,10 @@ fn main() -> ExitCode {
     let exchange = exchange::compare(&Embedded, seed).map_err(|difference| difference.to_string());
     let compared = exchange.and_then(|exchange| {
         let counts = compare(&Embedded, seed, messages)?;
-        Ok((exchange, counts))
+        let hidden = hidden::check(&Embedded, seed, messages / PER_PAIRED)?;
+        Ok((exchange, counts, hidden))
     });
-    let (exchange, counts) = match compared {
+    let (exchange, counts, hidden) = match compared {
         Ok(counts) => counts,
         Err(difference) => {
             println!("compare: MISMATCH, seed {seed}\n{difference}");
@@ -44,7 +48,7 @@ fn main() -> ExitCode {
     for (number, (count, word)) in counts.numbers.iter().zip(WORDS).enumerate() {
         println!("{number:4} {word:33} {count:9}");
     }
-    for (count, reached) in counts.reached() {
+    for (reached, count) in counts.reached() {
         println!("     {reached:33} {count:9}");
     }
     println!(
@@ -60,7 +64,14 @@ fn main() -> ExitCode {
          again and {} replies read back",
         exchange.calls, exchange.replies, counts.turns.written_again, counts.turns.read_back
     );
-    let too_few = [counts.too_few(), exchange.too_few()].concat();
+    for (reached, count) in hidden.reached() {
+        println!("     {reached:33} {count:9}");
+    }
+    println!(
+        "{} pairs of files that differ in contents alone, {} messages in each of the two runs",
+        hidden.pairs, hidden.messages
+    );
+    let too_few = [counts.too_few(), exchange.too_few(), hidden.too_few()].concat();
     if !too_few.is_empty() {
         println!("compare: TOO FEW, seed {seed}\n{}", too_few.join("\n"));
         return ExitCode::FAILURE;
