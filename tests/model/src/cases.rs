@@ -1,10 +1,10 @@
 //! The cases of document 01 as call files, each with the whole list of its replies: the worked example, the starred
 //! cases on its end state, for each trap and impostor a file whose replies it gets wrong, and borders that these leave
 //! out. Station 4's read among the starred cases is accepted, as request [6] of document 02 has it. Then the pairs of
-//! right and act of its request [3] and the rights of new pages of its request [6], the pages that are closed by grants
-//! of right 0, the deletes of its request [2] and the retired frames of its request [5], the last three each also with
-//! the bytes that it leaves in the stores. Last the calls and the replies of its request [4]: the worked example's, and
-//! such as are refused or just not.
+//! right and act of its request [3], the rights of new pages of its request [6] and the pairs of files of its request
+//! [7], the pages that are closed by grants of right 0, the deletes of its request [2] and the retired frames of its
+//! request [5], the last three each also with the bytes that it leaves in the stores. Last the calls and the replies of
+//! its request [4]: the worked example's, and such as are refused or just not.
 
 use crate::kernel::Kernel;
 use crate::model::{frame_bytes, Lent, Reader, Tables, Tally, FRAME, LEAST_BUFFER, PROGRAM_FRAMES};
@@ -19,6 +19,16 @@ pub struct Case {
     pub calls: &'static [&'static str],
     /// Their replies, in hexadecimal.
     pub replies: &'static [&'static str],
+}
+
+/// The 64 bytes of a whole page.
+macro_rules! whole_page {
+    () => {
+        "40 41 42 43 44 45 46 47 48 49 4A 4B 4C 4D 4E 4F \
+         50 51 52 53 54 55 56 57 58 59 5A 5B 5C 5D 5E 5F \
+         60 61 62 63 64 65 66 67 68 69 6A 6B 6C 6D 6E 6F \
+         70 71 72 73 74 75 76 77 78 79 7A 7B 7C 7D 7E 7F"
+    };
 }
 
 /// The calls of the worked example, and their replies.
@@ -310,6 +320,138 @@ pub const CREATES: [Case; 9] = [
     },
 ];
 
+/// "Contents stay hidden from placement", request [7] of document 02: two files of the same
+/// messages whose writes carry other bytes, and the name of the wrong kernel that such a pair
+/// exposes. Only the data of reads differ.
+pub const HIDDEN: [[Case; 2]; 7] = [
+    [
+        Case {
+            name: "stale marks spared when equal bytes are written",
+            calls: &[
+                "copy 5 0 6",
+                "write 3 5 0 41 37",
+                "look-page 5",
+                "current 5 1",
+                "read 3 5 0 2",
+            ],
+            replies: &[ONE_FRAME, TWO_BYTES, SECOND_STALE, STALE, EXAMPLE_BYTES],
+        },
+        Case {
+            name: "the same with other bytes",
+            calls: &[
+                "copy 5 0 6",
+                "write 3 5 0 42 38",
+                "look-page 5",
+                "current 5 1",
+                "read 3 5 0 2",
+            ],
+            replies: &[
+                ONE_FRAME,
+                TWO_BYTES,
+                SECOND_STALE,
+                STALE,
+                "00 06 01 00 00 00 42 38",
+            ],
+        },
+    ],
+    [
+        Case {
+            name: "a copy of zeros lays nothing",
+            calls: &["write 3 5 0 00 00", "copy 5 0 6", "read 3 5 0 2"],
+            replies: &[TWO_BYTES, ONE_FRAME, "00 06 01 00 00 00 00 00"],
+        },
+        Case {
+            name: "a copy of a page that is not zeros",
+            calls: &["write 3 5 0 00 01", "copy 5 0 6", "read 3 5 0 2"],
+            replies: &[TWO_BYTES, ONE_FRAME, "00 06 01 00 00 00 00 01"],
+        },
+    ],
+    [
+        Case {
+            name: "a frame that was all zeros not counted",
+            calls: &[
+                "write 3 5 0 00 00",
+                "copy 5 0 6",
+                "delete-copy 5 1",
+                "delete-page 3 5",
+            ],
+            replies: &[TWO_BYTES, ONE_FRAME, ONE_FRAME, ONE_FRAME],
+        },
+        Case {
+            name: "frames that were not zeros",
+            calls: &[
+                "write 3 5 0 00 01",
+                "copy 5 0 6",
+                "delete-copy 5 1",
+                "delete-page 3 5",
+            ],
+            replies: &[TWO_BYTES, ONE_FRAME, ONE_FRAME, ONE_FRAME],
+        },
+    ],
+    [
+        Case {
+            name: "a stale copy with the CURRENT copy's bytes shown as MOST RECENT",
+            calls: &["copy 5 0 6", "write 3 5 1 37", "look-page 5"],
+            replies: &[ONE_FRAME, "00 04 01 00 00 01", SECOND_STALE],
+        },
+        Case {
+            name: "a stale copy with other bytes",
+            calls: &["copy 5 0 6", "write 3 5 1 38", "look-page 5"],
+            replies: &[ONE_FRAME, "00 04 01 00 00 01", SECOND_STALE],
+        },
+    ],
+    [
+        Case {
+            name: "a tally of the bytes that change",
+            calls: &["write 3 5 0 41 37"],
+            replies: &[TWO_BYTES],
+        },
+        Case {
+            name: "a write that changes one of two bytes",
+            calls: &["write 3 5 0 41 38"],
+            replies: &[TWO_BYTES],
+        },
+    ],
+    [
+        Case {
+            name: "a byte of a write refused 10 told in its reply",
+            calls: &["write 4 5 0 01 02 03"],
+            replies: &[NO_RIGHT],
+        },
+        Case {
+            name: "the same write with other bytes",
+            calls: &["write 4 5 0 04 05 06"],
+            replies: &[NO_RIGHT],
+        },
+    ],
+    [
+        Case {
+            name: "a byte of a write refused 4 told in its reply",
+            calls: &[
+                concat!("raw 00 46 01 05 03 05 00 80 ", whole_page!()),
+                "raw 00 08 01 05 03 05 00 01",
+            ],
+            replies: &[WRONG_LENGTH, CUT],
+        },
+        Case {
+            name: "a write too long by a byte, and one cut short, with other bytes",
+            calls: &[
+                concat!("raw 00 46 01 05 03 05 00 81 ", whole_page!()),
+                "raw 00 08 01 05 03 05 00 02",
+            ],
+            replies: &[WRONG_LENGTH, CUT],
+        },
+    ],
+];
+
+/// Accepted, two bytes laid.
+const TWO_BYTES: &str = "00 04 01 00 00 02";
+/// A look at page 5 with a CURRENT copy on frame 0 and a stale one on frame 6.
+const SECOND_STALE: &str = "00 0B 01 00 00 00 02 00 01 01 06 00 00";
+const STALE: &str = "00 04 01 10 00 00";
+const WRONG_LENGTH: &str = "00 04 01 04 00 00";
+const CUT: &str = "00 04 01 01 00 00";
+
 /// Borders that the starred cases leave out: accepted without change, and for each two numbers that
 /// can both apply which comes first. The page of the worked example is page 5, of station 3.
 pub const BORDERS: [Case; 18] = [
@@ -489,16 +631,6 @@ const FIRST: &str = "first";
 const ZEROS: &str = "";
 /// The worked example's page 5.
 const PAGE: &str = "41 37";
-
-/// The 64 bytes of a whole page.
-macro_rules! whole_page {
-    () => {
-        "40 41 42 43 44 45 46 47 48 49 4A 4B 4C 4D 4E 4F \
-         50 51 52 53 54 55 56 57 58 59 5A 5B 5C 5D 5E 5F \
-         60 61 62 63 64 65 66 67 68 69 6A 6B 6C 6D 6E 6F \
-         70 71 72 73 74 75 76 77 78 79 7A 7B 7C 7D 7E 7F"
-    };
-}
 
 /// As many bytes laid as a write can lay.
 pub const WIDEST: StoreCase = StoreCase {

@@ -1,13 +1,15 @@
 //! The cases of document 01, on the kernel and on the model: the worked example, the starred cases,
 //! the traps, the impostors and the order of the refusals; and of document 02 the pairs of right
-//! and act of request [3], the deletes of request [2], the retired frames of request [5] and the
-//! rights of new pages of request [6].
+//! and act of request [3], the deletes of request [2], the retired frames of request [5], the
+//! rights of new pages of request [6] and the pairs of files of request [7].
 
 use ::model::cases::{
     bytes, example, in_parts, one_by_one, unit, Case, Served, StoreCase, BORDERS, CALLS, CLOSINGS,
-    CREATES, DELETES, EXPOSING, PAIRS, REPLIES, RETIRES, RETIRES_ON_SHAPED, STARRED, WIDEST,
+    CREATES, DELETES, EXPOSING, HIDDEN, PAIRS, REPLIES, RETIRES, RETIRES_ON_SHAPED, STARRED,
+    WIDEST,
 };
 use ::model::gen::{self, Rng, DAMAGES};
+use ::model::hidden;
 use ::model::kernel::{Embedded, Kernel, Modelled};
 use ::model::model::{
     self, frame_bytes, program, Call, Lent, Reader, Tables, FRAME, FREE_ENTRY, KINDS, LEAST_BUFFER,
@@ -158,6 +160,26 @@ fn borders() {
 fn pairs_of_right_and_act() {
     for kernel in BOTH {
         PAIRS.iter().for_each(|case| check(kernel, case));
+    }
+}
+
+/// Two files that differ in what their writes carry: the whole list of each one's replies, and that
+/// these and all else that placement sees differ in the data of reads alone.
+#[test]
+fn contents_are_hidden() {
+    let unit = unit(LEAST_BUFFER);
+    let other = Lent {
+        fast: vec![0; unit.fast.len()],
+        ..unit.clone()
+    };
+    for kernel in BOTH {
+        for pair in &HIDDEN {
+            pair.iter().for_each(|case| check(kernel, case));
+            let [one, other_file] = pair.each_ref().map(Case::file);
+            let starts = [unit.clone(), other.clone()];
+            let checked = hidden::check_files(kernel, starts, [&one, &other_file]);
+            assert_eq!(checked, Ok(()), "{}", pair[0].name);
+        }
     }
 }
 

@@ -2,13 +2,15 @@
 //! model with one flaw.
 
 use ::model::cases::{
-    bytes, in_parts, StoreCase, CREATES, DELETES, EXPOSING, PAIRS, RETIRES, RETIRES_ON_SHAPED,
+    bytes, in_parts, unit, Case, StoreCase, CREATES, DELETES, EXPOSING, HIDDEN, PAIRS, RETIRES,
+    RETIRES_ON_SHAPED,
 };
 use ::model::clean::Clean;
 use ::model::compare::compare;
 use ::model::flat::Demand3;
 use ::model::frames::Frames;
 use ::model::gen::{self, Moves, Rng};
+use ::model::hidden::{self, carried};
 use ::model::kernel::{packed, Embedded, Kernel, Modelled, Stations};
 use ::model::model::{
     self, frame_bytes, Answer, Call, Lent, Page, PageCopy, Reached, Reader, Tables, ENTRIES, FRAME,
@@ -19,6 +21,7 @@ use reel::words::hex;
 
 /// One message answered by the model, to be spoiled.
 struct Turn<'a> {
+    message: &'a [u8],
     call: Option<Call>,
     before: &'a Lent,
     after: &'a mut Lent,
@@ -34,12 +37,12 @@ enum Flaw {
     Mend(fn(&mut [u8])),
     /// Takes this much of a file.
     File(fn(&[u8]) -> usize),
-    /// Counts in its own way.
-    Tally(fn(&mut [u32], Answer)),
+    /// Counts in its own way, by what a message found and left too.
+    Tally(fn(&mut [u32], Answer, [&Lent; 2])),
     /// Spoils fresh tables of too many frames.
     Fresh(fn(&mut [u8]) -> u8),
-    /// Spoils the tables that a run leaves.
-    Run(fn(&mut [u8])),
+    /// Spoils what a run leaves.
+    Run(fn(&mut Lent)),
     /// Keeps replies while so many bytes of the buffer are left.
     Least(usize),
     /// Keeps the replies of a file in its own way.
@@ -78,11 +81,10 @@ impl Kernel for Mutant {
 
     fn run(&self, lent: &mut Lent, file: &[u8], tally: &mut [u32]) {
         for message in Reader::new(self.taken(file)) {
-            let answer = self.turn(lent, message);
-            self.count(tally, answer);
+            self.counted_turn(lent, message, tally);
         }
         if let Flaw::Run(spoil) = self.0 {
-            spoil(&mut lent.tables);
+            spoil(lent);
         }
     }
 
@@ -118,9 +120,13 @@ impl Mutant {
         }
     }
 
-    fn count(&self, tally: &mut [u32], answer: Answer) {
+    fn counted_turn(&self, lent: &mut Lent, message: &[u8], tally: &mut [u32]) -> Answer {
+        let before = lent.clone();
+        let answer = self.turn(lent, message);
         match (&self.0, tally) {
-            (Flaw::Tally(count), tally) if tally.len() == 3 => count(tally, answer),
+            (Flaw::Tally(count), tally) if tally.len() == 3 => {
+                count(tally, answer, [&before, lent])
+            }
             (_, [messages, refusals, laid]) => {
                 *messages = messages.saturating_add(1);
                 *refusals = refusals.saturating_add((answer.number != 0).into());
@@ -128,6 +134,7 @@ impl Mutant {
             }
             _ => {}
         }
+        answer
     }
 
     /// A part that goes on while so many bytes of the buffer are left; a message that finds fewer
@@ -147,9 +154,8 @@ impl Mutant {
                 break;
             }
             lent.out = filled.split_off(reached.used);
-            let answer = self.turn(lent, message);
+            let answer = self.counted_turn(lent, message, tally);
             filled.append(&mut lent.out);
-            self.count(tally, answer);
             reached.at += message.len();
             reached.used += answer.length;
         }
@@ -180,6 +186,7 @@ impl Mutant {
             Flaw::Answer(spoil) => {
                 let mut answer = model::answer(lent, message);
                 spoil(&mut Turn {
+                    message,
                     call: Call::decode(message).ok(),
                     before: &before,
                     after: lent,
@@ -192,7 +199,7 @@ impl Mutant {
     }
 }
 
-impl Turn<'_> {
+impl<'a> Turn<'a> {
     /// The page of the call as it was before, if the call was accepted.
     fn accepted_page(&self) -> Option<(usize, Page)> {
         let page = match self.call.as_ref()? {
@@ -260,10 +267,69 @@ impl Turn<'_> {
     /// States other bytes laid in the reply to an accepted delete, and counts them.
     fn state_laid(&mut self, laid: usize) {
         if !self.gone().is_empty() {
-            let [high, low] = (laid as u16).to_be_bytes();
-            self.reply(&[0, 4, 1, 0, high, low]);
-            self.answer.laid = laid;
+            self.accept_laying(laid);
         }
+    }
+
+    fn accept_laying(&mut self, laid: usize) {
+        let [high, low] = (laid as u16).to_be_bytes();
+        self.reply(&[0, 4, 1, 0, high, low]);
+        self.answer.number = 0;
+        self.answer.laid = laid;
+    }
+
+    /// The frame of an accepted make copy's source, unless that is a null copy; and the frame
+    /// copied to.
+    fn copies(&self) -> Option<[u8; 2]> {
+        let (Some(Call::MakeCopy { copy, frame, .. }), Some((_, page))) =
+            (&self.call, self.accepted_page())
+        else {
+            return None;
+        };
+        Some([page.copies[usize::from(*copy)].frame?, *frame])
+    }
+
+    /// The number and the record of the page that an accepted look was at.
+    fn looks_at(&self) -> Option<(usize, Page)> {
+        let is_look = matches!(self.call, Some(Call::LookPage { .. }));
+        self.accepted_page().filter(|_| is_look)
+    }
+
+    /// The same of an accepted write.
+    fn writes(&self) -> Option<(usize, Page)> {
+        let is_write = matches!(self.call, Some(Call::Write { .. }));
+        self.accepted_page().filter(|_| is_write)
+    }
+
+    /// A refused write's first byte in its reply.
+    fn tell_carried(&mut self, refusal: u8) {
+        if let (true, Some(&byte)) = (self.answer.number == refusal, carried(self.message).first())
+        {
+            self.after.out[5] = byte;
+        }
+    }
+
+    /// Whether the last byte that a message carries as a write is odd.
+    fn carries_odd(&self) -> bool {
+        carried(self.message)
+            .last()
+            .is_some_and(|byte| byte % 2 == 1)
+    }
+
+    /// Whether the first byte of a store is odd.
+    fn holds_odd(&self) -> bool {
+        let mut bytes = self.before.fast.iter().chain(&self.before.slow);
+        bytes.next().is_some_and(|byte| byte % 2 == 1)
+    }
+
+    /// The bytes that a frame had before.
+    fn held(&self, frame: u8) -> &'a [u8] {
+        let tables = self.tables_before();
+        frame_bytes(&tables, &self.before.fast, &self.before.slow, frame)
+    }
+
+    fn held_zeros(&self, frame: u8) -> bool {
+        self.held(frame) == [0; FRAME]
     }
 
     /// The frame of a retire, by the number that it got.
@@ -366,9 +432,8 @@ impl Turn<'_> {
 
     /// Puts back the bytes that a frame had before.
     fn put_back(&mut self, frame: u8) {
-        let tables = Tables::from_raw(&self.before.tables).expect("lawful tables");
-        let old = frame_bytes(&tables, &self.before.fast, &self.before.slow, frame).to_vec();
-        self.lay(&tables, frame, &old);
+        let tables = self.tables_before();
+        self.lay(&tables, frame, self.held(frame));
     }
 
     fn lay(&mut self, tables: &Tables, frame: u8, bytes: &[u8]) {
@@ -1023,7 +1088,10 @@ const MUTANTS: [(&str, Flaw); 84] = [
             }
         }),
     ),
-    ("a run puts marks back as 1", Flaw::Run(even_marks)),
+    (
+        "a run puts marks back as 1",
+        Flaw::Run(|lent| even_marks(&mut lent.tables)),
+    ),
     ("a wrong register let pass", Flaw::Mend(gen::register_anew)),
     (
         "a free frame's entry let pass",
@@ -1057,7 +1125,7 @@ const MUTANTS: [(&str, Flaw); 84] = [
     ),
     (
         "a tally that wraps",
-        Flaw::Tally(|tally, answer| {
+        Flaw::Tally(|tally, answer, _| {
             tally[0] = tally[0].wrapping_add(1);
             tally[1] = tally[1].wrapping_add((answer.number != 0).into());
             tally[2] = tally[2].wrapping_add(answer.laid as u32);
@@ -1065,7 +1133,7 @@ const MUTANTS: [(&str, Flaw); 84] = [
     ),
     (
         "short buffers not counted",
-        Flaw::Tally(|tally, answer| {
+        Flaw::Tally(|tally, answer, _| {
             if answer.number != 18 {
                 tally[0] = tally[0].saturating_add(1);
                 tally[1] = tally[1].saturating_add((answer.number != 0).into());
@@ -1075,7 +1143,7 @@ const MUTANTS: [(&str, Flaw); 84] = [
     ),
     (
         "a tally stopped one by one, bytes laid all or nothing",
-        Flaw::Tally(|tally, answer| {
+        Flaw::Tally(|tally, answer, _| {
             tally[0] = tally[0].saturating_add(1);
             tally[1] = tally[1].saturating_add((answer.number != 0).into());
             tally[2] = tally[2].checked_add(answer.laid as u32).unwrap_or(tally[2]);
@@ -1744,7 +1812,7 @@ const WRONG_STATES: [(&str, Flaw); 4] = [
     ),
     (
         "a run leaves no frame retired",
-        Flaw::Run(|tables| unretire(tables, 0)),
+        Flaw::Run(|lent| unretire(&mut lent.tables, 0)),
     ),
     (
         "tables of too many frames with every frame retired",
@@ -1757,10 +1825,423 @@ const WRONG_STATES: [(&str, Flaw); 4] = [
     ),
 ];
 
+/// Contents shown to placement, request [7] of document 02: in a number, a reply, what lies behind
+/// it, a length, the tables, the tally or the place that a run reaches.
+const LEAKS: [(&str, Flaw); 32] = [
+    // Bytes laid.
+    (
+        "a copy of zeros lays nothing",
+        Flaw::Answer(|turn| {
+            if let Some([source, _]) = turn.copies() {
+                if turn.held_zeros(source) {
+                    turn.accept_laying(0);
+                }
+            }
+        }),
+    ),
+    (
+        "a copy to a frame that has the bytes already lays nothing",
+        Flaw::Answer(|turn| {
+            if let Some([source, frame]) = turn.copies() {
+                if turn.held(source) == turn.held(frame) {
+                    turn.accept_laying(0);
+                }
+            }
+        }),
+    ),
+    (
+        "the bytes of a write that change counted as laid",
+        Flaw::Answer(|turn| {
+            if turn.writes().is_some() {
+                turn.accept_laying(changed(turn.before, turn.after));
+            }
+        }),
+    ),
+    // The tables.
+    (
+        "a new copy of zeros is stale",
+        Flaw::Answer(|turn| {
+            let (Some([source, _]), Some((number, _))) = (turn.copies(), turn.accepted_page())
+            else {
+                return;
+            };
+            if turn.held_zeros(source) {
+                turn.change_page(number, |page| {
+                    page.copies.last_mut().expect("a copy").recent = false;
+                });
+            }
+        }),
+    ),
+    (
+        "a page of zeros has a null copy again",
+        Flaw::Answer(|turn| {
+            if let Some((number, page)) = turn.writes() {
+                let tables = turn.tables_before();
+                let Lent { fast, slow, .. } = &*turn.after;
+                let frames = page.current_frames();
+                if frame_bytes(&tables, fast, slow, frames[0]) == [0; FRAME] {
+                    turn.change_page(number, |page| {
+                        page.copies = vec![PageCopy {
+                            frame: None,
+                            current: false,
+                            recent: true,
+                        }];
+                    });
+                }
+            }
+        }),
+    ),
+    (
+        "a write's first byte in the rights of the page",
+        Flaw::Answer(|turn| {
+            if let Some((number, _)) = turn.writes() {
+                let right = carried(turn.message)[0] % 3;
+                turn.change_page(number, |page| page.rights[15] = right);
+            }
+        }),
+    ),
+    (
+        "a stale copy with the CURRENT copy's bytes set current",
+        Flaw::Answer(|turn| {
+            let (Some(Call::SetCurrent { page, copy }), 16) = (&turn.call, turn.answer.number)
+            else {
+                return;
+            };
+            let (number, copy) = (usize::from(*page), usize::from(*copy));
+            let tables = turn.tables_before();
+            let page = tables.pages[number].as_ref().expect("a page");
+            let (current, stale) = (page.current_frames(), page.copies[copy].frame);
+            if let (Some(&current), Some(stale)) = (current.first(), stale) {
+                if turn.held(current) == turn.held(stale) {
+                    turn.change_page(number, |page| {
+                        (page.copies[copy].current, page.copies[copy].recent) = (true, true);
+                    });
+                    turn.accept_laying(0);
+                }
+            }
+        }),
+    ),
+    // Numbers.
+    (
+        "a MOST RECENT copy with other bytes than the CURRENT one refused as stale",
+        Flaw::Answer(|turn| {
+            let (Some(Call::SetCurrent { copy, .. }), Some((_, page))) =
+                (&turn.call, turn.accepted_page())
+            else {
+                return;
+            };
+            let set = page.copies[usize::from(*copy)].frame;
+            if let (Some(&current), Some(set)) = (page.current_frames().first(), set) {
+                if turn.held(current) != turn.held(set) {
+                    turn.refuse(16);
+                }
+            }
+        }),
+    ),
+    (
+        "a frame that is not zeros not copied to",
+        Flaw::Answer(|turn| {
+            if let Some([_, frame]) = turn.copies() {
+                if !turn.held_zeros(frame) {
+                    turn.refuse(13);
+                }
+            }
+        }),
+    ),
+    (
+        "a frame that is not zeros not retired",
+        Flaw::Answer(|turn| {
+            if let Some(frame) = turn.retires(0) {
+                if !turn.held_zeros(frame) {
+                    turn.refuse(13);
+                }
+            }
+        }),
+    ),
+    (
+        "a copy whose bytes no other copy has not deleted",
+        Flaw::Answer(|turn| {
+            let (Some(Call::DeleteCopy { copy, .. }), Some((_, page))) =
+                (&turn.call, turn.accepted_page())
+            else {
+                return;
+            };
+            let held = |copy: &PageCopy| copy.frame.map(|frame| turn.held(frame).to_vec());
+            let gone = held(&page.copies[usize::from(*copy)]);
+            let with_them = page.copies.iter().filter(|copy| held(copy) == gone);
+            if with_them.count() == 1 {
+                turn.refuse(15);
+            }
+        }),
+    ),
+    (
+        "a page of zeros not deleted",
+        Flaw::Answer(|turn| {
+            if let Some(Call::DeletePage { .. }) = turn.call {
+                let frames: Vec<u8> = turn.gone().iter().filter_map(|copy| copy.frame).collect();
+                if !frames.is_empty() && frames.iter().all(|&frame| turn.held_zeros(frame)) {
+                    turn.refuse(10);
+                }
+            }
+        }),
+    ),
+    (
+        "a write of zeros refused",
+        Flaw::Answer(|turn| {
+            if turn.writes().is_some() && carried(turn.message).iter().all(|&byte| byte == 0) {
+                turn.refuse(7);
+            }
+        }),
+    ),
+    (
+        "a write refused 4 or 7 by its last byte",
+        Flaw::Answer(|turn| {
+            if turn.carries_odd() {
+                turn.swap(4, 7);
+            }
+        }),
+    ),
+    (
+        "a short buffer refused 18 or 4 by a write's last byte",
+        Flaw::Answer(|turn| {
+            if turn.answer.number == 18 && turn.carries_odd() {
+                turn.answer.number = 4;
+            }
+        }),
+    ),
+    (
+        "misfit stores refused 6 or 7 by a stored byte",
+        Flaw::Answer(|turn| {
+            if turn.holds_odd() {
+                turn.swap(6, 7);
+            }
+        }),
+    ),
+    (
+        "broken tables refused 5 or 6 by a stored byte",
+        Flaw::Answer(|turn| {
+            if turn.holds_odd() {
+                turn.swap(5, 6);
+            }
+        }),
+    ),
+    // Replies.
+    (
+        "a byte of a write refused 4 told in its reply",
+        Flaw::Answer(|turn| turn.tell_carried(4)),
+    ),
+    (
+        "a byte of a write refused 10 told in its reply",
+        Flaw::Answer(|turn| turn.tell_carried(10)),
+    ),
+    (
+        "a byte of a write cut short told in its reply",
+        Flaw::Answer(|turn| turn.tell_carried(1)),
+    ),
+    (
+        "a stored byte told in the reply to a grant",
+        Flaw::Answer(|turn| {
+            if let (Some(Call::Grant { .. }), Some((_, page))) = (&turn.call, turn.accepted_page())
+            {
+                if let Some(frame) = page.copies[0].frame {
+                    turn.after.out[5] = turn.held(frame)[0];
+                }
+            }
+        }),
+    ),
+    (
+        "a stored byte laid behind the reply to a read refused 11",
+        Flaw::Answer(|turn| {
+            let (Some(Call::Read { page, .. }), 11) = (&turn.call, turn.answer.number) else {
+                return;
+            };
+            let tables = turn.tables_before();
+            let page = tables.pages[usize::from(*page)].as_ref().expect("a page");
+            if let Some(frame) = page.copies[0].frame {
+                turn.after.out[6] = turn.held(frame)[0];
+            }
+        }),
+    ),
+    (
+        "a stale copy with the CURRENT copy's bytes shown as MOST RECENT",
+        Flaw::Answer(|turn| {
+            let Some((_, page)) = turn.looks_at() else {
+                return;
+            };
+            let Some(&current) = page.current_frames().first() else {
+                return;
+            };
+            for (number, copy) in page.copies.iter().enumerate() {
+                let frame = copy.frame.expect("a frame beside a CURRENT copy");
+                if turn.held(frame) == turn.held(current) {
+                    turn.after.out[7 + 3 * number + 2] = 1;
+                }
+            }
+        }),
+    ),
+    (
+        "a look at a page a byte longer where its first two copies are equal",
+        Flaw::Answer(|turn| {
+            let frames = turn.looks_at().map(|(_, page)| page.copies);
+            let frames: Vec<u8> = frames
+                .iter()
+                .flatten()
+                .filter_map(|copy| copy.frame)
+                .collect();
+            if let [one, other, ..] = frames[..] {
+                if turn.held(one) == turn.held(other) {
+                    let mut reply = turn.after.out[..turn.answer.length].to_vec();
+                    reply[1] += 1;
+                    reply.push(1);
+                    turn.reply(&reply);
+                }
+            }
+        }),
+    ),
+    (
+        "a free frame of zeros shown as another",
+        Flaw::Answer(|turn| {
+            if let (Some(Call::LookFrame { frame }), 0) = (&turn.call, turn.answer.number) {
+                if turn.tables_before().is_free(*frame) && turn.held_zeros(*frame) {
+                    turn.after.out[7] = 0;
+                }
+            }
+        }),
+    ),
+    (
+        "a read of zeros told without its data",
+        Flaw::Answer(|turn| {
+            if let (Some(Call::Read { .. }), 0) = (&turn.call, turn.answer.number) {
+                if turn.after.out[6..turn.answer.length]
+                    .iter()
+                    .all(|&byte| byte == 0)
+                {
+                    turn.accept_laying(0);
+                }
+            }
+        }),
+    ),
+    (
+        "a read tells as laid its first byte",
+        Flaw::Answer(|turn| {
+            if let (Some(Call::Read { .. }), 0) = (&turn.call, turn.answer.number) {
+                turn.after.out[5] = turn.after.out[6];
+            }
+        }),
+    ),
+    // Runs.
+    (
+        "a tally of the bytes that change",
+        Flaw::Tally(|tally, answer, [before, after]| {
+            tally[0] = tally[0].saturating_add(1);
+            tally[1] = tally[1].saturating_add((answer.number != 0).into());
+            tally[2] = tally[2].saturating_add(changed(before, after) as u32);
+        }),
+    ),
+    (
+        "a message that lays the bytes that stand there counted as refused",
+        Flaw::Tally(|tally, answer, [before, after]| {
+            let is_idle = answer.laid > 0 && changed(before, after) == 0;
+            tally[0] = tally[0].saturating_add(1);
+            tally[1] = tally[1].saturating_add((answer.number != 0 || is_idle).into());
+            tally[2] = tally[2].saturating_add(answer.laid as u32);
+        }),
+    ),
+    (
+        "a stored byte told in the last reply of a run",
+        Flaw::Run(|lent| {
+            if let (Some(told), Some(&byte)) = (lent.out.get_mut(5), lent.fast.first()) {
+                *told = byte;
+            }
+        }),
+    ),
+    (
+        "a run ends behind a write of a zero",
+        Flaw::File(|file| behind_zero(file, 0)),
+    ),
+    (
+        "a part ends behind a write of a zero",
+        Flaw::Replies(|lent, file, at, tally| {
+            Modelled.replies(lent, &file[..behind_zero(file, at)], at, tally)
+        }),
+    ),
+];
+
+/// How many bytes of the stores differ.
+fn changed(before: &Lent, after: &Lent) -> usize {
+    let bytes = |lent: &Lent| [&lent.fast[..], &lent.slow].concat();
+    let (before, after) = (bytes(before), bytes(after));
+    before.iter().zip(after).filter(|(b, a)| *b != a).count()
+}
+
+/// From a place on, the end of the first write whose first byte is 0, or of the file.
+fn behind_zero(file: &[u8], mut at: usize) -> usize {
+    for message in Reader::at(file, at) {
+        at += message.len();
+        if carried(message).first() == Some(&0) {
+            return at;
+        }
+    }
+    file.len()
+}
+
+/// 5 on sound tables, alike whatever the contents are.
+const FIVES: [(&str, Flaw); 6] = [
+    (
+        "5 for a page that does not stand where none does",
+        Flaw::Answer(|turn| {
+            if turn.answer.number == 9 && turn.tables_before().copies().count() == 0 {
+                turn.refuse(5);
+            }
+        }),
+    ),
+    (
+        "5 where no frame is free",
+        Flaw::Answer(|turn| {
+            if turn.answer.number == 13 {
+                let tables = turn.tables_before();
+                let held = tables.copies().filter(|(_, _, copy)| copy.frame.is_some());
+                if held.count() == tables.frames() {
+                    turn.refuse(5);
+                }
+            }
+        }),
+    ),
+    (
+        "5 for a retired frame",
+        Flaw::Answer(|turn| turn.swap(20, 5)),
+    ),
+    ("5 for misfit stores", Flaw::Answer(|turn| turn.swap(6, 5))),
+    (
+        "5 in the last reply of a run whose file is cut short",
+        Flaw::Run(|lent| {
+            if lent.out.get(..4) == Some(&[0, 4, 1, 1]) {
+                lent.out[3] = 5;
+            }
+        }),
+    ),
+    (
+        "5 in the parts of a run for a page that stands",
+        Flaw::Replies(|lent, file, at, tally| {
+            let reached = Modelled.replies(lent, file, at, tally);
+            let mut at = 0;
+            while at < reached.used {
+                let reply = &mut lent.out[at..];
+                if reply[3] == 8 {
+                    reply[3] = 5;
+                }
+                at += 2 + usize::from(reply[1]);
+            }
+            reached
+        }),
+    ),
+];
+
 fn mutants() -> impl Iterator<Item = (&'static str, Flaw)> {
     let of_document_2 = WRONG_PAIRS.into_iter().chain(WRONG_CREATES);
     let of_document_2 = of_document_2.chain(WRONG_DELETES).chain(WRONG_RETIRES);
     let of_document_2 = of_document_2.chain(WRONG_STATES);
+    let of_document_2 = of_document_2.chain(LEAKS).chain(FIVES);
     MUTANTS.into_iter().chain(of_document_2)
 }
 
@@ -1892,6 +2373,20 @@ fn runs<Looked>(
         end(looked, &tables, &lent)?;
     }
     Ok(())
+}
+
+/// What every check of pairs of files begins with, whatever its seed, without the model; an error
+/// is of this sort.
+fn pairs(kernel: &dyn Kernel, sort: &str) -> Result<(), String> {
+    of_sort(hidden::check_events(kernel, SEED).map(drop), sort)
+}
+
+/// Panics at an error that does not begin so.
+fn of_sort(checked: Result<(), String>, sort: &str) -> Result<(), String> {
+    match checked {
+        Err(error) if !error.starts_with(sort) => panic!("{error}"),
+        checked => checked,
+    }
 }
 
 /// Runs from fresh tables on which demand 3 alone looks.
@@ -2084,10 +2579,7 @@ fn demand_3_passes_over_retires() {
 fn the_check_of_frames_catches_what_breaks_it() {
     frames(&Modelled).expect("frames");
     frames(&Embedded).expect("frames");
-    let by_the_check = |mutant: &Mutant| match frames(mutant) {
-        Err(error) if !error.starts_with("frames:") => panic!("{error}"),
-        checked => checked,
-    };
+    let by_the_check = |mutant: &Mutant| of_sort(frames(mutant), "frames:");
     let missed = missed_of(&NOT_ONE_STATE, by_the_check);
     assert_eq!(missed, Vec::<&str>::new());
     let missed = missed_of(&ONE_STATE, by_the_check);
@@ -2101,3 +2593,63 @@ fn the_check_of_clean_cards_catches_what_breaks_it() {
     let missed = missed_of(&NOT_CLEAN, |mutant| clean(mutant));
     assert_eq!(missed, Vec::<&str>::new());
 }
+
+/// The floors are reached by what every check of pairs begins with, whatever its seed.
+#[test]
+fn pairs_of_files_pass() {
+    hidden::check(&Modelled, SEED, MESSAGES / 2).expect("contents hidden");
+    for seed in 2..6 {
+        let counts = hidden::check_events(&Embedded, seed).expect("contents hidden");
+        assert!(counts.too_few().is_empty(), "{:?}", counts.too_few());
+    }
+}
+
+/// Two wrong kernels of other requests show contents too.
+const OTHER_LEAKS: [&str; 2] = [
+    "stale marks spared when equal bytes are written",
+    "a frame that was all zeros not counted",
+];
+
+/// Pairs of files find every leak without the model; `every_mutant_is_caught` has the same kernels
+/// beside it.
+#[test]
+fn pairs_of_files_catch_every_leak() {
+    let leaks = LEAKS.iter().map(|(name, _)| *name).chain(OTHER_LEAKS);
+    let missed = missed_of(&Vec::from_iter(leaks), |leak| pairs(leak, hidden::SHOWN));
+    assert_eq!(missed, Vec::<&str>::new());
+}
+
+/// Each worked pair exposes the leak that it is named after.
+#[test]
+fn leaks_are_exposed() {
+    let starts = [unit(LEAST_BUFFER), unit(LEAST_BUFFER)];
+    for pair in &HIDDEN {
+        let files = pair.each_ref().map(Case::file);
+        let missed = missed_of(&[pair[0].name], |leak| {
+            let checked = hidden::check_files(leak, starts.clone(), [&files[0], &files[1]]);
+            of_sort(checked, hidden::SHOWN)
+        });
+        assert_eq!(missed, Vec::<&str>::new());
+    }
+}
+
+/// Of what is wrong in both runs alike, pairs see 5 on sound tables alone: given at once, or
+/// because a message has left broken ones.
+#[test]
+fn pairs_of_files_catch_5_and_nothing_else_that_is_alike() {
+    let fives = FIVES.iter().map(|(name, _)| *name).chain(BREAKING);
+    let missed = missed_of(&Vec::from_iter(fives), |five| pairs(five, hidden::FIVE));
+    assert_eq!(missed, Vec::<&str>::new());
+    let missed = missed_of(&ALIKE, |alike| pairs(alike, hidden::SHOWN));
+    assert_eq!(missed, ALIKE);
+}
+
+/// Wrong numbers, replies, bytes laid, tables and stores, none by the contents.
+const ALIKE: [&str; 6] = [
+    "one current copy of two written",
+    "drops moves",
+    "invents bytes laid",
+    "a write with right 1 accepted",
+    "freed bytes remain, as document 01 had it",
+    "a retired frame's bytes changed by a write",
+];
