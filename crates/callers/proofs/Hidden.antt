@@ -20,11 +20,11 @@ use Rattle.messages.specs.Promises.{sentAlone}
 use Rattle.messages.proofs.JoinLaws.{end-is}
 use Rattle.theorems.specs.Hidden.{SameBut, replyCovered, told, Alike, runOver}
 use Rattle.theorems.proofs.Sound.{message-sound, messages-sound}
-use Rattle.theorems.proofs.Hidden.{Twins, messages-alike, reply-long, taken-alike, never-five-told, messages-unbroken}
+use Rattle.theorems.proofs.Hidden.{Twins, messages-alike, reply-long, taken-alike, never-five-told, never-five-in}
 use Rattle.embed.specs.Bytes.{tablesBytes}
 use Rattle.embed.specs.Exports.{tablesOf, withTables, tallyOf, withTally, leftIn, Kept, stateIn}
-use Rattle.callers.specs.Calls.{AnswerCall, RepliesCall, Called, answered, replied, ran, Meets, room, leftOf, Calls}
-use Rattle.callers.specs.Calls.{keptAfter, messagesBy, messagesThrough, turnsThrough, toldOf}
+use Rattle.callers.specs.Calls.{AnswerCall, RepliesCall, Called, answered, replied, ran, Meets, room}
+use Rattle.callers.specs.Calls.{leftOf, Calls, keptAfter, messagesBy, messagesThrough, turnsThrough, toldOf}
 use Rattle.callers.specs.Lent.{fileOf}
 use Rattle.callers.specs.Hidden.{UnitOf, runThrough, HiddenLent, NoneTold, NoneFive, NeverFiveLent}
 use Rattle.callers.proofs.Kept.{put, found, Sane, Leaves, leaves}
@@ -36,7 +36,8 @@ use Rattle.callers.proofs.Lent.{replies-through, messages-are, answers-
 -- the state in the bytes
 unit-leaves : (t : Tables) (k : Kept) → sound t ≡ true → UnitOf t k → Leaves k (stateOf t (k .fast) (k .slow))
 unit-leaves t k ok u =
-    leaves k (stateOf t (k .fast) (k .slow)) (record { tables-sound = ok; stores-fit = u .stores-fit }) (u .tables-in) refl refl
+    leaves k (stateOf t (k .fast) (k .slow)) (record { tables-sound = ok; stores-fit = u .stores-fit })
+    (u .tables-in) refl refl
 
 module _ (t : Tables) (k k′ : Kept) (ok : sound t ≡ true) (u : UnitOf t k) (u′ : UnitOf t k′) where
   sane : Sane k
@@ -56,11 +57,13 @@ module _ (t : Tables) (k k′ : Kept) (ok : sound t ≡ true) (u : UnitOf t k) (
 -- ---- what they keep
 
 -- the run that calls come to, where their turns are those of messages xs
-came-to : (k : Kept) (cs : List Called) → Through k cs → (xs : List Sent) → turnsThrough k cs ≡ turnsOf 70 (stateIn k) xs
+came-to : (k : Kept) (cs : List Called) → Through k cs → (xs : List Sent)
+    → turnsThrough k cs ≡ turnsOf 70 (stateIn k) xs
     → runOver 70 xs (stateIn k) ≡ runThrough k cs
 came-to k cs q xs e = rw (e, end-reached k cs q xs e)
 
-module _ {k k′ : Kept} {cs cs′ : List Called} (w : Twins (stateIn k) (stateIn k′)) (q : Through k cs) (q′ : Through k′ cs′)
+module _ {k k′ : Kept} {cs cs′ : List Called} (w : Twins (stateIn k) (stateIn k′)) (q : Through k cs)
+    (q′ : Through k′ cs′)
     (xs xs′ : List Sent) (same : SameBut xs xs′) (e : turnsThrough k cs ≡ turnsOf 70 (stateIn k) xs)
     (e′ : turnsThrough k′ cs′ ≡ turnsOf 70 (stateIn k′) xs′) where
   runs-alike : (n : Tally) → Alike 70 n (runThrough k cs) (runThrough k′ cs′)
@@ -107,8 +110,10 @@ hidden-lent =
           let q′ = through k′ cs′ (sane′ t k k′ ok u u′) calls′ in
           record {
             each-had = (q .each, q′ .each);
-            turns-alike = runs-alike w q q′ (messagesThrough cs) (messagesThrough cs′) same (q .turns-are) (q′ .turns-are);
-            tables-same = tables-same w q q′ (messagesThrough cs) (messagesThrough cs′) same (q .turns-are) (q′ .turns-are);
+            turns-alike = runs-alike w q q′ (messagesThrough cs) (messagesThrough cs′) same (q .turns-are)
+                (q′ .turns-are);
+            tables-same = tables-same w q q′ (messagesThrough cs) (messagesThrough cs′) same (q .turns-are)
+                (q′ .turns-are);
           };
       by-replies = λ t k k′ ok u u′ file file′ n cs cs′ same calls calls′ on on′ h h′.
           let w = twins t k k′ ok u u′ in
@@ -121,7 +126,8 @@ hidden-lent =
           let a = runs-alike w q q′ (messagesOf file) (messagesOf file′) same e e′ (tallyOf n) in
           record {
             replies-taken = taken-alike (messagesOf file) (messagesOf file′) same (stateIn k) (stateIn k′) w _ _
-                (p .taken-is ∙ ap (λ (ts : List Turn). joinedReplies 70 ts) e) (p′ .taken-is ∙ ap (λ (ts : List Turn). joinedReplies 70 ts) e′);
+                (p .taken-is ∙ ap (λ (ts : List Turn). joinedReplies 70 ts) e)
+                (p′ .taken-is ∙ ap (λ (ts : List Turn). joinedReplies 70 ts) e′);
             tables-same = tables-same w q q′ (messagesOf file) (messagesOf file′) same e e′;
             tally-same = p .tally-is ∙ ap (withTally n) (a .tallies) ∙ sym (p′ .tally-is);
           };
@@ -135,9 +141,12 @@ hidden-lent =
           let e′ = q′ .turns-are ∙ ap (turnsOf 70 (stateIn k′)) (messages-are cs′ full′) in
           let a = runs-alike w q q′ (messagesOf (fileOf cs)) (messagesOf (fileOf cs′)) same e e′ (tallyOf []) in
           record {
-            replies-taken = taken-alike (messagesOf (fileOf cs)) (messagesOf (fileOf cs′)) same (stateIn k) (stateIn k′) w _ _
-                (p .taken-is ∙ ap (λ (ts : List Turn). joinedReplies 70 ts) e) (p′ .taken-is ∙ ap (λ (ts : List Turn). joinedReplies 70 ts) e′);
-            told-same = p .told-is ∙ told-same (turnsThrough k (map answered cs)) (turnsThrough k′ (map answered cs′)) (a .told-alike) (a .replies)
+            replies-taken = taken-alike (messagesOf (fileOf cs)) (messagesOf (fileOf cs′)) same (stateIn k)
+                (stateIn k′) w _ _
+                (p .taken-is ∙ ap (λ (ts : List Turn). joinedReplies 70 ts) e)
+                (p′ .taken-is ∙ ap (λ (ts : List Turn). joinedReplies 70 ts) e′);
+            told-same = p .told-is ∙ told-same (turnsThrough k (map answered cs)) (turnsThrough k′ (map answered cs′))
+                (a .told-alike) (a .replies)
                 ∙ sym (p′ .told-is);
             tables-same = tables-same w q q′ (messagesOf (fileOf cs)) (messagesOf (fileOf cs′)) same e e′;
           };
@@ -168,7 +177,8 @@ left-sound : (k : Kept) (c : Called) → SoundBytes (k .tables) → Meets k c �
 left-sound k (answered c) ok p =
     let size : ℕ = length (c .out) in
     let x : Sent = sentAlone (c .message) in
-    subst SoundBytes (sym (p .tables-out)) (go (answer size (stateIn k) x) (message-sound size (stateIn k) x (found-sound ok)))
+    subst SoundBytes (sym (p .tables-out)) (go (answer size (stateIn k) x)
+    (message-sound size (stateIn k) x (found-sound ok)))
   where
     go : (o : Outcome Result) → sound (left (stateIn k) o .tables) ≡ true → SoundBytes (leftIn (k .tables) o)
     go (refuse n) e = ok
@@ -178,7 +188,8 @@ left-sound k (replied c) ok p =
     let end : endOf (length (c .out)) (stateIn k) xs ≡ partFrom (length (c .out)) (c .file) (c .at) (stateIn k) .final =
     sym (end-is (length (c .out)) (stateIn k) xs) ∙ ap (stateAfter (stateIn k)) (part-turns k c p) in
     subst SoundBytes (sym (p .tables-out))
-    (put-sound ok _ (subst (λ (s : State). sound (s .tables) ≡ true) end (messages-sound (length (c .out)) xs (stateIn k) (found-sound ok))))
+    (put-sound ok _ (subst (λ (s : State). sound (s .tables) ≡ true) end
+    (messages-sound (length (c .out)) xs (stateIn k) (found-sound ok))))
 left-sound k (ran c) ok p =
     subst SoundBytes (sym (p .tables-out))
     (put-sound ok _ (messages-sound (length (c .out)) (messagesOf (c .file)) (stateIn k) (found-sound ok)))
@@ -197,7 +208,7 @@ none-told k (ran c ∷ cs) ok calls = none-told (c .left) cs (left-sound k (ran 
 none-five : (k : Kept) (cs : List Called) → SoundBytes (k .tables) → Calls k cs → NoneFive k cs
 none-five k [] ok calls = tt
 none-five k (c ∷ cs) ok calls = (
-  messages-unbroken (room c) (messagesBy c) (stateIn k) (found-sound ok),
+  never-five-in (room c) (messagesBy c) (stateIn k) (found-sound ok),
   none-five (leftOf c) cs (left-sound k c ok (calls .0)) (calls .1),
 )
 

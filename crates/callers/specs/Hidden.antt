@@ -1,5 +1,5 @@
--- Document 02, request [7], as programs in C hold it: two of them, each with a unit of its own, on the bytes of the same
--- sound tables and with fitting stores of any contents, whose messages are the same but for what writes carry.
+-- Document 02, request [7], as programs in C hold it: two of them, each with a unit of its own, on the bytes of the
+-- same sound tables and with fitting stores of any contents, whose messages are the same but for what writes carry.
 use Prim.Native.Nat.{ℕ, _≤_}
 use mathlib.Core.Path.{_≡_}
 use mathlib.Core.Bool.{true}

@@ -4,3 +4,4 @@ pub mod Read
 pub mod Hidden
 pub mod Witness
 pub mod WitnessRead
+pub mod WitnessHidden

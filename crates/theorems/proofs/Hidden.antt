@@ -31,13 +31,14 @@ use Rattle.messages.specs.declared.Parsed.the-variants.{Refused, Asked}
 use Rattle.messages.specs.declared.Tally.{Tally}
 use Rattle.messages.specs.Messages.{parse, lengthAt}
 use Rattle.messages.specs.Replies.{reply, replyIn, counted, isRefusal}
-use Rattle.messages.specs.Run.{Sent, cut, whole, asked, bytesOf, respond, answer, Turn, turnOf, leftBy, messagesOf, turnsOf, endOf, Run, buffer, tally, joinedReplies}
+use Rattle.messages.specs.Run.{Sent, cut, whole, asked, bytesOf, respond, answer, Turn, turnOf, leftBy}
+use Rattle.messages.specs.Run.{messagesOf, turnsOf, endOf, Run, buffer, tally, joinedReplies}
 use Rattle.messages.specs.Run.{full, served, passed, placeAfter, stateAfter, turnsFrom}
 use Rattle.messages.specs.Promises.{FillCall, FillCalls, emptied, reached}
 use Rattle.messages.proofs.ParseLaws.{ownNumbers, Known, bad, asked-known}
 use Rattle.messages.proofs.JoinLaws.{parts-run, reply-tells}
-use Rattle.theorems.specs.Hidden.{covered, sendsWrite, messageCovered, SameBut, asksRead, dataCovered, replyCovered, Alike, otherReplies}
-use Rattle.theorems.specs.Hidden.{takenCovered, TakenAlike, runOver, Hidden, noneFive, NeverFive}
+use Rattle.theorems.specs.Hidden.{covered, sendsWrite, messageCovered, SameBut, asksRead, dataCovered, replyCovered}
+use Rattle.theorems.specs.Hidden.{Alike, otherReplies, takenCovered, TakenAlike, runOver, Hidden, noneFive, NeverFive}
 use Rattle.theorems.proofs.Frames.{by-message}
 use Rattle.theorems.proofs.Sound.{message-sound}
 
@@ -64,9 +65,11 @@ covered-drop i (suc k) [] = by i
   where
     by : (i : ℕ) → drop (suc k) (covered (suc k + i) []) ≡ covered i []
     by zero = ap (λ (n : ℕ). drop (suc k) (covered n [])) (let e : suc k + 0 ≡ suc k = omega arith in e)
-    by (suc i) = ap (λ (n : ℕ). drop (suc k) (covered n [])) (let e : suc k + suc i ≡ suc (k + suc i) = omega arith in e)
+    by (suc i) = ap (λ (n : ℕ). drop (suc k) (covered n []))
+        (let e : suc k + suc i ≡ suc (k + suc i) = omega arith in e)
 covered-drop i (suc k) (b ∷ l) =
-    ap (λ (n : ℕ). drop (suc k) (covered n (b ∷ l))) (let e : suc k + i ≡ suc (k + i) = omega arith in e) ∙ covered-drop i k l
+    ap (λ (n : ℕ). drop (suc k) (covered n (b ∷ l))) (let e : suc k + i ≡ suc (k + i) = omega arith in e)
+    ∙ covered-drop i k l
 
 -- ---- a message with what it carries covered asks for the same, and carries as many bytes
 
@@ -78,7 +81,14 @@ parse-covered : (m : List ℕ) → sendsWrite m ≡ true → parse (covered 5 m)
 unfolding parse
 parse-covered m e =
     let k : getD m 1 0 ≡ 5 = eqb-true (getD m 1 0) 5 (and-right (eqb (getD m 0 0) 1) _ e) in
-    rw (length-covered 5 m, covered-at 5 m 0 (omega arith), covered-at 5 m 1 (omega arith), covered-drop 3 2 m, k, call-covered (drop 2 m))
+    rw (
+      length-covered 5 m,
+      covered-at 5 m 0 (omega arith),
+      covered-at 5 m 1 (omega arith),
+      covered-drop 3 2 m,
+      k,
+      call-covered (drop 2 m),
+    )
 
 asked-covered : (x : Sent) → asked (messageCovered x) ≡ asked x
 asked-covered cut = refl
@@ -128,10 +138,12 @@ pub record Twins (s s′ : State) : Type 0 where
 data Both (reads : Bool) : Outcome Result → Outcome Result → Type 0 where
   both-refused : {n : ℕ} → Both reads (refuse n) (refuse n)
   both-accepted : {r r′ : Result} → r .state .tables ≡ r′ .state .tables → r .moved ≡ r′ .moved → r .laid ≡ r′ .laid
-      → length (r .data-out) ≡ length (r′ .data-out) → (reads ≡ false → r .data-out ≡ r′ .data-out) → Both reads (accept r) (accept r′)
+      → length (r .data-out) ≡ length (r′ .data-out) → (reads ≡ false → r .data-out ≡ r′ .data-out)
+      → Both reads (accept r) (accept r′)
 
 -- the decision has no store, and what is shown of a store only a read shows
-call-both : (t : Tables) (x y x′ y′ : List ℕ) (c : Call) (bs bs′ : List ℕ) → length x ≡ length x′ → length y ≡ length y′ → length bs ≡ length bs′
+call-both : (t : Tables) (x y x′ y′ : List ℕ) (c : Call) (bs bs′ : List ℕ) → length x ≡ length x′
+    → length y ≡ length y′ → length bs ≡ length bs′
     → Both (isRead (c .kind)) (step (stateOf t x y) c bs) (step (stateOf t x′ y′) c bs′)
 unfolding step
 call-both t x y x′ y′ c bs bs′ p q r =
@@ -155,7 +167,8 @@ call-both t x y x′ y′ c bs bs′ p q r =
     go (refuse n) k k′ = both-refused
     go (accept plan) (if-accepted u) (if-accepted u′) =
         both-accepted refl refl refl
-        (u .plan-ok .shows (x ++ y) (joined-long (u .good)) ∙ sym (u′ .plan-ok .shows (x′ ++ y′) (joined-long (u′ .good))))
+        (u .plan-ok .shows (x ++ y) (joined-long (u .good))
+        ∙ sym (u′ .plan-ok .shows (x′ ++ y′) (joined-long (u′ .good))))
         (λ e. u .plan-ok .hides e (x ++ y) (x′ ++ y′))
 
 -- ---- one message
@@ -166,20 +179,24 @@ unfolding answer
 message-both room s s′ w x x′ e =
     behind (ltb room 70) (asked x) (asked x′) (same-asked x x′ e) (bytesOf x) (bytesOf x′) (same-carried x x′ e)
   where
-    parsed : (a : Parsed) (bs bs′ : List ℕ) → length bs ≡ length bs′ → Both (asksRead a) (respond s a bs) (respond s′ a bs′)
+    parsed : (a : Parsed) (bs bs′ : List ℕ) → length bs ≡ length bs′
+        → Both (asksRead a) (respond s a bs) (respond s′ a bs′)
     parsed (Refused n) bs bs′ l = both-refused
     parsed (Asked c) bs bs′ l =
-        subst (λ (t : Tables). Both (isRead (c .kind)) (step s c bs) (step (stateOf t (s′ .fast) (s′ .slow)) c bs′)) (w .tables)
+        subst (λ (t : Tables). Both (isRead (c .kind)) (step s c bs) (step (stateOf t (s′ .fast) (s′ .slow)) c bs′))
+        (w .tables)
         (call-both (s .tables) (s .fast) (s .slow) (s′ .fast) (s′ .slow) c bs bs′ (w .fast) (w .slow) l)
 
     behind : (b : Bool) (a a′ : Parsed) → a ≡ a′ → (bs bs′ : List ℕ) → length bs ≡ length bs′
         → Both (asksRead a) (test b shortBuffer (respond s a bs)) (test b shortBuffer (respond s′ a′ bs′))
     behind true a a′ q bs bs′ l = both-refused
-    behind false a a′ q bs bs′ l = subst (λ (z : Parsed). Both (asksRead a) (respond s a bs) (respond s′ z bs′)) q (parsed a bs bs′ l)
+    behind false a a′ q bs bs′ l = subst (λ (z : Parsed). Both (asksRead a) (respond s a bs) (respond s′ z bs′)) q
+        (parsed a bs bs′ l)
 
 -- what is seen of its reply
 reply-both : (room : ℕ) (reads : Bool) (o o′ : Outcome Result) → Both reads o o′
-    → cond reads (covered 6 (replyIn room o)) (replyIn room o) ≡ cond reads (covered 6 (replyIn room o′)) (replyIn room o′)
+    → cond reads (covered 6 (replyIn room o)) (replyIn room o)
+    ≡ cond reads (covered 6 (replyIn room o′)) (replyIn room o′)
 unfolding covered reply
 reply-both room reads (refuse n) (refuse m) both-refused = refl
 reply-both room true (accept r) (accept r′) (both-accepted t m l d same) = by (ltb room 70)
@@ -189,7 +206,8 @@ reply-both room true (accept r) (accept r′) (both-accepted t m l d same) = by 
     by false = rw (l, d)
 reply-both room false (accept r) (accept r′) (both-accepted t m l d same) = rw (l, same refl)
 
-left-both : (reads : Bool) (s s′ : State) (o o′ : Outcome Result) → s .tables ≡ s′ .tables → Both reads o o′ → left s o .tables ≡ left s′ o′ .tables
+left-both : (reads : Bool) (s s′ : State) (o o′ : Outcome Result) → s .tables ≡ s′ .tables → Both reads o o′
+    → left s o .tables ≡ left s′ o′ .tables
 left-both reads s s′ (refuse n) (refuse m) e both-refused = e
 left-both reads s s′ (accept r) (accept r′) e (both-accepted t m l d same) = t
 
@@ -198,31 +216,37 @@ told-both : (reads : Bool) (o o′ : Outcome Result) → Both reads o o′
 told-both reads (refuse n) (refuse m) both-refused = refl
 told-both reads (accept r) (accept r′) (both-accepted t m l d same) = rw (l, m)
 
-counted-both : (reads : Bool) (n : Tally) (o o′ : Outcome Result) → Both reads o o′ → counted n (isRefusal o) (laidBy o) ≡ counted n (isRefusal o′) (laidBy o′)
+counted-both : (reads : Bool) (n : Tally) (o o′ : Outcome Result) → Both reads o o′
+    → counted n (isRefusal o) (laidBy o) ≡ counted n (isRefusal o′) (laidBy o′)
 counted-both reads n (refuse k) (refuse m) both-refused = refl
 counted-both reads n (accept r) (accept r′) (both-accepted t m l d same) = rw l
 
 -- the state that it leaves
-twins-left : (room : ℕ) (s s′ : State) → Twins s s′ → (x x′ : Sent) → messageCovered x ≡ messageCovered x′ → Twins (leftBy room s x) (leftBy room s′ x′)
+twins-left : (room : ℕ) (s s′ : State) → Twins s s′ → (x x′ : Sent) → messageCovered x ≡ messageCovered x′
+    → Twins (leftBy room s x) (leftBy room s′ x′)
 twins-left room s s′ w x x′ e =
     let k = kept s x in
     let k′ = kept s′ x′ in
     record {
-      tables = left-both (asksRead (asked x)) s s′ (answer room s x) (answer room s′ x′) (w .tables) (message-both room s s′ w x x′ e);
+      tables = left-both (asksRead (asked x)) s s′ (answer room s x) (answer room s′ x′) (w .tables)
+          (message-both room s s′ w x x′ e);
       fast = k .0 ∙ w .fast ∙ sym (k′ .0);
       slow = k .1 ∙ w .slow ∙ sym (k′ .1);
     }
   where
-    kept : (s : State) (x : Sent) → (length (leftBy room s x .fast) ≡ length (s .fast)) × (length (leftBy room s x .slow) ≡ length (s .slow))
+    kept : (s : State) (x : Sent)
+        → (length (leftBy room s x .fast) ≡ length (s .fast)) × (length (leftBy room s x .slow) ≡ length (s .slow))
     kept s x =
-        by-message s (λ (z : State). (length (z .fast) ≡ length (s .fast)) × (length (z .slow) ≡ length (s .slow))) (refl, refl)
+        by-message s (λ (z : State). (length (z .fast) ≡ length (s .fast)) × (length (z .slow) ≡ length (s .slow)))
+        (refl, refl)
         (λ c bs. step-long s c bs) room x
 
 -- a covered reply is as long as the reply
 pub reply-long : (room : ℕ) (t : Turn) → length (replyCovered room t) ≡ length (replyIn room (t .outcome))
 reply-long room t = by (asksRead (asked (t .sent)))
   where
-    by : (b : Bool) → length (cond b (covered 6 (replyIn room (t .outcome))) (replyIn room (t .outcome))) ≡ length (replyIn room (t .outcome))
+    by : (b : Bool) → length (cond b (covered 6 (replyIn room (t .outcome))) (replyIn room (t .outcome)))
+        ≡ length (replyIn room (t .outcome))
     by true = length-covered 6 (replyIn room (t .outcome))
     by false = refl
 
@@ -235,7 +259,15 @@ runFrom ts s = record { turns = ts; final = s }
 none-alike : (room : ℕ) (n : Tally) (s s′ : State) → Twins s s′ → Alike room n (runFrom [] s) (runFrom [] s′)
 unfolding tally
 none-alike room n s s′ w =
-    record { replies = refl; tables = w .tables; tallies = refl; found = refl; told-alike = refl; fast-long = w .fast; slow-long = w .slow }
+    record {
+      replies = refl;
+      tables = w .tables;
+      tallies = refl;
+      found = refl;
+      told-alike = refl;
+      fast-long = w .fast;
+      slow-long = w .slow;
+    }
 
 module _ (room : ℕ) (s s′ : State) (w : Twins s s′) (x x′ : Sent) (same : messageCovered x ≡ messageCovered x′) where
   abbrev o : Outcome Result
@@ -250,7 +282,8 @@ module _ (room : ℕ) (s s′ : State) (w : Twins s s′) (x x′ : Sent) (same 
       ∙ ap (λ (a : Parsed). cond (asksRead a) (covered 6 (replyIn room o′)) (replyIn room o′)) (same-asked x x′ same)
 
   -- of one message before those that are alike
-  more-alike : (n : Tally) (ts ts′ : List Turn) (f f′ : State) → Alike room (counted n (isRefusal o) (laidBy o)) (runFrom ts f) (runFrom ts′ f′)
+  more-alike : (n : Tally) (ts ts′ : List Turn) (f f′ : State)
+      → Alike room (counted n (isRefusal o) (laidBy o)) (runFrom ts f) (runFrom ts′ f′)
       → Alike room n (runFrom (turnOf room s x ∷ ts) f) (runFrom (turnOf room s′ x′ ∷ ts′) f′)
   unfolding tally
   more-alike n ts ts′ f f′ more =
@@ -260,7 +293,8 @@ module _ (room : ℕ) (s s′ : State) (w : Twins s s′) (x x′ : Sent) (same 
         tables = more .tables;
         tallies = more .tallies ∙ ap (tally ts′) (counted-both (asksRead (asked x)) n o o′ both);
         found = ap₂ (λ (t : Tables) (r : List Tables). t ∷ r) (w .tables) (more .found);
-        told-alike = ap₂ (λ (a : ℕ × ℕ × Bool) (r : List (ℕ × ℕ × Bool)). a ∷ r) (told-both (asksRead (asked x)) o o′ both) (more .told-alike);
+        told-alike = ap₂ (λ (a : ℕ × ℕ × Bool) (r : List (ℕ × ℕ × Bool)). a ∷ r)
+            (told-both (asksRead (asked x)) o o′ both) (more .told-alike);
         fast-long = more .fast-long;
         slow-long = more .slow-long;
       }
@@ -285,7 +319,8 @@ messages-alike room n (x ∷ xs) (x′ ∷ xs′) e s s′ w =
 part-alike : (room used end at : ℕ) (n : Tally) (xs xs′ : List Sent) → SameBut xs xs′ → (s s′ : State) → Twins s s′
     → let us = served room used (turnsOf room s xs) in
     let us′ = served room used (turnsOf room s′ xs′) in
-    (placeAfter end at us ≡ placeAfter end at us′) × Alike room n (runFrom us (stateAfter s us)) (runFrom us′ (stateAfter s′ us′))
+    (placeAfter end at us ≡ placeAfter end at us′) × Alike room n (runFrom us (stateAfter s us))
+    (runFrom us′ (stateAfter s′ us′))
 unfolding turnsOf served placeAfter stateAfter
 part-alike room used end at n [] [] e s s′ w = (refl, none-alike room n s s′ w)
 part-alike room used end at n [] (x′ ∷ xs′) e s s′ w = let z : _≡_ {A = ℕ} 0 1 = cc in absurd (omega arith)
@@ -294,7 +329,8 @@ part-alike room used end at n (x ∷ xs) (x′ ∷ xs′) e s s′ w =
     let first : messageCovered x ≡ messageCovered x′ = cc in
     let rest : map messageCovered xs ≡ map messageCovered xs′ = cc in
     go first (full room used)
-    (part-alike room (used + length (replyIn room (answer room s x))) end (passed end at x) _ xs xs′ rest (leftBy room s x) (leftBy room s′ x′)
+    (part-alike room (used + length (replyIn room (answer room s x))) end (passed end at x) _ xs xs′ rest
+    (leftBy room s x) (leftBy room s′ x′)
     (twins-left room s s′ w x x′ first))
   where
     later : ℕ → List Turn
@@ -314,10 +350,12 @@ part-alike room used end at n (x ∷ xs) (x′ ∷ xs′) e s s′ w =
 
     go : messageCovered x ≡ messageCovered x′ → (b : Bool)
         → (placeAfter end (passed end at x) (later r) ≡ placeAfter end (passed end at x) (later′ r))
-        × Alike room next (runFrom (later r) (stateAfter (leftBy room s x) (later r))) (runFrom (later′ r) (stateAfter (leftBy room s′ x′) (later′ r)))
+        × Alike room next (runFrom (later r) (stateAfter (leftBy room s x) (later r)))
+        (runFrom (later′ r) (stateAfter (leftBy room s′ x′) (later′ r)))
         → let us = cond b [] (turnOf room s x ∷ later r) in
         let us′ = cond b [] (turnOf room s′ x′ ∷ later′ r′) in
-        (placeAfter end at us ≡ placeAfter end at us′) × Alike room n (runFrom us (stateAfter s us)) (runFrom us′ (stateAfter s′ us′))
+        (placeAfter end at us ≡ placeAfter end at us′) × Alike room n (runFrom us (stateAfter s us))
+        (runFrom us′ (stateAfter s′ us′))
     go first true q = (refl, none-alike room n s s′ w)
     go first false q =
         let l = long-alike room s s′ w x x′ first in (
@@ -351,7 +389,8 @@ others-are : (room : ℕ) (xs : List Sent) (s : State)
 unfolding otherReplies turnsOf
 others-are room [] s = refl
 others-are room (x ∷ xs) s =
-    ap₂ (λ (l r : List (List ℕ)). l ++ r) (by (reads x) (replyIn room (answer room s x))) (others-are room xs (leftBy room s x))
+    ap₂ (λ (l r : List (List ℕ)). l ++ r) (by (reads x) (replyIn room (answer room s x)))
+    (others-are room xs (leftBy room s x))
   where
     by : (b : Bool) (r : List ℕ) → cond {A = List (List ℕ)} b [] (r ∷ []) ≡ cond b [] (cond b (covered 6 r) r ∷ [])
     by true r = refl
@@ -375,7 +414,8 @@ noTally = record { messages = 0; refusals = 0; laid = 0 }
 module _ (xs xs′ : List Sent) (same : SameBut xs xs′) (s s′ : State) (w : Twins s s′) where
   others-alike : (room : ℕ) → otherReplies room (turnsOf room s xs) ≡ otherReplies room (turnsOf room s′ xs′)
   others-alike room =
-      others-are room xs s ∙ ap₂ unmarked (same-reads xs xs′ same) (messages-alike room noTally xs xs′ same s s′ w .replies)
+      others-are room xs s ∙ ap₂ unmarked (same-reads xs xs′ same)
+      (messages-alike room noTally xs xs′ same s s′ w .replies)
       ∙ sym (others-are room xs′ s′)
 
   -- where the bytes l and l′ are the joined replies
@@ -386,7 +426,8 @@ module _ (xs xs′ : List Sent) (same : SameBut xs xs′) (s s′ : State) (w : 
       ∙ sym (ap (takenCovered xs′) q′ ∙ taken-are xs′ s′)
 
 -- replies laid one over the other, where none is a read's
-buffer-alike : (room : ℕ) (xs xs′ : List Sent) → SameBut xs xs′ → all (λ (x : Sent). not (reads x)) xs ≡ true → (s s′ : State) → Twins s s′
+buffer-alike : (room : ℕ) (xs xs′ : List Sent) → SameBut xs xs′ → all (λ (x : Sent). not (reads x)) xs ≡ true
+    → (s s′ : State) → Twins s s′
     → (out : List ℕ) → buffer room (turnsOf room s xs) out ≡ buffer room (turnsOf room s′ xs′) out
 unfolding turnsOf buffer all
 buffer-alike room [] [] e none s s′ w out = refl
@@ -399,13 +440,16 @@ buffer-alike room (x ∷ xs) (x′ ∷ xs′) e none s s′ w out =
     let r′ : List ℕ = replyIn room (answer room s′ x′) in
     let no : reads x ≡ false = not-true (reads x) (and-left (not (reads x)) _ none) in
     let same : r ≡ r′ =
-    subst (λ (b : Bool). cond b (covered 6 r) r ≡ cond b (covered 6 r′) r′) no (reply-both room (reads x) _ _ (message-both room s s′ w x x′ first)) in
+    subst (λ (b : Bool). cond b (covered 6 r) r ≡ cond b (covered 6 r′) r′) no
+    (reply-both room (reads x) _ _ (message-both room s s′ w x x′ first)) in
     ap (λ (l : List ℕ). buffer room (turnsOf room (leftBy room s x) xs) (over l out)) same
-    ∙ buffer-alike room xs xs′ rest (and-right (not (reads x)) _ none) (leftBy room s x) (leftBy room s′ x′) (twins-left room s s′ w x x′ first) (over r′ out)
+    ∙ buffer-alike room xs xs′ rest (and-right (not (reads x)) _ none) (leftBy room s x) (leftBy room s′ x′)
+    (twins-left room s s′ w x x′ first) (over r′ out)
 
 -- ---- the request
 
-twins : (t : Tables) {x y x′ y′ : List ℕ} → length x ≡ length x′ → length y ≡ length y′ → Twins (stateOf t x y) (stateOf t x′ y′)
+twins : (t : Tables) {x y x′ y′ : List ℕ} → length x ≡ length x′ → length y ≡ length y′
+    → Twins (stateOf t x y) (stateOf t x′ y′)
 twins t p q = record { tables = refl; fast = p; slow = q }
 
 callers-alike : (file file′ : List ℕ) (s s′ : State) → Twins s s′ → (n : Tally) (ks ks′ : List FillCall)
@@ -434,9 +478,11 @@ hidden =
       to-caller = λ t fast slow fast′ slow′ p q file file′ n ks ks′ same calls h calls′ h′.
           callers-alike file file′ _ _ (twins t p q) n ks ks′ same calls h calls′ h′;
       one-part = λ t fast slow fast′ slow′ p q room at file file′ n long same.
-          let k = part-alike room 0 (length file) at n (messagesOf (drop at file)) (messagesOf (drop at file′)) same _ _ (twins t p q) in
+          let k = part-alike room 0 (length file) at n (messagesOf (drop at file))
+          (messagesOf (drop at file′)) same _ _ (twins t p q) in
           (k .0 ∙ ap (λ (end : ℕ). placeAfter end at (turnsFrom room file′ at (stateOf t fast′ slow′))) long, k .1);
-      buffer-left = λ t fast slow fast′ slow′ p q xs xs′ out same none. buffer-alike (length out) xs xs′ same none _ _ (twins t p q) out;
+      buffer-left = λ t fast slow fast′ slow′ p q xs xs′ out same none. buffer-alike (length out) xs xs′ same none _ _
+          (twins t p q) out;
     }
 
 -- ---- number 5
@@ -451,20 +497,23 @@ module _ (s : State) (ok : sound (s .tables) ≡ true) (room : ℕ) (x : Sent) w
     where
       parsed : (a : Parsed) (bs : List ℕ) → Known a → unlikeFive (numberOf (respond s a bs)) ≡ true
       parsed (Refused n) bs (bad some own) = all-listed unlikeFive ownNumbers n refl own
-      parsed (Asked c) bs k = all-listed unlikeFive (accepted ∷ misfitStore ∷ callNumbers) (numberOf (step s c bs)) refl (sound-number s c bs ok)
+      parsed (Asked c) bs k = all-listed unlikeFive (accepted ∷ misfitStore ∷ callNumbers)
+          (numberOf (step s c bs)) refl (sound-number s c bs ok)
 
-      behind : (b : Bool) (o : Outcome Result) → unlikeFive (numberOf o) ≡ true → unlikeFive (numberOf (test b shortBuffer o)) ≡ true
+      behind : (b : Bool) (o : Outcome Result) → unlikeFive (numberOf o) ≡ true
+          → unlikeFive (numberOf (test b shortBuffer o)) ≡ true
       behind true o h = refl
       behind false o h = h
 
   pub never-five-told : numberOf (answer room s x) ≢ brokenTables
   never-five-told e = eqb-false (numberOf (answer room s x)) brokenTables (not-true _ not-five) e
 
-pub messages-unbroken : (room : ℕ) (xs : List Sent) (s : State) → sound (s .tables) ≡ true → noneFive (turnsOf room s xs) ≡ true
+pub never-five-in : (room : ℕ) (xs : List Sent) (s : State) → sound (s .tables) ≡ true
+    → noneFive (turnsOf room s xs) ≡ true
 unfolding turnsOf all
-messages-unbroken room [] s ok = refl
-messages-unbroken room (x ∷ xs) s ok =
-    and-intro (not-five s ok room x) (messages-unbroken room xs (leftBy room s x) (message-sound room s x ok))
+never-five-in room [] s ok = refl
+never-five-in room (x ∷ xs) s ok =
+    and-intro (not-five s ok room x) (never-five-in room xs (leftBy room s x) (message-sound room s x ok))
 
 made-sound : (p s : ℕ) → sound (made p s .tables) ≡ true
 made-sound p s = go (leb p 127) refl (leb s 127) refl
@@ -479,6 +528,7 @@ made-sound p s = go (leb p 127) refl (leb s 127) refl
 pub never-five : NeverFive
 never-five =
     record {
-      from-sound = messages-unbroken;
-      from-fresh = λ room p s file fast slow. messages-unbroken room (messagesOf file) (stateOf (made p s .tables) fast slow) (made-sound p s);
+      from-sound = never-five-in;
+      from-fresh = λ room p s file fast slow. never-five-in room (messagesOf file)
+          (stateOf (made p s .tables) fast slow) (made-sound p s);
     }

@@ -70,9 +70,9 @@ not-read e = true≢false (ap (λ (xs : List Sent). eqb (byteAt 5 xs) 9) e)
 
 -- ---- a pair of files
 
--- Page 5 is created, and station 4 writes a byte, which it may not; the page is copied to frame 0, set current and copied
--- to frame 1, all zeros; then its owner writes the byte, and what placement can see of that follows: a look, a copy to
--- frame 2, and after a read the first copy deleted, and another look.
+-- Page 5 is created, and station 4 writes a byte, which it may not; the page is copied to frame 0, set current and
+-- copied to frame 1, all zeros; then its owner writes the byte, and what placement can see of that follows: a look, a
+-- copy to frame 2, and after a read the first copy deleted, and another look.
 abbrev pub fileOf : ℕ → List ℕ
 fileOf b =
     (0 ∷ 4 ∷ 1 ∷ 1 ∷ 3 ∷ 5 ∷ []) ++ (0 ∷ 6 ∷ 1 ∷ 5 ∷ 4 ∷ 5 ∷ 0 ∷ b ∷ []) ++ (0 ∷ 5 ∷ 1 ∷ 6 ∷ 5 ∷ 0 ∷ 0 ∷ [])

@@ -267,8 +267,8 @@ pub places-differ : (partFrom 70 (0 ∷ []) 0 start .place ≡ 1) × (partFrom 7
 unfolding messagesOf split turnsOf answer served placeAfter
 places-differ = (refl, refl)
 
--- The data of a read stay in the one buffer of a run behind the shorter reply to the next message, here to one of L = 0:
--- page 5 is created, copied to frame 0, set current, written and read.
+-- The data of a read stay in the one buffer of a run behind the shorter reply to the next message, here to one of
+-- L = 0: page 5 is created, copied to frame 0, set current, written and read.
 abbrev pub readThen : ℕ → List ℕ
 readThen b =
     (0 ∷ 4 ∷ 1 ∷ 1 ∷ 3 ∷ 5 ∷ []) ++ (0 ∷ 5 ∷ 1 ∷ 6 ∷ 5 ∷ 0 ∷ 0 ∷ []) ++ (0 ∷ 4 ∷ 1 ∷ 8 ∷ 5 ∷ 0 ∷ [])
