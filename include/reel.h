@@ -226,7 +226,8 @@ uint32_t reel_answer(uint8_t *tables, size_t tables_len, uint8_t *fast, size_t f
 
 /*
  * Answers every message of a call file and counts on in the tally. The table rules are tested once. Each reply is laid
- * over the one before, so the last one is left in out.
+ * over the one before, so the last one is left in out. Behind it bytes of a longer one before it may be left, data of a
+ * read among them: whoever may not read these is not to get more of out than the last reply.
  */
 void reel_run(uint8_t *tables, size_t tables_len, uint8_t *fast, size_t fast_len, uint8_t *slow, size_t slow_len,
               const uint8_t *file, size_t file_len, uint8_t *out, size_t out_len, uint32_t *tally, size_t tally_len);

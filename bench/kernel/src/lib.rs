@@ -425,7 +425,8 @@ impl Unit {
         }
     }
 
-    /// Runs a call file; the rules are tested once. The buffer has the last reply.
+    /// Runs a call file; the rules are tested once. The buffer has the last reply, and behind it what
+    /// that did not cover of longer ones before.
     pub fn run(&mut self, file: &[u8]) {
         run(
             &mut self.tables,

@@ -138,7 +138,8 @@ pub record RepliesHad (c : RepliesCall) (ts : List Turn) : Type 0 where
   pub replies-had : taken (replied c) ≡ joinedReplies (length (c .out)) ts
   pub tally-had : c .tally′ ≡ countedOn ts (c .tally)
 
--- `reel_run` lays each reply over the one before: the last one is left, over the bytes that were lent
+-- `reel_run` lays each reply over the one before, and the first over the bytes that were lent: behind a reply that is
+-- shorter than one before it, bytes of that one are left
 pub record RunHad (c : RunCall) (ts : List Turn) : Type 0 where
   pub buffer-had : c .out′ ≡ buffer (length (c .out)) ts (c .out)
   pub tally-had : c .tally′ ≡ countedOn ts (c .tally)
