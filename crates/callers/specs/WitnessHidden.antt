@@ -170,7 +170,7 @@ replying k b tally =
 abbrev pub wrongCall : Part → RepliesCall
 wrongCall replies-taken = replying nothing 9 []
 wrongCall left-tables = replying (kept (0 ∷ []) [] []) 0 []
--- "a tally that counts changed bytes"
+-- a tally that counts changed bytes
 wrongCall left-tally = replying nothing 0 (1 ∷ [])
 
 abbrev pub PartRow : Part → Part → Type 0

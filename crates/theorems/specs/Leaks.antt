@@ -149,7 +149,7 @@ abbrev pub withData : List ℕ → Outcome Result → Outcome Result
 withData l (refuse m) = refuse m
 withData l (accept r) = accept (record { state = r .state; moved = r .moved; laid = r .laid; data-out = l })
 
--- "a write that spares stale marks when the bytes are equal"
+-- a write that spares stale marks when the bytes are equal
 abbrev pub sparesEqual : Kernel
 sparesEqual s x =
     except (λ c. ofKind 5 c && sameBytes (part (heldBy s 0) (c .offset) (length (bytesOf x))) (bytesOf x))
@@ -161,7 +161,7 @@ unfolding turnsBy messagesOf split rightTurn parse names kinds code among argume
     part
 spares-leaks = refl
 
--- "a make copy of an all-zero page that lays nothing"
+-- a make copy of an all-zero page that lays nothing
 abbrev pub laysNoZeros : Kernel
 laysNoZeros s x =
     except (λ c. ofKind 6 c && sameBytes (heldBy s (c .copy)) zeros) (λ c. withLaid 0 (rightTurn s x)) s x (asked x)
@@ -170,7 +170,7 @@ pub lays-leaks : sees laysNoZeros 7 5 ≡ (0, 64)
 unfolding turnsBy messagesOf split rightTurn parse names kinds code among argument callOf covered reply sameBytes part
 lays-leaks = refl
 
--- "a delete that counts 64 only where the frame was not zeros already"
+-- a delete that counts 64 only where the frame was not zeros already
 abbrev pub countsChange : Kernel
 countsChange s x =
     except (λ c. ofKind 7 c && sameBytes (heldBy s (c .copy)) zeros) (λ c. withLaid 0 (rightTurn s x)) s x (asked x)
@@ -179,7 +179,7 @@ pub counts-leaks : sees countsChange 9 5 ≡ (0, 64)
 unfolding turnsBy messagesOf split rightTurn parse names kinds code among argument callOf covered reply sameBytes part
 counts-leaks = refl
 
--- "a look that tells whether two copies are equal", and nothing else
+-- a look that tells whether two copies are equal, and nothing else
 abbrev pub tellsEqual : Kernel
 tellsEqual s x =
     except (ofKind 10) (λ c. withData (bit (sameBytes (heldBy s 0) (heldBy s 1)) ∷ []) (rightTurn s x)) s x (asked x)
@@ -188,7 +188,7 @@ pub tells-leaks : sees tellsEqual 6 6 ≡ (1, 0)
 unfolding turnsBy messagesOf split rightTurn parse names kinds code among argument callOf covered reply sameBytes part
 tells-leaks = refl
 
--- "a tally that counts changed bytes", and bytes laid that do
+-- bytes laid, and with them a tally, that count changed bytes
 abbrev pub laysChanged : Kernel
 laysChanged s x =
     except (λ c. ofKind 5 c && sameBytes (part (heldBy s 0) (c .offset) (length (bytesOf x))) (bytesOf x))
@@ -198,7 +198,7 @@ pub changed-leaks : sees laysChanged 5 5 ≡ (0, 1)
 unfolding turnsBy messagesOf split rightTurn parse names kinds code among argument callOf covered reply sameBytes part
 changed-leaks = refl
 
--- "replies to refused writes that echo a byte", in the place of the number
+-- replies to refused writes that echo a byte, in the place of the number
 abbrev pub echoed : Sent → Outcome Result → Outcome Result
 echoed x (refuse n) = refuse (getD (bytesOf x) 0 n)
 echoed x (accept r) = accept r

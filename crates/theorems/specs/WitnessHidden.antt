@@ -218,7 +218,7 @@ abbrev pub rightCall : FillCall
 rightCall = filled 0 (freshTables 1 1) (tallyOf 1 0 0)
 
 abbrev pub wrongCall : Part → FillCall
--- a byte of a look's reply; the tables; "a tally that counts changed bytes"
+-- a byte of a look's reply; the tables; a tally that counts changed bytes
 wrongCall taken = filled 9 (freshTables 1 1) (tallyOf 1 0 0)
 wrongCall left-tables = filled 0 (made .tables) (tallyOf 1 0 0)
 wrongCall left-tally = filled 0 (freshTables 1 1) (tallyOf 1 0 9)
