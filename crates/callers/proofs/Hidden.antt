@@ -23,7 +23,7 @@ use Rattle.theorems.proofs.Sound.{message-sound, messages-sound}
 use Rattle.theorems.proofs.Hidden.{Twins, messages-alike, reply-long, taken-alike, never-five-told, never-five-in}
 use Rattle.embed.specs.Bytes.{tablesBytes}
 use Rattle.embed.specs.Exports.{tablesOf, withTables, tallyOf, withTally, leftIn, Kept, stateIn}
-use Rattle.callers.specs.Calls.{AnswerCall, RepliesCall, Called, answered, replied, ran, Meets, room}
+use Rattle.callers.specs.Calls.{Called, answered, replied, ran, Meets, room}
 use Rattle.callers.specs.Calls.{leftOf, Calls, keptAfter, messagesBy, messagesThrough, turnsThrough, toldOf}
 use Rattle.callers.specs.Lent.{fileOf}
 use Rattle.callers.specs.Hidden.{UnitOf, runThrough, HiddenLent, NoneTold, NoneFive, NeverFiveLent}

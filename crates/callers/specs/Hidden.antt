@@ -14,7 +14,7 @@ use Rattle.messages.specs.declared.Tally.{Tally}
 use Rattle.messages.specs.Run.{messagesOf, Run}
 use Rattle.theorems.specs.Hidden.{SameBut, Alike, takenCovered, noneFive}
 use Rattle.embed.specs.Bytes.{tablesBytes}
-use Rattle.embed.specs.Exports.{Kept, kept, stateIn}
+use Rattle.embed.specs.Exports.{Kept, stateIn}
 use Rattle.callers.specs.Calls.{AnswerCall, RepliesCall, Called, answered, replied, ran, leftOf, Calls}
 use Rattle.callers.specs.Calls.{keptAfter, turnsBy, messagesThrough, turnsThrough, EachHad}
 use Rattle.callers.specs.Lent.{numberTold, takenThrough, OnFile, placeReached, tallyReached, InFull, fileOf}
@@ -78,7 +78,7 @@ NoneTold (answered c ∷ cs) = (numberTold (c .told) ≢ brokenTables) × NoneTo
 NoneTold (replied c ∷ cs) = NoneTold cs
 NoneTold (ran c ∷ cs) = NoneTold cs
 
--- nor has it a turn of the other calls; each with its own buffer, also one below 70 bytes
+-- nor is a message of any call answered 5, each call with its own buffer, also one below 70 bytes
 abbrev pub NoneFive : Kept → List Called → Type 0
 NoneFive k [] = Unit {0}
 NoneFive k (c ∷ cs) = (noneFive (turnsBy k c) ≡ true) × NoneFive (leftOf c) cs

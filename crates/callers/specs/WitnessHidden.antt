@@ -2,7 +2,7 @@
 -- field rules out and no other does, and the least that `HiddenLent` and `NeverFiveLent` ask for. Computed.
 use Prim.Native.Nat.{ℕ}
 use mathlib.Core.Path.{_≡_, refl, ap}
-use mathlib.Core.Bool.{Bool, true≢false}
+use mathlib.Core.Bool.{true≢false}
 use mathlib.Core.List.{List, [], _∷_, map}
 use native.Mathlib.Omega.{arith}
 use lib.ListN.{length, getD, replicate}
@@ -135,7 +135,8 @@ module _ (c c′ : RepliesCall) where
   abbrev pub Tells : Part → Type 0
   Tells replies-taken = takenCovered (messagesOf look) (takenThrough (map replied (c ∷ [])))
       ≡ takenCovered (messagesOf look) (takenThrough (map replied (c′ ∷ [])))
-  Tells left-tables = keptAfter nothing (map replied (c ∷ [])) .tables ≡ keptAfter nothing (map replied (c′ ∷ [])) .tables
+  Tells left-tables =
+      keptAfter nothing (map replied (c ∷ [])) .tables ≡ keptAfter nothing (map replied (c′ ∷ [])) .tables
   Tells left-tally = tallyReached [] (c ∷ []) ≡ tallyReached [] (c′ ∷ [])
 
   -- they are what `RepliesAlike` says

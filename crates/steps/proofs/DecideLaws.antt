@@ -176,9 +176,10 @@ abbrev pub FrameNear : Tables → Call → Kind → Type 0
 FrameNear t c k = (has frame k && leb (frames t) (c .frame)) ≡ false
 
 -- what is known of the plan of a call of kind k on page g of tables t: its edit is allowed, and what it retires, what
--- it lays and shows fits, and lies within the frames; its data have the form of the kind's, and unless it is a read they
--- are the same whatever the stores hold; it clears the frames that it frees; its reply has at most 35 bytes for each 4
--- of its message; the frame that it names is in range, and it is retired by that kind alone, where it is not already
+-- it lays and shows fits, and lies within the frames; its data have the form of the kind's, and unless it is a read
+-- they are the same whatever the stores hold; it clears the frames that it frees; its reply has at most 35 bytes for
+-- each 4 of its message; the frame that it names is in range, and it is retired by that kind alone, where it is not
+-- already
 pub record PlanOk (t : Tables) (c : Call) (size : ℕ) (k : Kind) (plan : Plan) : Type 0 where
   pub frame-near : FrameNear t c k
   pub allowed : Allowed t (pageFor c) (plan .edit)

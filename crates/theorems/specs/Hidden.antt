@@ -138,7 +138,7 @@ pub record Hidden : Type 0 where
       → SameBut (messagesOf file) (messagesOf file′) → FillCalls file 0 s n ks → length file ≤ reached 0 ks
       → FillCalls file′ 0 s′ n ks′ → length file′ ≤ reached 0 ks′ → TakenAlike file file′ s s′ n ks ks′)
   -- one call of `fill` from a place on, with a buffer of any length: the place that it reaches too. Messages that are
-  -- cut short may be of different lengths, so that those of the files are asked for.
+  -- cut short may be of different lengths, so the files must be of the same length.
   pub one-part : OfTwins (λ s s′. (room at : ℕ) (file file′ : List ℕ) (n : Tally) → length file ≡ length file′
       → SameBut (messagesOf (drop at file)) (messagesOf (drop at file′))
       → (partFrom room file at s .place ≡ partFrom room file′ at s′ .place)

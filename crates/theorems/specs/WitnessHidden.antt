@@ -1,9 +1,9 @@
 -- Request [7]: for each field of `Alike` and of `TakenAlike` a wrong pair that this field rules out and no other does;
 -- the least that `Hidden` and `NeverFive` ask for, and why they ask for it. Computed.
-use Prim.Native.Nat.{ℕ, _≤_}
+use Prim.Native.Nat.{ℕ}
 use mathlib.Core.Path.{_≡_, refl, ap}
 use mathlib.Core.Bool.{Bool, true, false, false≢true, true≢false}
-use mathlib.Core.List.{List, [], _∷_, _++_, map, flatten}
+use mathlib.Core.List.{List, [], _∷_, _++_, map}
 use native.Mathlib.Omega.{arith}
 use lib.ListN.{length, getD, replicate}
 use lib.Dec.{eqb}
@@ -16,17 +16,17 @@ use Rattle.tables.specs.Register.{registerRule}
 use Rattle.tables.specs.Changes.{created, after}
 use Rattle.steps.specs.Kinds.{names, kinds, code, among, argument, callOf}
 use Rattle.steps.specs.Stores.{fits}
-use Rattle.steps.specs.Steps.{Outcome, refuse, accept}
-use Rattle.steps.specs.Effects.{State, Result}
+use Rattle.steps.specs.Steps.{refuse, accept}
+use Rattle.steps.specs.Effects.{State}
 use Rattle.messages.specs.declared.Tally.{Tally}
 use Rattle.messages.specs.Messages.{parse}
 use Rattle.messages.specs.Replies.{reply, upTo}
-use Rattle.messages.specs.Run.{Sent, cut, whole, Turn, split, messagesOf, turnsOf, Run, run, buffer, tally, answer}
-use Rattle.messages.specs.Run.{served, placeAfter, stateAfter, partFrom}
+use Rattle.messages.specs.Run.{cut, whole, Turn, split, messagesOf, turnsOf, Run, run, buffer, tally, answer}
+use Rattle.messages.specs.Run.{served, placeAfter, partFrom}
 use Rattle.messages.specs.Promises.{FillCall, emptied, stateLeft, tallyLeft}
 use Rattle.theorems.specs.Cases.{runOn}
-use Rattle.theorems.specs.Hidden.{covered, replyCovered, tablesFound, told, Alike, takenCovered, TakenAlike}
-use Rattle.theorems.specs.Hidden.{runOver, runOf, Hidden, noneFive, NeverFive}
+use Rattle.theorems.specs.Hidden.{replyCovered, tablesFound, told, Alike, takenCovered, TakenAlike}
+use Rattle.theorems.specs.Hidden.{runOver, Hidden, noneFive, NeverFive}
 use Rattle.theorems.specs.Witness3.{But, file₃, fastBytes, slowBytes, start, broken, made}
 use Rattle.theorems.specs.Witness1.{tallyOf}
 
@@ -146,21 +146,25 @@ wrong slow-long = record { one = ended [] start; other = ended [] (stored fastBy
 abbrev pub Row : Field → Field → Type 0
 Row i j = But (eqb (place i) (place j)) (Says (wrong i) j)
 
--- whether page 5 is absent from the first tables
-abbrev pub absentFirst : List Tables → Bool
-absentFirst [] = true
-absentFirst (t ∷ ts) = absent (pageAt t 5)
+-- page 5 stands in the second of these
+not-made : start .tables ≡ made .tables → ⊥
+unfolding freshTables freshPage created after
+not-made e = true≢false (ap (λ (t : Tables). absent (pageAt t 5)) e)
+
+-- the tables that the first message finds
+abbrev pub firstFound : List Tables → Tables
+firstFound [] = start .tables
+firstFound (t ∷ ts) = t
 
 pub alone : (i j : Field) → Row i j
-unfolding freshTables freshPage created after tally upTo reply parse names kinds code among argument callOf
+unfolding tally upTo reply parse names kinds code among argument callOf
 alone replies =
     each (Row replies) (λ e. true≢false (ap (λ (l : List (List ℕ)). eqb (getD (getD l 0 []) 6 9) 0) e)) refl refl refl
     refl refl refl
-alone tables =
-    each (Row tables) refl (λ e. true≢false (ap (λ (t : Tables). absent (pageAt t 5)) e)) refl refl refl refl refl
+alone tables = each (Row tables) refl (λ e. not-made e) refl refl refl refl refl
 alone tallies =
     each (Row tallies) refl refl (λ e. true≢false (ap (λ (n : Tally). eqb (n .refusals) 0) e)) refl refl refl refl
-alone found = each (Row found) refl refl refl (λ e. true≢false (ap absentFirst e)) refl refl refl
+alone found = each (Row found) refl refl refl (λ e. not-made (ap firstFound e)) refl refl refl
 alone told-alike =
     each (Row told-alike) refl refl refl refl
     (λ e. false≢true (ap (λ (l : List (ℕ × ℕ × Bool)). getD l 0 (0, 0, false) .2) e)) refl refl
@@ -227,10 +231,9 @@ abbrev pub PartRow : Part → Part → Type 0
 PartRow i j = But (eqb (partPlace i) (partPlace j)) (Tells rightCall (wrongCall i) j)
 
 pub part-alone : (i j : Part) → PartRow i j
-unfolding freshTables freshPage created after takenCovered messagesOf split parse names kinds code among argument callOf
+unfolding takenCovered messagesOf split parse names kinds code among argument callOf
 part-alone taken = each-part (PartRow taken) (λ e. true≢false (ap (λ (l : List ℕ). eqb (getD l 6 1) 0) e)) refl refl
-part-alone left-tables =
-    each-part (PartRow left-tables) refl (λ e. true≢false (ap (λ (t : Tables). absent (pageAt t 5)) e)) refl
+part-alone left-tables = each-part (PartRow left-tables) refl (λ e. not-made e) refl
 part-alone left-tally =
     each-part (PartRow left-tally) refl refl (λ e. true≢false (ap (λ (n : Tally). eqb (n .laid) 0) e))
 
@@ -290,7 +293,10 @@ none-at-19 k = k .from-fresh 0 128 0 file₃ [] []
 
 pub none-at-misfit : NeverFive
     → noneFive (turnsOf 70 (record { tables = freshTables 1 1; fast = []; slow = [] }) (messagesOf file₃)) ≡ true
-none-at-misfit k = k .from-fresh 70 1 1 file₃ [] []
+unfolding sound sizesRule pagesRule noneShared allBelow all count holders uses pageRule standingRule absentRule
+    registerRule inPages inCopies freshTables freshPage
+none-at-misfit k =
+    k .from-sound 70 (messagesOf file₃) (record { tables = freshTables 1 1; fast = []; slow = [] }) refl
 
 -- on broken tables it is given
 pub five-on-broken : noneFive (runOn broken file₃ .turns) ≡ false
