@@ -226,9 +226,15 @@ module _ (those : Copy → Bool) where
 
   module _ (limit o : ℕ) (b : List ℕ) (span : o + length b ≤ 64) (cs : List Copy) (st : List ℕ) (long : length st ≡ 64 * limit)
       (rules : all (frameWithin those limit) cs ≡ true) (x : ℕ) where
-    -- a frame of no copy of the page keeps its bytes
+    -- a frame of none of those keeps its bytes
+    pub each-spared : count (oneOn those x) cs ≡ 0 → block (layFrames (framesOf those cs) o b st) x ≡ block st x
+    each-spared none =
+        all-other limit o b span (framesOf those cs) st long (frames-low limit cs rules) x
+        (none-listed x (framesOf those cs) (frames-count x cs ∙ none))
+
+    -- and so does a frame of no copy of the page
     pub each-other : count (onFrame x) cs ≡ 0 → block (layFrames (framesOf those cs) o b st) x ≡ block st x
-    each-other none = all-other limit o b span (framesOf those cs) st long (frames-low limit cs rules) x (off-frames x cs none)
+    each-other none = let few = fewer x cs in each-spared (omega arith)
 
     -- the frame of one of those, which no other copy of the page has, takes the bytes
     pub each-own : count (onFrame x) cs ≤ 1 → 1 ≤ count (oneOn those x) cs → block (layFrames (framesOf those cs) o b st) x ≡ splice (block st x) o b

@@ -36,7 +36,6 @@ use Rattle.steps.specs.declared.Data.the-variants.{Empty}
 use Rattle.steps.specs.declared.Act.{Act}
 use Rattle.steps.specs.declared.Act.the-variants as Act
 use Rattle.steps.specs.declared.Call.{Call}
-use Rattle.steps.specs.declared.View.{View}
 use Rattle.steps.specs.declared.Lay.{Lay}
 use Rattle.steps.specs.declared.Lay.the-variants.{Nothing, Zeros, ZerosEach, Duplicate, Spread}
 use Rattle.steps.specs.declared.Show.{Show}
@@ -45,7 +44,7 @@ use Rattle.steps.specs.declared.Work.{Work}
 use Rattle.steps.specs.declared.Work.the-variants.{Shows, Lays}
 use Rattle.steps.specs.Kinds.{offset, bytes, frame, names, tells, isRead, isRetire, code, among, has, leastLength}
 use Rattle.steps.specs.Calls.{badSpan, outside}
-use Rattle.steps.specs.Steps.{Outcome, refuse, accept, test, guarded, Plan, planOf, planned, noWork, editing, retiring, showing, laying, clearing, may, owns, isPlaced, copyAt, currents, recents, placedCount, firstCurrent, lacksRight, lacksOwner, lacksCopy, copying, perform, decideOn, pageFor, viewOf, decide}
+use Rattle.steps.specs.Steps.{Outcome, refuse, accept, test, guarded, Plan, planned, noWork, editing, retiring, showing, laying, clearing, may, owns, isPlaced, copyAt, currents, recents, placedCount, firstCurrent, lacksRight, lacksOwner, lacksCopy, copying, perform, decideOn, pageFor, viewOf, decide}
 use Rattle.steps.specs.Data.{copyMarksValid, eachIs, formed}
 use Rattle.steps.specs.Effects.{copiesShown, laidFrames, shownOf, bytesLaid, workData}
 use Rattle.steps.specs.Promises.{frameWithin, layWithin, showWithin, workWithin}
@@ -92,7 +91,7 @@ past-number {ns} {A} {P} {o} n row h = go (eqb n accepted) refl row
 
 -- behind 9 and 10
 module _ {P : Plan → Type 0} {o : Outcome Plan} (g : Page) where
-  past-nine : (b : Bool) → (absent g ≡ false → b ≡ true → IfDecided P o) → IfDecided P (guarded (cond (absent g) noPage (cond b accepted noRight)) o)
+  pub past-nine : (b : Bool) → (absent g ≡ false → b ≡ true → IfDecided P o) → IfDecided P (guarded (cond (absent g) noPage (cond b accepted noRight)) o)
   past-nine b h = go (absent g) b refl refl
     where
       go : (a c : Bool) → absent g ≡ a → b ≡ c → IfDecided P (guarded (cond a noPage (cond c accepted noRight)) o)
@@ -107,7 +106,7 @@ module _ {P : Plan → Type 0} {o : Outcome Plan} (g : Page) where
   past-right station act h = past-nine (may g station act) (λ some _. h some)
 
   -- behind 9 and 12
-  past-copy : (k : ℕ) → (absent g ≡ false → k < g .n → IfDecided P o) → IfDecided P (guarded (lacksCopy g k) o)
+  pub past-copy : (k : ℕ) → (absent g ≡ false → k < g .n → IfDecided P o) → IfDecided P (guarded (lacksCopy g k) o)
   past-copy k h = go (absent g) (leb (g .n) k) refl refl
     where
       go : (a c : Bool) → absent g ≡ a → leb (g .n) k ≡ c → IfDecided P (guarded (cond a noPage (cond c noCopy accepted)) o)
@@ -423,7 +422,7 @@ module _ (t : Tables) (c : Call) (size : ℕ) (rules : Sound t)
 -- ---- a call on tables that keep the rules
 
 -- 0 or 7 is 0 or a number of a call
-range-listed : (frames size : ℕ) (c : Call) → listed (outside frames size c) (accepted ∷ callNumbers) ≡ true
+pub range-listed : (frames size : ℕ) (c : Call) → listed (outside frames size c) (accepted ∷ callNumbers) ≡ true
 range-listed frames size c = outside-listed frames size c (λ (n : ℕ). listed n (accepted ∷ callNumbers) ≡ true) refl refl
 
 pub decide-ok : (t : Tables) (c : Call) (size : ℕ) → sound t ≡ true → IfDecided (PlanOk t c size (c .kind)) (decide t c size)
@@ -432,23 +431,3 @@ decide-ok t c size e =
     past-number (outside (frames t) size c) (range-listed (frames t) size c) (λ z.
     let r = ranged (frames t) size c z in
     perform-ok t c size (sound-of t e) (λ f l. registered-free t f e l) (c .kind) (r .names-in) (r .frame-in) (r .span-in))
-
--- an accepted read shows bytes of the lowest-numbered CURRENT copy
-pub read-shows : (v : View) (c : Call) (size : ℕ) → c .kind ≡ Read
-    → IfAccepted (λ (plan : Plan). plan .work ≡ Shows (Show.Frame (firstCurrent (inUse (v .page))) (c .offset))) (decideOn v c size)
-unfolding decideOn perform
-read-shows v c size is =
-    as-listed (past-number (outside (v .frames) size c) (range-listed (v .frames) size c) (λ _.
-    rw is (past-right (v .page) (c .station) Act.Read (λ _. past (eqb (currents (v .page)) 0) _ refl (λ _. if-accepted refl)))))
-
--- an accepted retire retires the frame, where it is not already, and does nothing else
-pub retire-plans : (v : View) (c : Call) (size : ℕ) → c .kind ≡ Retire
-    → IfAccepted (λ (plan : Plan). plan ≡ planOf Kept (cond (isRetired (v .holder)) 255 (c .frame)) 0 0 noWork) (decideOn v c size)
-unfolding decideOn perform
-retire-plans v c size is =
-    as-listed (past-number (outside (v .frames) size c) (range-listed (v .frames) size c) (λ _. rw is (by (isRetired (v .holder)))))
-  where
-    by : (b : Bool) → IfDecided (λ (plan : Plan). plan ≡ planOf Kept (cond b 255 (c .frame)) 0 0 noWork)
-        (cond b (editing Kept) (test (not (isFree (v .holder))) frameHeld (retiring (c .frame))))
-    by true = if-accepted refl
-    by false = past (not (isFree (v .holder))) _ refl (λ _. if-accepted refl)

@@ -13,5 +13,6 @@ pub mod ClearLaws
 pub mod WorkLaws
 pub mod CarryLaws
 pub mod DecideLaws
+pub mod PlanLaws
 pub mod StepLaws
 pub mod PlaceLaws

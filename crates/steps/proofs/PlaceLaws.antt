@@ -24,7 +24,8 @@ use Rattle.steps.specs.Effects.{shownOf, State, carriedOut, step, dataOf
 use Rattle.steps.specs.Promises.{decisionOf, workOf, lenOf, bytesAt, pointerAt, ReadPart}
 use Rattle.steps.specs.Private.{Room, PlaceIn}
 use Rattle.steps.proofs.StoreLaws.{length-part, part-fast, part-slow, part-block}
-use Rattle.steps.proofs.DecideLaws.{IfAccepted, if-accepted, past-number, read-shows}
+use Rattle.steps.proofs.DecideLaws.{IfAccepted, if-accepted, past-number}
+use Rattle.steps.proofs.PlanLaws.{read-shows}
 use Rattle.steps.proofs.StepLaws.{fit-lengths, rules-listed, Sure, sure}
 
 -- ---- bytes of a frame

@@ -5,6 +5,7 @@ pub mod FreshLaws
 pub mod HolderLaws
 pub mod GapLaws
 pub mod ChangeLaws
+pub mod EachLaws
 pub mod Allowed
 pub mod PageChanges
 pub mod ChangeSound

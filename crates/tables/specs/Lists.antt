@@ -1,4 +1,4 @@
--- Tests over a list.
+-- Tests over a list, and what is so of all of it.
 use Prim.Native.Nat.{ℕ, zero, suc, _+_}
 use mathlib.Core.Bool.{Bool, true, false, _&&_, _||_, cond}
 use mathlib.Core.List.{List, [], _∷_}
@@ -28,3 +28,8 @@ countBelow (suc n) f = cond (f n) 1 0 + countBelow n f
 abbrev pub listed : ℕ → List ℕ → Bool
 listed n [] = false
 listed n (m ∷ ms) = eqb n m || listed n ms
+
+-- what is so of every element
+abbrev pub Each : {A : Type 0} → (A → Type 0) → List A → Type 0
+Each X [] = Unit {0}
+Each X (x ∷ xs) = X x × Each X xs

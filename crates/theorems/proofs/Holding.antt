@@ -1,11 +1,9 @@
 -- The bytes that the MOST RECENT copies of a page hold, through each change of its copies and of the stores.
-use Prim.Native.Nat.{ℕ, zero, suc, _≤_, _<_}
+use Prim.Native.Nat.{ℕ, _≤_, _<_}
 use mathlib.Core.Path.{_≡_, refl, sym, ap, _∙_}
 use mathlib.Core.Bool.{Bool, true, false, cond}
-use mathlib.Core.List.{List, [], _∷_, _++_, map}
-use native.Mathlib.Nat.{not-suc-le-zero, le-of-suc-le-suc}
+use mathlib.Core.List.{List, [], _∷_, map}
 use native.Mathlib.Omega.{arith}
-use lib.ListN.{length, getD, set}
 use borrow.Author.Tests.{eq-eqb}
 use Rattle.tables.specs.declared.Copy.{Copy}
 use Rattle.tables.specs.Lists.{all, count}
@@ -15,7 +13,6 @@ use Rattle.tables.specs.Changes.{staleCopy}
 use Rattle.tables.proofs.ListLaws.{and-right, and-intro, all-first, all-rest, count-hit, count-miss, count-rest}
 use Rattle.tables.proofs.RuleLaws.{GoodCopy, good-copy, current-placed, current-frame}
 use Rattle.tables.proofs.UsesLaws.{on-own}
-use Rattle.tables.proofs.ChangeLaws.{without}
 use Rattle.steps.specs.Stores.{splice, block, contents, zeros}
 use Rattle.steps.specs.Steps.{firstCurrent}
 use Rattle.theorems.specs.Demand3.{Holds}
@@ -27,29 +24,6 @@ HoldsOne st c bs = c .recent ≡ true → contents st c ≡ bs
 
 pub held-framed : (st : List ℕ) (c : Copy) → isNull c ≡ false → contents st c ≡ block st (c .frame)
 held-framed st c e = rw e
-
--- ---- other copies, the same stores
-
-module _ (st bs : List ℕ) where
-  pub holds-at : (cs : List Copy) (k : ℕ) (d : Copy) → k < length cs → Holds st cs bs → HoldsOne st (getD cs k d) bs
-  holds-at [] k d h e = absurd (not-suc-le-zero h)
-  holds-at (c ∷ cs) zero d h e = e .0
-  holds-at (c ∷ cs) (suc k) d h e = holds-at cs k d (le-of-suc-le-suc h) (e .1)
-
-  pub holds-set : (cs : List Copy) (k : ℕ) (c : Copy) → HoldsOne st c bs → Holds st cs bs → Holds st (set cs k c) bs
-  holds-set [] k c h e = tt
-  holds-set (x ∷ xs) zero c h e = (h, e .1)
-  holds-set (x ∷ xs) (suc k) c h e = (e .0, holds-set xs k c h (e .1))
-
-  pub holds-last : (cs : List Copy) (c : Copy) → HoldsOne st c bs → Holds st cs bs → Holds st (cs ++ (c ∷ [])) bs
-  holds-last [] c h e = (h, tt)
-  holds-last (x ∷ xs) c h e = (e .0, holds-last xs c h (e .1))
-
-  pub holds-without : (cs : List Copy) (k : ℕ) → Holds st cs bs → Holds st (without cs k) bs
-  unfolding without
-  holds-without [] k e = tt
-  holds-without (c ∷ cs) zero e = e .1
-  holds-without (c ∷ cs) (suc k) e = (e .0, holds-without cs k (e .1))
 
 -- ---- the same copies, other stores
 

@@ -26,6 +26,7 @@ use Rattle.tables.proofs.UsesLaws.{holders-at, holders-two, other-frame}
 use Rattle.tables.proofs.HolderLaws.{free-nobody}
 use Rattle.tables.proofs.RegisterLaws.{registered-free}
 use Rattle.tables.proofs.ChangeLaws.{without, all-without, in-use-marked, in-use-placed, added, in-use-added, in-use-removed}
+use Rattle.tables.proofs.EachLaws.{each-at, each-set, each-last, each-without}
 use Rattle.tables.proofs.Allowed.{RemoveOk}
 use Rattle.tables.proofs.PageChanges.{removed-ok, removed-on}
 use Rattle.steps.specs.declared.Kind.the-variants.{MakeCopy, DeleteCopy, SetCurrent, RemoveCurrent, LookPage, LookFrame, Retire}
@@ -44,7 +45,7 @@ use Rattle.steps.proofs.DecideLaws.{removed-placed}
 use Rattle.steps.proofs.StepLaws.{joined-long, page-stands, length-held}
 use Rattle.theorems.specs.Flat.{Flat, Slot, gone, here, slotAt, silent, reactAs}
 use Rattle.theorems.specs.Demand3.{Holds}
-use Rattle.theorems.proofs.Holding.{HoldsOne, held-framed, holds-at, holds-set, holds-last, holds-without, holds-kept}
+use Rattle.theorems.proofs.Holding.{HoldsOne, held-framed, holds-kept}
 use Rattle.theorems.proofs.Agreement.{AlikeSlot, Same, Inv, Agree, passed-over, turned-back, alone, alone-number, applied, page-moved, ofKind, CallAgrees, stores-kept, page-kept, page-retired}
 
 -- a page that stands, with other copies
@@ -61,7 +62,7 @@ module _ {limit : ℕ} {g : Page} (d : StandingPage limit g) (st : List ℕ) (k 
   holds-copy : k < g .n → (bs : List ℕ) → Holds st (inUse g) bs → HoldsOne st (copyAt g k) bs
   holds-copy less bs e =
       subst (λ (c : Copy). HoldsOne st c bs) (getD-take (g .n) (g .copies) k zeroCopy less)
-      (holds-at st bs (inUse g) k zeroCopy (rw (length-in-use d) less) e)
+      (each-at (λ (c : Copy). HoldsOne st c bs) (inUse g) k zeroCopy (rw (length-in-use d) less) e)
 
   -- without it, and in stores that have the other copies' frames as they were
   removed-alike : RemoveOk g k → (st′ : List ℕ)
@@ -72,13 +73,14 @@ module _ {limit : ℕ} {g : Page} (d : StandingPage limit g) (st : List ℕ) (k 
       let used = in-use-removed g (d .copies-long) k (a .in-use) (d .most) in
       recopied-alike st st′ g _ _ x (not-absent d) (not-absent (removed-ok d k a)) (λ bs e.
       rw used (holds-kept limit (g .n) st st′ bs (without (inUse g) k) (all-without (copyRule limit (g .n)) (inUse g) k (d .copies-ok)) (rw used at kept)
-      (holds-without st bs (inUse g) k e)))
+      (each-without (λ (c : Copy). HoldsOne st c bs) (inUse g) k e)))
 
   marked-alike : k < g .n → (b : Bool) (x : Slot) → AlikeSlot st g x → AlikeSlot st (changed g (Marked k b)) x
   unfolding changed
   marked-alike less b x =
       recopied-alike st st g _ _ x (not-absent d) (not-absent d) (λ bs e.
-      rw (in-use-marked g k b less) (holds-set st bs (inUse g) k (withCurrent (copyAt g k) b) (holds-copy less bs e) e))
+      rw (in-use-marked g k b less)
+      (each-set (λ (c : Copy). HoldsOne st c bs) (inUse g) k (withCurrent (copyAt g k) b) (holds-copy less bs e) e))
 
 -- a copy of copy k made on frame f, which no copy of the page has
 module _ {limit : ℕ} (small : limit < 255) {g : Page} (d : StandingPage limit g) (st : List ℕ) (long : length st ≡ 64 * limit)
@@ -102,7 +104,8 @@ module _ {limit : ℕ} (small : limit < 255) {g : Page} (d : StandingPage limit 
   unfolding changed
   placed-alike z x =
       recopied-alike st (layFrame st f 0 bytes) g _ _ x (not-absent d) (not-absent d) (λ bs e.
-      rw (in-use-placed g f (d .some)) (holds-set (layFrame st f 0 bytes) bs (inUse g) 0 (newCopy f true)
+      rw (in-use-placed g f (d .some))
+      (each-set (λ (c : Copy). HoldsOne (layFrame st f 0 bytes) c bs) (inUse g) 0 (newCopy f true)
       (new-holds true bs (λ _. holds-copy d st k less bs e (copy-at d k less .null-recent z))) (old-hold bs e)))
 
   added-alike : g .n < 8 → (x : Slot) → AlikeSlot st g x → AlikeSlot (layFrame st f 0 bytes) (changed g (Added f (copyAt g k .recent))) x
@@ -111,7 +114,9 @@ module _ {limit : ℕ} (small : limit < 255) {g : Page} (d : StandingPage limit 
       let plus = added g f (copyAt g k .recent) room in
       let used : take (g .n + 1) (set (g .copies) (g .n) c) ≡ inUse g ++ (c ∷ []) = rw plus at (in-use-added g (d .copies-long) f (copyAt g k .recent) room) in
       rw plus (recopied-alike st (layFrame st f 0 bytes) g _ _ x (not-absent d) (ne-eqb (g .n + 1) 0 (omega arith)) (λ bs e.
-      rw used (holds-last (layFrame st f 0 bytes) bs (inUse g) c (new-holds (copyAt g k .recent) bs (holds-copy d st k less bs e)) (old-hold bs e))))
+      rw used
+      (each-last (λ (c : Copy). HoldsOne (layFrame st f 0 bytes) c bs) (inUse g) c
+      (new-holds (copyAt g k .recent) bs (holds-copy d st k less bs e)) (old-hold bs e))))
 
 -- ---- the calls
 

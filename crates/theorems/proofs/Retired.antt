@@ -33,7 +33,8 @@ use Rattle.steps.specs.Steps.{Outcome, refuse, accept, test, mapped, Plan, plan
 use Rattle.steps.specs.Effects.{bit, laidFrames, State, joined, Result, carriedOut, step, left}
 use Rattle.steps.proofs.KindLaws.{kind-numbered}
 use Rattle.steps.proofs.DecisionLaws.{page-near}
-use Rattle.steps.proofs.DecideLaws.{IfAccepted, if-accepted, past-number, retire-plans}
+use Rattle.steps.proofs.DecideLaws.{IfAccepted, if-accepted, past-number}
+use Rattle.steps.proofs.PlanLaws.{retire-plans}
 use Rattle.steps.proofs.StepLaws.{rules-listed, Sure, sure}
 use Rattle.messages.specs.declared.Parsed.{Parsed}
 use Rattle.messages.specs.declared.Parsed.the-variants.{Refused, Asked}

@@ -87,7 +87,7 @@ module _ (s : State) (f : Flat) (i : Inv s f) where
 
 -- ---- the start and the end
 
-start-inv : (p s : ℕ) (fast slow : List ℕ) → p ≤ 127 → s ≤ 127 → length fast ≡ 64 * p → length slow ≡ 64 * s
+pub start-inv : (p s : ℕ) (fast slow : List ℕ) → p ≤ 127 → s ≤ 127 → length fast ≡ 64 * p → length slow ≡ 64 * s
     → Inv (record { tables = freshTables p s; fast = fast; slow = slow }) none
 unfolding freshTables freshPage fits
 start-inv p s fast slow hp hs lp ls =

@@ -8,7 +8,7 @@ use lib.Dec.{eqb}
 use Rattle.tables.specs.declared.Copy.{Copy}
 use Rattle.tables.specs.declared.Page.{Page}
 use Rattle.tables.specs.declared.Tables.{Tables}
-use Rattle.tables.specs.Lists.{count}
+use Rattle.tables.specs.Lists.{count, Each}
 use Rattle.tables.specs.Numbers.{nothingCurrent}
 use Rattle.tables.specs.Model.{inUse, absent, pageAt, freshTables}
 use Rattle.tables.specs.Rules.{isRecent}
@@ -96,8 +96,7 @@ dues room f (t ∷ ts) =
 
 -- "A copy holds the bytes at its frame in the run's stores"; one without a frame counts as 64 zeros (`contents`)
 abbrev pub Holds : List ℕ → List Copy → List ℕ → Type 0
-Holds st [] bs = Unit {0}
-Holds st (c ∷ cs) bs = (c .recent ≡ true → contents st c ≡ bs) × Holds st cs bs
+Holds st cs bs = Each (λ (c : Copy). c .recent ≡ true → contents st c ≡ bs) cs
 
 pub record SamePage (st : List ℕ) (g : Page) (b : FlatPage) : Type 0 where
   pub owners : g .owner ≡ b .owner
