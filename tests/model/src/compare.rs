@@ -5,6 +5,7 @@ use crate::exchange::Turns;
 use crate::flat::Demand3;
 use crate::frames::Frames;
 use crate::gen::{self, Moves, Rng, BUFFERS, DAMAGES, SHORT_BUFFERS};
+use crate::history::{self, History};
 use crate::kernel::{packed, Kernel, Modelled};
 use crate::model::{
     self, frame_bytes, Call, Lent, Page, PageCopy, Reached, Reader, Refusal, Tables, ENTRIES,
@@ -67,8 +68,10 @@ pub struct Counts {
     pub numbers: [u64; WORDS.len()],
     pub depths: [u64; DEPTHS.len()],
     pub rights: [u64; RIGHTS.len()],
-    /// Whole files run, those of them on which demand 3 and the clean cards were checked, and those on
-    /// which the three sorts of frames were.
+    /// What came up of copies by the writes that they carry.
+    pub histories: [u64; history::EVENTS.len()],
+    /// Whole files run, those of them on which demand 3, the clean cards and the histories of pages were
+    /// checked, and those on which the three sorts of frames were.
     pub runs: u64,
     pub runs_from_fresh: u64,
     pub runs_from_sound: u64,
@@ -82,7 +85,8 @@ impl Counts {
     /// The states and events with how often they came up.
     pub fn reached(&self) -> impl Iterator<Item = (&'static str, u64)> + '_ {
         let depths = DEPTHS.into_iter().zip(self.depths);
-        depths.chain(RIGHTS.into_iter().zip(self.rights))
+        let reached = depths.chain(RIGHTS.into_iter().zip(self.rights));
+        reached.chain(history::EVENTS.into_iter().zip(self.histories))
     }
 
     /// The numbers, states and events that came up too seldom.
@@ -461,12 +465,20 @@ impl Compare<'_> {
                 checked.map_err(|error| format!("{}\n  {error}", words::message(message)))?;
             }
             let after = gen::tables_of(&trial.lent);
-            if let Some((demand3, clean)) = &mut trial.promises {
+            if let Some(promises) = &mut trial.promises {
                 let reply = reply_in(&trial.lent.out);
+                let number = reply[3];
+                let Promises {
+                    demand3,
+                    clean,
+                    history,
+                } = promises;
+                history.count(&mut self.counts.histories, message, number);
                 let checked = demand3.turn(&before, message, reply);
+                let checked =
+                    checked.and_then(|()| history.turn(self.kernel, message, reply, &trial.lent));
                 checked.map_err(|error| format!("{}\n  {error}", words::message(message)))?;
                 clean.turn(&after);
-                let number = reply[3];
                 trial.reach(&mut self.counts, &before, &lent, message, number);
             }
         }
@@ -494,11 +506,12 @@ impl Compare<'_> {
         }
         self.whole_replies(trial)?;
         self.counts.runs_from_sound += u64::from(trial.frames.is_some());
-        if let Some((demand3, clean)) = &trial.promises {
+        if let Some(promises) = &trial.promises {
             self.counts.runs_from_fresh += 1;
             let tables = Tables::from_raw(&end.tables).ok_or("a run left broken tables")?;
-            demand3.end(&tables, &end.fast, &end.slow)?;
-            clean.end(&tables, &end.fast, &end.slow)?;
+            promises.demand3.end(&tables, &end.fast, &end.slow)?;
+            promises.clean.end(&tables, &end.fast, &end.slow)?;
+            promises.history.end(self.kernel, &end)?;
         }
         Ok(())
     }
@@ -548,6 +561,13 @@ pub(crate) fn fresh_start(kernel: &dyn Kernel, rng: &mut Rng) -> Lent {
     start
 }
 
+/// What is checked of a run from fresh tables.
+struct Promises {
+    demand3: Demand3,
+    clean: Clean,
+    history: History,
+}
+
 /// A whole file in the making.
 struct Trial {
     start: Lent,
@@ -556,7 +576,7 @@ struct Trial {
     /// The replies to it, one behind the other.
     replies: Vec<u8>,
     /// For a run from fresh tables.
-    promises: Option<(Demand3, Clean)>,
+    promises: Option<Promises>,
     /// For a run on sound tables.
     frames: Option<Frames>,
     frames_used: [bool; 256],
@@ -578,8 +598,13 @@ impl Trial {
     }
 
     fn from_fresh(start: Lent) -> Trial {
+        let promises = Promises {
+            demand3: Demand3::start(),
+            clean: Clean::start(&start),
+            history: History::start(&start),
+        };
         Trial {
-            promises: Some((Demand3::start(), Clean::start(&start))),
+            promises: Some(promises),
             ..Trial::new(start)
         }
     }

@@ -16,7 +16,7 @@ fn frames(lent: &Lent) -> usize {
 }
 
 /// The 64 bytes at a frame; none past the last one.
-fn bytes(lent: &Lent, frame: usize) -> &[u8] {
+pub(crate) fn bytes_at(lent: &Lent, frame: usize) -> &[u8] {
     let (store, place) = match frame.checked_sub(lent.tables[0].into()) {
         None => (&lent.fast, frame),
         Some(slow) => (&lent.slow, slow),
@@ -29,7 +29,7 @@ impl Frames {
     /// At the start of a run on sound tables.
     pub fn start(lent: &Lent) -> Frames {
         let on_retired = |frame| is_retired(&lent.tables, frame);
-        let at = |frame: usize| on_retired(frame).then(|| bytes(lent, frame).to_vec());
+        let at = |frame: usize| on_retired(frame).then(|| bytes_at(lent, frame).to_vec());
         Frames {
             retired: (0..REGISTERED).map(at).collect(),
         }
@@ -58,8 +58,8 @@ impl Frames {
                 }
                 continue;
             }
-            let due = retired.get_or_insert_with(|| bytes(before, frame).to_vec());
-            if bytes(after, frame) != due {
+            let due = retired.get_or_insert_with(|| bytes_at(before, frame).to_vec());
+            if bytes_at(after, frame) != due {
                 return Err(format!("frames: {frame}, retired, has other bytes"));
             }
         }

@@ -1156,6 +1156,7 @@ pub fn deep_file(rng: &mut Rng, fast: u8, slow: u8) -> Vec<u8> {
     let (whole, one) = (write(FRAME), write(1));
 
     let mut calls = closed_and_open([station, guest], pages[2], eight[0]);
+    calls.extend(latest_and_stale(station, pages[3], eight, rng.bytes(3)));
     // Eight CURRENT copies; then one that is not, and is stale after the next write.
     calls.push(Call::Create { station, page });
     calls.extend(eight.iter().map(|&frame| copy_to(page, frame)));
@@ -1288,6 +1289,41 @@ fn closed_and_open([owner, guest]: [u8; 2], page: u8, frame: u8) -> Vec<Call> {
     calls.extend([by_guest.clone(), delete.clone(), create(owner)]);
     calls.extend(forward);
     calls.extend([by_guest, write, delete]);
+    calls
+}
+
+/// A page with copies of three writes: none, a write into two copies, and the same bytes again into
+/// one of them, so that the other is stale with the last bytes. At last it is deleted.
+fn latest_and_stale(station: u8, page: u8, frames: &[u8], bytes: Vec<u8>) -> Vec<Call> {
+    let copy_to = |copy, to: usize| Call::MakeCopy {
+        page,
+        copy,
+        frame: frames[to],
+    };
+    let set_current = |copy| Call::SetCurrent { page, copy };
+    let write = Call::Write {
+        station,
+        page,
+        offset: 0,
+        bytes,
+    };
+    let read = Call::Read {
+        station,
+        page,
+        offset: 0,
+        count: 3,
+    };
+    let mut calls = vec![Call::Create { station, page }];
+    calls.extend([copy_to(0, 0), copy_to(0, 1), copy_to(0, 2)]);
+    calls.extend([set_current(0), set_current(1), write.clone()]);
+    // Copy 3 is made of copy 2, which is stale; copy 1 has the last bytes, and is refused.
+    let remove = Call::RemoveCurrent { page, copy: 1 };
+    calls.extend([copy_to(2, 3), remove, write.clone()]);
+    calls.extend([set_current(1), read.clone(), copy_to(0, 4)]);
+    // The one CURRENT copy goes, and stale ones close the gap; then but one is MOST RECENT, and stays.
+    calls.extend([0, 3].map(|copy| Call::DeleteCopy { page, copy }));
+    calls.extend([set_current(3), copy_to(3, 0), write, read]);
+    calls.push(Call::DeletePage { station, page });
     calls
 }
 

@@ -52,8 +52,9 @@ fn main() -> ExitCode {
         println!("     {reached:33} {count:9}");
     }
     println!(
-        "{} whole files run, demand 3 and the clean cards checked on {} of them from fresh tables, free, \
-         held and retired frames on {} from sound ones; {} parts of files with their replies kept",
+        "{} whole files run, demand 3, the clean cards and the histories of pages checked on {} of them \
+         from fresh tables, free, held and retired frames on {} from sound ones; {} parts of files with \
+         their replies kept",
         counts.runs, counts.runs_from_fresh, counts.runs_from_sound, counts.parts
     );
     for (word, count) in exchange.rows() {

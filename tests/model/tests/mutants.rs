@@ -11,6 +11,7 @@ use ::model::flat::Demand3;
 use ::model::frames::Frames;
 use ::model::gen::{self, Moves, Rng};
 use ::model::hidden::{self, carried};
+use ::model::history::History;
 use ::model::kernel::{packed, Embedded, Kernel, Modelled, Stations};
 use ::model::model::{
     self, frame_bytes, Answer, Call, Lent, Page, PageCopy, Reached, Reader, Tables, ENTRIES, FRAME,
@@ -407,6 +408,67 @@ impl<'a> Turn<'a> {
         self.after.tables[register.clone()].copy_from_slice(&self.before.tables[register]);
     }
 
+    /// Refuses to delete the only CURRENT copy.
+    fn spare_last_current(&mut self) {
+        if let (Some(Call::DeleteCopy { copy, .. }), Some((_, page))) =
+            (self.call.clone(), self.accepted_page())
+        {
+            let only_current = page.current_frames().len() == 1;
+            if page.copies[usize::from(copy)].current && only_current {
+                self.refuse(15);
+            }
+        }
+    }
+
+    /// Deletes the only MOST RECENT copy of several where it is not CURRENT.
+    fn delete_last_recent(&mut self) {
+        let (Some(Call::DeleteCopy { page, copy }), 15) = (self.call.clone(), self.answer.number)
+        else {
+            return;
+        };
+        let tables = self.tables_before();
+        let record = tables.pages[usize::from(page)].as_ref().expect("a page");
+        let gone = record.copies[usize::from(copy)];
+        if let (true, Some(frame)) = (record.copies.len() > 1 && !gone.current, gone.frame) {
+            self.change_page(page.into(), |page| {
+                page.copies.remove(copy.into());
+            });
+            self.lay(&tables, frame, &[0; FRAME]);
+            self.accept_laying(FRAME);
+        }
+    }
+
+    /// Deletes the only copy of a page, and the page with it.
+    fn delete_only_copy(&mut self) {
+        let (Some(Call::DeleteCopy { page, .. }), 15) = (self.call.clone(), self.answer.number)
+        else {
+            return;
+        };
+        let mut tables = self.tables_before();
+        let record = tables.pages[usize::from(page)].take().expect("a page");
+        if let [PageCopy {
+            frame: Some(frame), ..
+        }] = record.copies[..]
+        {
+            self.lay(&tables, frame, &[0; FRAME]);
+            self.after.tables = tables.to_raw();
+            self.accept_laying(FRAME);
+        }
+    }
+
+    /// Sets a stale copy CURRENT, and MOST RECENT too or not.
+    fn set_stale(&mut self, recent: bool) {
+        let (Some(Call::SetCurrent { page, copy }), 16) = (self.call.clone(), self.answer.number)
+        else {
+            return;
+        };
+        self.change_page(page.into(), |page| {
+            let copy = &mut page.copies[usize::from(copy)];
+            (copy.current, copy.recent) = (true, recent);
+        });
+        self.accept_laying(0);
+    }
+
     /// Gives a number, with all as before.
     fn refuse(&mut self, number: u8) {
         let out = std::mem::take(&mut self.after.out);
@@ -490,7 +552,7 @@ fn even_marks(tables: &mut [u8]) {
 }
 
 /// The wrong kernels.
-const MUTANTS: [(&str, Flaw); 84] = [
+const MUTANTS: [(&str, Flaw); 89] = [
     // The traps of the paper.
     (
         "a new copy takes its source's CURRENT mark",
@@ -530,40 +592,22 @@ const MUTANTS: [(&str, Flaw); 84] = [
     ),
     (
         "last current spared for last recent",
-        Flaw::Answer(|turn| {
-            if let (Some(Call::DeleteCopy { copy, .. }), Some((_, page))) =
-                (turn.call.clone(), turn.accepted_page())
-            {
-                let only_current = page.current_frames().len() == 1;
-                if page.copies[usize::from(copy)].current && only_current {
-                    turn.refuse(15);
-                }
-            }
-        }),
+        Flaw::Answer(|turn| turn.spare_last_current()),
     ),
     (
         "last recent deleted where it is not current",
+        Flaw::Answer(|turn| turn.delete_last_recent()),
+    ),
+    (
+        "last current spared, and last recent not",
         Flaw::Answer(|turn| {
-            if let (Some(Call::DeleteCopy { page, copy }), 15) =
-                (turn.call.clone(), turn.answer.number)
-            {
-                let tables = Tables::from_raw(&turn.before.tables).expect("lawful tables");
-                let copies = &tables.pages[usize::from(page)]
-                    .as_ref()
-                    .expect("a page")
-                    .copies;
-                let gone = copies[usize::from(copy)];
-                if let (true, Some(frame)) = (copies.len() > 1 && !gone.current, gone.frame) {
-                    turn.change_page(page.into(), |page| {
-                        page.copies.remove(copy.into());
-                    });
-                    turn.lay(&tables, frame, &[0; FRAME]);
-                    turn.reply(&[0, 4, 1, 0, 0, 64]);
-                    turn.answer.number = 0;
-                    turn.answer.laid = 64;
-                }
-            }
+            turn.spare_last_current();
+            turn.delete_last_recent();
         }),
+    ),
+    (
+        "the only copy deleted, and the page with it",
+        Flaw::Answer(|turn| turn.delete_only_copy()),
     ),
     (
         "a free frame's old bytes taken for zeros",
@@ -698,6 +742,30 @@ const MUTANTS: [(&str, Flaw); 84] = [
                         entry.current &= other == usize::from(copy);
                     }
                 });
+            }
+        }),
+    ),
+    (
+        "set current without the test for stale",
+        Flaw::Answer(|turn| turn.set_stale(false)),
+    ),
+    (
+        "a stale copy set CURRENT and MOST RECENT",
+        Flaw::Answer(|turn| turn.set_stale(true)),
+    ),
+    (
+        "a write laid into stale copies too",
+        Flaw::Answer(|turn| {
+            if let (Some(Call::Write { offset, bytes, .. }), Some((_, page))) =
+                (turn.call.clone(), turn.accepted_page())
+            {
+                let tables = turn.tables_before();
+                let stale = page.copies.iter().filter(|copy| !copy.current);
+                for frame in stale.filter_map(|copy| copy.frame) {
+                    let mut laid = turn.held(frame).to_vec();
+                    laid[offset.into()..][..bytes.len()].copy_from_slice(&bytes);
+                    turn.lay(&tables, frame, &laid);
+                }
             }
         }),
     ),
@@ -2428,6 +2496,17 @@ fn frames(kernel: &dyn Kernel) -> Result<(), String> {
     )
 }
 
+/// Runs from fresh tables on whose copies alone is looked, by the writes that they carry.
+fn histories(kernel: &dyn Kernel) -> Result<(), String> {
+    runs(
+        kernel,
+        gen::fresh,
+        History::start,
+        |history, turn| history.turn(kernel, turn.message, turn.reply, turn.after),
+        |history, _, lent| history.end(kernel, lent),
+    )
+}
+
 const DEMAND_3: [&str; 20] = [
     "one current copy of two written",
     "a free frame's old bytes taken for zeros",
@@ -2534,6 +2613,45 @@ const BREAKING: [&str; 5] = [
     "a retire enters the frame in the register",
 ];
 
+/// Those that take an old copy for the latest or the latest for an old one, lose the last write, put
+/// copies in another order, or leave or show other bytes.
+const NOT_THE_HISTORY: [&str; 24] = [
+    "a new copy takes its source's CURRENT mark",
+    "stale marks spared when equal bytes are written",
+    "one current copy of two written",
+    "last recent deleted where it is not current",
+    "last current spared, and last recent not",
+    "the only copy deleted, and the page with it",
+    "a new copy is always recent",
+    "set current without the test for stale",
+    "a stale copy set CURRENT and MOST RECENT",
+    "a write laid into stale copies too",
+    "a free frame's old bytes taken for zeros",
+    "drops moves",
+    "reads zeros where nothing is current",
+    "a new copy goes to the front",
+    "the last copy fills the gap",
+    "set current takes the mark from the others",
+    "remove current takes MOST RECENT too",
+    "the frame of the copy that closed the gap filled",
+    "zeros laid by a delete copy refused 15",
+    "zeros laid by a delete page refused 10",
+    "a new copy of zeros is stale",
+    "a page of zeros has a null copy again",
+    "a stale copy with the CURRENT copy's bytes set current",
+    "a stale copy with the CURRENT copy's bytes shown as MOST RECENT",
+];
+
+/// A history goes by what was accepted, rightly or not, and speaks of copies alone. All CURRENT ones
+/// carry the last write, so that it is the same which of them is read.
+const THE_HISTORY: [&str; 5] = [
+    "last current spared for last recent",
+    "refuses all",
+    "reads the last current copy",
+    "a write with right 1 accepted",
+    "freed bytes remain, as document 01 had it",
+];
+
 /// Which of the mutants on a list a check does not catch; each on it is a mutant.
 fn missed_of(
     list: &[&str],
@@ -2592,6 +2710,18 @@ fn the_check_of_clean_cards_catches_what_breaks_it() {
     clean(&Modelled).expect("clean cards");
     let missed = missed_of(&NOT_CLEAN, |mutant| clean(mutant));
     assert_eq!(missed, Vec::<&str>::new());
+}
+
+/// The check of histories sees these without the model's steps.
+#[test]
+fn the_check_of_histories_catches_what_breaks_it() {
+    histories(&Modelled).expect("histories");
+    histories(&Embedded).expect("histories");
+    let by_the_check = |mutant: &Mutant| of_sort(histories(mutant), "history:");
+    let missed = missed_of(&NOT_THE_HISTORY, by_the_check);
+    assert_eq!(missed, Vec::<&str>::new());
+    let missed = missed_of(&THE_HISTORY, by_the_check);
+    assert_eq!(missed, THE_HISTORY);
 }
 
 /// The floors are reached by what every check of pairs begins with, whatever its seed.

@@ -257,17 +257,23 @@ fn close_up(browser: &mut Browser, file: &Path, page: &Path) {
             lines.lines().filter(|line| line.contains("copy ")).count()
         );
         for [copy, place, mark, since] in copies {
-            let line = match mark.as_str() {
-                "stale" if since.contains("made") => {
-                    let (since, by) = since.split_once(" made ").expect("two messages");
-                    let copy = format!("stale: copy {copy}, frame {place}, made by message {by} ");
-                    assert!(lines.contains(&copy), "{copy} is not in\n{lines}");
-                    format!("stale since message {since}, ")
-                }
-                "stale" => format!("stale: copy {copy}, frame {place}, since message {since}, "),
-                _ => format!("latest: copy {copy}, frame {place}, {mark}"),
+            let begin = match mark.as_str() {
+                "stale" => format!("stale: copy {copy}, frame {place}, "),
+                _ => format!("latest: copy {copy}, frame {place}, {mark}, "),
             };
-            assert!(lines.contains(&line), "{line} is not in\n{lines}");
+            let line = lines.lines().find(|line| line.starts_with(&begin));
+            let line = line.unwrap_or_else(|| panic!("{begin} is not in\n{lines}"));
+            let told = match (mark.as_str(), since.split_once(" made ")) {
+                ("stale", Some((since, by))) => vec![
+                    format!(", made by message {by} "),
+                    format!(", stale since message {since}, "),
+                ],
+                ("stale", None) => vec![format!(", since message {since}, ")],
+                _ => Vec::new(),
+            };
+            for words in told {
+                assert!(line.contains(&words), "{words} is not in\n{line}");
+            }
         }
     }
 }

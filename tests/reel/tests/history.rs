@@ -1,13 +1,14 @@
 //! The histories of pages and frames, as the tool prints them, held against the independent model on
 //! random files, from fresh tables and from such as were kept.
 
-use model::gen::{lawful, Rng};
-use model::model::Lent;
-use reel::looks::{Mark, OnFrame};
+use model::gen::{deep_file, lawful, roomy, Rng};
+use model::history::{History, OLDER};
+use model::model::{Lent, NO_FRAME};
+use reel::looks::{Mark, OnFrame, PAGES};
 use reel::words;
 use reel_tests::{
-    frame_since, fresh, kept, modelled_from, printed, random_file, random_file_from, Scratch,
-    Stale, Turn,
+    frame_since, fresh, kept, modelled_from, printed, random_file, random_file_from, so_since,
+    Scratch, Stale, Turn,
 };
 
 const SIZES: [(u8, u8); 5] = [(4, 4), (3, 9), (20, 20), (127, 127), (9, 0)];
@@ -18,6 +19,8 @@ struct Both {
     turns: Vec<Turn>,
     fast: u8,
     start: Vec<String>,
+    /// Which write each copy carries, at the start.
+    history: History,
     /// The unit as the model leaves it.
     end: Lent,
 }
@@ -39,21 +42,59 @@ impl Both {
         Both::of(scratch, &file, lent, start)
     }
 
+    /// A file that comes to every sort of stale copy, whole, and what is left of it where a page first
+    /// has copies of three writes.
+    fn deep(name: &str, seed: u64) -> [Both; 2] {
+        let rng = &mut Rng::new(seed);
+        let mut lent = roomy(rng);
+        let file = deep_file(rng, lent.tables[0], lent.tables[1]);
+        let both = |part: &str, file: &[u8], lent: Lent| {
+            let scratch = Scratch::new(&format!("{name}-{part}"));
+            let start = kept(&scratch, &lent);
+            Both::of(scratch, file, lent, start)
+        };
+        let whole = both("whole", &file, lent.clone());
+        let has_three =
+            |history: History| history.pages.iter().any(|page| page.writes_carried() == 3);
+        let mut messages = 0..=whole.messages();
+        let three = messages.find(|&at| has_three(whole.history_at(at)));
+        let (first, rest) = file.split_at(whole.length(three.expect("copies of three writes")));
+        modelled_from(&mut lent, first);
+        [whole, both("rest", rest, lent)]
+    }
+
     fn of(scratch: Scratch, file: &[u8], mut lent: Lent, start: Vec<String>) -> Both {
         scratch.file("calls", file);
         let fast = lent.tables[0];
+        let history = History::start(&lent);
         let turns = modelled_from(&mut lent, file);
         Both {
             scratch,
             turns,
             fast,
             start,
+            history,
             end: lent,
         }
     }
 
+    /// The histories of the pages after message `at`.
+    fn history_at(&self, at: usize) -> History {
+        let mut history = self.history.clone();
+        for turn in &self.turns[1..=at] {
+            history.follow(&turn.message, turn.reply.number == 0);
+        }
+        history
+    }
+
     fn messages(&self) -> usize {
         self.turns.len() - 1
+    }
+
+    /// The bytes of the messages up to this one.
+    fn length(&self, at: usize) -> usize {
+        let turns = self.turns[..=at].iter();
+        turns.map(|turn| turn.message.len()).sum()
     }
 
     fn printed(&self, command: &str, words: &[&str]) -> String {
@@ -67,22 +108,47 @@ impl Both {
         words::message(&self.turns[number].message)
     }
 
+    /// What a copy carries after message `at`, in the tool's words. It has the frame that it has in the
+    /// history, is CURRENT where it is so there, and stale where it does not carry the last write.
+    fn carried(&self, at: usize, page: usize, history: &History, number: usize) -> String {
+        let (history, seen) = (&history.pages[page], &self.turns[at].pages[page][number]);
+        let copy = &history.copies[number];
+        assert_eq!(seen.frame, (copy.frame != NO_FRAME).then_some(copy.frame));
+        assert_eq!(seen.mark == Mark::Current, copy.is_current);
+        assert_eq!(seen.mark != Mark::Stale, history.is_latest(copy));
+        let write = match (copy.carries.number, self.stands_since(at, page)) {
+            (OLDER, _) => "what was stale at the start".into(),
+            (0, 0) => "what was latest at the start".into(),
+            (0, _) => "no write".into(),
+            (number, _) => format!("message {number}"),
+        };
+        format!("carrying {write}")
+    }
+
+    /// The message that created the page, 0 if it stands from the start.
+    fn stands_since(&self, at: usize, page: usize) -> usize {
+        so_since(&self.turns, at, |turn| !turn.pages[page].is_empty())
+    }
+
     /// The lines of `reel page FILE PAGE`.
     fn history(&self, page: usize) -> String {
-        let mut lines = String::new();
+        let (mut lines, mut history) = (String::new(), self.history.clone());
         for (at, turn) in self.turns.iter().enumerate().skip(1) {
+            history.follow(&turn.message, turn.reply.number == 0);
             if turn.page() != Some(page as u8) {
                 continue;
             }
-            let copies = turn.pages[page].iter().map(|copy| {
+            let copies = turn.pages[page].iter().enumerate().map(|(number, copy)| {
                 let words = copy.in_words(self.fast);
+                let carried = self.carried(at, page, &history, number);
                 match copy.mark {
                     Mark::Stale => {
                         let stale = Stale::of(&self.turns, at, page, copy);
                         let made = stale
                             .making()
                             .map_or(String::new(), |made| format!(" ({made})"));
-                        format!("{words} {}{made}", from_start_or(stale.since, "since ", ""))
+                        let since = from_start_or(stale.since, "since ", "");
+                        format!("{words} {since} {carried}{made}")
                     }
                     _ => words,
                 }
@@ -96,24 +162,49 @@ impl Both {
         lines
     }
 
-    /// The lines of `reel page FILE PAGE --at K` about copies.
+    /// The lines of `reel page FILE PAGE --at K` about the last write and about copies.
     fn latest(&self, at: usize, page: usize) -> Vec<String> {
+        let history = &self.history_at(at);
         let copies = self.turns[at].pages[page].iter().enumerate();
         let (stale, recent): (Vec<_>, Vec<_>) =
             copies.partition(|(_, copy)| copy.mark == Mark::Stale);
-        let recent = recent.iter().map(|(number, copy)| {
+        let written = (!recent.is_empty()).then(|| self.last_write(at, page, history));
+        let recent = recent.iter().map(|&(number, copy)| {
             let (place, mark) = (copy.place(self.fast), copy.mark.word());
-            format!("latest: copy {number}, {place}, {mark}")
+            let carried = self.carried(at, page, history, number);
+            format!("latest: copy {number}, {place}, {mark}, {carried}")
         });
-        let stale = stale.iter().map(|(number, copy)| {
+        let stale = stale.iter().map(|&(number, copy)| {
             let stale = Stale::of(&self.turns, at, page, copy);
             let made = stale
                 .making()
                 .map_or(String::new(), |made| format!("{made}, stale "));
             let (place, since) = (copy.place(self.fast), self.since(stale.since));
-            format!("stale: copy {number}, {place}, {made}{since}")
+            let carried = self.carried(at, page, history, number);
+            format!("stale: copy {number}, {place}, {carried}, {made}{since}")
         });
-        recent.chain(stale).collect()
+        written.into_iter().chain(recent).chain(stale).collect()
+    }
+
+    fn last_write(&self, at: usize, page: usize, history: &History) -> String {
+        let number = history.pages[page].last.number as usize;
+        let words = match (number, self.stands_since(at, page)) {
+            (0, 0) => "none since the start".into(),
+            (0, created) => format!("none {}", self.since(created)),
+            (number, _) => format!("message {number}, {}", self.words(number)),
+        };
+        format!("last write: {words}")
+    }
+
+    /// The same lines, after the tool's are found to be just these.
+    fn compared(&self, at: usize, page: usize) -> Vec<String> {
+        let lines = self.printed("page", &[&page.to_string(), "--at", &at.to_string()]);
+        let begins = ["last write: ", "latest: ", "stale: "];
+        let told = |line: &&str| begins.iter().any(|begin| line.starts_with(begin));
+        let due = self.latest(at, page);
+        let lines: Vec<&str> = lines.lines().filter(told).collect();
+        assert_eq!(lines, due, "message {at}");
+        due
     }
 
     fn since(&self, number: usize) -> String {
@@ -206,19 +297,48 @@ fn the_latest_copies_are_those_of_the_model() {
     for both in shifts("latest", 1_000) {
         for at in (0..=both.messages()).step_by(both.messages() / 40 + 1) {
             for page in [63, 62] {
-                let lines = both.printed("page", &[&page.to_string(), "--at", &at.to_string()]);
-                let told =
-                    |line: &&str| line.starts_with("latest: ") || line.starts_with("stale: ");
-                let lines: Vec<&str> = lines.lines().filter(told).collect();
-                let due = both.latest(at, page);
-                assert_eq!(lines, due, "message {at}");
-                for (words, count) in &mut seen {
-                    *count += due.iter().filter(|line| line.contains(*words)).count();
+                for line in both.compared(at, page) {
+                    for (words, count) in &mut seen {
+                        *count += usize::from(line.contains(*words));
+                    }
                 }
             }
         }
     }
     assert!(seen.iter().all(|(_, count)| *count > 5), "{seen:?}");
+}
+
+/// Each file comes to all of this, whatever its seed.
+#[test]
+fn every_copy_carries_the_write_that_the_model_says() {
+    for seed in 301..304 {
+        let mut seen = [
+            ("last write: ", "message ", 0),
+            ("last write: ", "none since message ", 0),
+            ("last write: ", "none since the start", 0),
+            ("latest: ", "CURRENT, carrying message ", 0),
+            ("latest: ", "MOST RECENT, carrying message ", 0),
+            ("latest: ", "carrying no write", 0),
+            ("latest: ", "carrying what was latest at the start", 0),
+            ("stale: ", "carrying message ", 0),
+            ("stale: ", "carrying no write, since ", 0),
+            ("stale: ", "carrying no write, made by ", 0),
+            ("stale: ", "carrying what was latest at the start", 0),
+            ("stale: ", "carrying what was stale at the start", 0),
+        ];
+        for both in Both::deep("carried", seed) {
+            for (at, turn) in both.turns.iter().enumerate().skip(1) {
+                let page = turn.page().filter(|&page| usize::from(page) < PAGES);
+                let lines = page.map(|page| both.compared(at, page.into()));
+                for line in lines.into_iter().flatten() {
+                    for (begin, words, count) in &mut seen {
+                        *count += usize::from(line.starts_with(*begin) && line.contains(*words));
+                    }
+                }
+            }
+        }
+        assert!(seen.iter().all(|(_, _, count)| *count > 0), "{seen:?}");
+    }
 }
 
 #[test]
@@ -268,12 +388,8 @@ fn what_is_kept_is_what_the_model_leaves() {
         assert_eq!(read(&stores), [&both.end.fast[..], &both.end.slow].concat());
         // Kept half way, over the files that it starts from, and then run to the end.
         let half = both.messages() / 2;
-        let ends: usize = both.turns[..=half]
-            .iter()
-            .map(|turn| turn.message.len())
-            .sum();
         let bytes = std::fs::read(both.scratch.path("calls")).expect("the file");
-        let rest = both.scratch.file("rest", &bytes[ends..]);
+        let rest = both.scratch.file("rest", &bytes[both.length(half)..]);
         both.printed(
             "page",
             &[&["0", "--at", &half.to_string()], &keep[..]].concat(),

@@ -1,10 +1,11 @@
-//! The copies of one page, each stale one with the message that made it stale; and what is on one
-//! frame, with the message that brought it about.
+//! The copies of one page, each with the write that it carries and a stale one with the message that
+//! made it stale; and what is on one frame, with the message that brought it about.
 
 use crate::kinds::{Argument, Call};
 use crate::looks::{Mark, OnFrame, PageCopy, Watched};
 use crate::run::Answered;
 use crate::words;
+use crate::writes::Writes;
 
 /// A message of the file: its number and its words. Number 0 is the start.
 #[derive(Clone, Debug, PartialEq, Eq)]
@@ -14,16 +15,14 @@ pub struct Turn {
 }
 
 impl Turn {
-    fn start() -> Turn {
+    pub fn start() -> Turn {
         let words = String::new();
         Turn { number: 0, words }
     }
 
-    fn of(answered: &Answered) -> Turn {
-        Turn {
-            number: answered.number,
-            words: words::message(answered.message),
-        }
+    pub fn of(number: u64, message: &[u8]) -> Turn {
+        let words = words::message(message);
+        Turn { number, words }
     }
 
     /// As `since message 7, create station 3 page 5`.
@@ -61,9 +60,11 @@ pub struct Held {
 }
 
 /// A page from the start on.
-#[derive(Default)]
 pub struct History {
+    /// As looks show them.
     copies: Vec<Held>,
+    /// What each of them carries, by the messages alone.
+    writes: Writes,
     last_change: Option<Turn>,
     /// How many copies there were.
     named: u64,
@@ -72,19 +73,31 @@ pub struct History {
 impl History {
     /// A page as it is at the start.
     pub fn start(page: u8, watched: &Watched) -> History {
-        let mut history = History::default();
-        if !watched.copies(page).is_empty() {
-            history.change(Turn::start(), None, watched.copies(page));
+        let copies = watched.copies(page);
+        let mut history = History {
+            copies: Vec::new(),
+            writes: Writes::start(copies),
+            last_change: None,
+            named: 0,
+        };
+        if !copies.is_empty() {
+            history.change(Turn::start(), None, copies);
         }
         history
     }
 
     /// Follows a page over one message more.
     pub fn follow(&mut self, answered: &Answered, page: u8) {
+        let Answered {
+            number, message, ..
+        } = *answered;
+        let is_accepted = answered.reply.number == 0;
+        self.writes.follow(page, number, message, is_accepted);
         if answered.watched.changed().contains(&page) {
-            let call = Call::parse(answered.message);
+            let call = Call::parse(message);
             let source = call.and_then(|call| call.argument(Argument::Copy));
-            self.change(Turn::of(answered), source, answered.watched.copies(page));
+            let turn = Turn::of(number, message);
+            self.change(turn, source, answered.watched.copies(page));
         }
     }
 
@@ -116,7 +129,7 @@ impl History {
         if self.copies.is_empty() {
             return "the page does not stand".into();
         }
-        words::listed(self.copies.iter().map(|held| {
+        words::listed(self.numbered(|_| true).map(|(number, held)| {
             let copy = held.copy.in_words(fast);
             match &held.stale {
                 None => copy,
@@ -128,13 +141,15 @@ impl History {
                         0 => "from the start".into(),
                         number => format!("since {number}"),
                     };
-                    format!("{copy} {since}{}", made.unwrap_or_default())
+                    let carried = self.writes.carried(number);
+                    format!("{copy} {since} {carried}{}", made.unwrap_or_default())
                 }
             }
         }))
     }
 
-    /// Which copies are the latest after message `at`, and since when the others are stale.
+    /// What was written last up to message `at`, which copies are the latest, since when the others
+    /// are stale, and which write each carries.
     pub fn latest(&self, page: u8, at: u64, fast: u8) -> Vec<String> {
         if self.copies.is_empty() {
             let why = match &self.last_change {
@@ -146,9 +161,11 @@ impl History {
             )];
         }
         let mut lines = vec![format!("page {page} after message {at}")];
+        lines.push(self.writes.last_write());
         for (number, Held { copy, .. }) in self.numbered(|held| held.stale.is_none()) {
             let (place, mark) = (copy.place(fast), copy.mark.word());
-            lines.push(format!("latest: copy {number}, {place}, {mark}"));
+            let carried = self.writes.carried(number);
+            lines.push(format!("latest: copy {number}, {place}, {mark}, {carried}"));
         }
         let mut current = self.numbered(|held| held.copy.mark == Mark::Current);
         if current.next().is_none() {
@@ -157,7 +174,8 @@ impl History {
         for (number, Held { copy, stale, .. }) in self.numbered(|_| true) {
             if let Some(stale) = stale {
                 let (place, why) = (copy.place(fast), self.why(stale));
-                lines.push(format!("stale: copy {number}, {place}, {why}"));
+                let carried = self.writes.carried(number);
+                lines.push(format!("stale: copy {number}, {place}, {carried}, {why}"));
             }
         }
         lines
@@ -226,7 +244,7 @@ impl FrameHistory {
     pub fn follow(&mut self, answered: &Answered) {
         let now = answered.watched.on_frame(self.frame);
         if !is_same(self.now, now) {
-            self.since = Turn::of(answered);
+            self.since = Turn::of(answered.number, answered.message);
         }
         self.now = now;
     }

@@ -1,6 +1,7 @@
 //! Call files of the reel page kernel in words and pictures. Every state that is shown comes from
-//! the kernel's own look replies; only `rules`, which says what is wrong with broken tables, looks into
-//! the tables' bytes.
+//! the kernel's own look replies; which write a copy carries, which no look shows, `writes` tells by
+//! the messages that were accepted. Only `rules`, which says what is wrong with broken tables, looks
+//! into the tables' bytes.
 
 pub mod commands;
 mod diff;
@@ -22,3 +23,4 @@ mod start;
 mod summary;
 pub mod view;
 pub mod words;
+mod writes;

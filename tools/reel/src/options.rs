@@ -18,8 +18,8 @@ reel: call files of the reel page kernel, seen through the kernel's own replies
   reel show FILE                 each message with its reply
   reel page FILE PAGE            the history of a page: each message that names it, with the
                                  page's copies after it
-  reel page FILE PAGE --at K     which copies are the latest after message K, and which message
-                                 made each of the others stale
+  reel page FILE PAGE --at K     which copies are the latest after message K, which message made
+                                 each of the others stale, and which accepted write each carries
   reel frame FILE FRAME          the history of a frame: each message that names it, changes what
                                  is on it or lays bytes there, with what is on it after it
   reel frame FILE FRAME --at K   what is on it after message K, and since when
