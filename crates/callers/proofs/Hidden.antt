@@ -57,7 +57,7 @@ module _ (t : Tables) (k k′ : Kept) (ok : sound t ≡ true) (u : UnitOf t k) (
 -- ---- what they keep
 
 -- the run that calls come to, where their turns are those of messages xs
-came-to : (k : Kept) (cs : List Called) → Through k cs → (xs : List Sent)
+pub came-to : (k : Kept) (cs : List Called) → Through k cs → (xs : List Sent)
     → turnsThrough k cs ≡ turnsOf 70 (stateIn k) xs
     → runOver 70 xs (stateIn k) ≡ runThrough k cs
 came-to k cs q xs e = rw (e, end-reached k cs q xs e)

@@ -111,16 +111,16 @@ kept-is k r sane e =
 -- from fresh tables on
 module _ (p s : ℕ) (b fast slow : List ℕ) (answered-0 : freshInto p s b .number ≡ accepted) (lp : length fast ≡ 64 * p)
     (ls : length slow ≡ 64 * s) where
-  abbrev k₀ : Kept
+  abbrev pub k₀ : Kept
   k₀ = kept (freshInto p s b .bytes) fast slow
 
   abbrev f₀ : State
   f₀ = stateOf (freshTables p s) fast slow
 
-  fresh : Freshly p s b
+  pub fresh : Freshly p s b
   fresh = freshly p s b answered-0
 
-  start : Leaves k₀ f₀
+  pub start : Leaves k₀ f₀
   start = fresh-leaves p s b fast slow answered-0 lp ls
 
   -- where the turns of the calls are those of messages xs

@@ -4,4 +4,5 @@ pub mod Calls
 pub mod Lent
 pub mod Read
 pub mod Hidden
+pub mod Claims
 pub mod Witness

@@ -1,0 +1,5 @@
+pub mod History
+pub mod NoOldCopy
+pub mod Note
+pub mod Placement
+pub mod WitnessPlacement
