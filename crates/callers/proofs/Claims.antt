@@ -39,14 +39,15 @@ of-calls X h p s b fast slow e lp ls cs calls =
     (h p s fast slow xs (low .fast-low) (low .slow-low) lp ls)
 
 -- further calls, with messages from placement
-placement-kept : OfCalls (λ k cs. (cs′ : List Called) → Calls (keptAfter k cs) cs′ → fromPlacement (messagesThrough cs′) ≡ true
-    → (q : ℕ) → q < 64 → seen (stateIn (keptAfter (keptAfter k cs) cs′)) q ≡ seen (stateIn (keptAfter k cs)) q)
+placement-kept : OfCalls (λ k cs. (cs′ : List Called) → Calls (keptAfter k cs) cs′
+    → fromPlacement (messagesThrough cs′) ≡ true → (q : ℕ) → q < 64
+    → seen (stateIn (keptAfter (keptAfter k cs) cs′)) q ≡ seen (stateIn (keptAfter k cs)) q)
 placement-kept p s b fast slow e lp ls cs calls cs′ calls′ from q near =
     let k = k₀ p s b fast slow e lp ls in
     let t = through k cs (start p s b fast slow e lp ls .sane) calls in
     let t′ = through (keptAfter k cs) cs′ (t .sane) calls′ in
-    let safe = of-calls (λ (r : Run). PagesSafe (r .final)) (λ p s fast slow xs. placement p s 70 fast slow xs) p s b fast
-    slow e lp ls cs calls in
+    let safe = of-calls (λ (r : Run). PagesSafe (r .final)) (λ p s fast slow xs. placement p s 70 fast slow xs) p s b
+    fast slow e lp ls cs calls in
     ap (λ (x : State). seen x q) (t′ .state-is) ∙ safe .pages-kept 70 (messagesThrough cs′) from q near
 
 pub claims-lent : ClaimsLent

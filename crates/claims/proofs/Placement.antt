@@ -168,8 +168,8 @@ answered room wide s good x c is =
 
 -- so many bytes of replies, and page q
 module _ (room q : ℕ) (wide : 70 ≤ room) (near : q < 64) where
-  pub reads-answered : (s : State) → Good s → absent (pageAt (s .tables) q) ≡ false → 1 ≤ currents (pageAt (s .tables) q)
-      → (x : Sent)
+  pub reads-answered : (s : State) → Good s → absent (pageAt (s .tables) q) ≡ false
+      → 1 ≤ currents (pageAt (s .tables) q) → (x : Sent)
       → asksFor q (λ c. isRead (c .kind)) (asked x) ≡ true → listed (numberOf (answer room s x)) fine ≡ true
   reads-answered s good some cur x e = go (asked x) refl e
     where

@@ -1,5 +1,5 @@
--- For each field of `BroughtBack` moves that this field rules out and no other does, on page 5 and with a reply buffer of
--- 70 bytes; computed, but for the law that says of every read how it is answered.
+-- For each field of `BroughtBack` moves that this field rules out and no other does, on page 5 and with a reply buffer
+-- of 70 bytes; computed, but for the law that says of every read how it is answered.
 use Prim.Native.Nat.{ℕ, _≤_}
 use mathlib.Core.Path.{_≡_, refl}
 use mathlib.Core.Bool.{true, false, false≢true}
@@ -110,9 +110,9 @@ abbrev pub Row : Field → Field → Type 0
 Row i j = But (eqb (place i) (place j)) (Says (found i) (wrong i) j)
 
 pub alone : (i j : Field) → Row i j
-unfolding endOf messagesOf split answer parse names kinds code among argument callOf step decideOn perform sound sizesRule
-    pagesRule noneShared allBelow all count holders uses pageRule standingRule absentRule registerRule inPages inCopies
-    freshTables freshPage after vacated occupied fits
+unfolding endOf messagesOf split answer parse names kinds code among argument callOf step decideOn perform sound
+    sizesRule pagesRule noneShared allBelow all count holders uses pageRule standingRule absentRule registerRule inPages
+    inCopies freshTables freshPage after vacated occupied fits
 alone of-bytes = each (Row of-bytes) (λ e. false≢true e) (omega arith) refl still-read
 alone few = each (Row few) refl (λ e. omega arith) refl still-read
 alone by-placement = each (Row by-placement) refl (omega arith) (λ e. false≢true e) still-read

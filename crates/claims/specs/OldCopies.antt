@@ -246,7 +246,8 @@ fifthPage = pageAt (written .tables) 5
 
 -- the kinds in their order, each by the owner and by station 4, on page 5
 abbrev pub byKind : (Page → Call → Bool) → List (Bool × Bool)
-byKind entitled = map (λ (k : Kind). (entitled fifthPage (callOf k (3 ∷ 5 ∷ [])), entitled fifthPage (callOf k (4 ∷ 5 ∷ [])))) kinds
+byKind entitled =
+    map (λ (k : Kind). (entitled fifthPage (callOf k (3 ∷ 5 ∷ [])), entitled fifthPage (callOf k (4 ∷ 5 ∷ [])))) kinds
 
 abbrev pub no : Bool × Bool
 no = (false, false)

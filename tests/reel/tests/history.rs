@@ -1,7 +1,7 @@
 //! The histories of pages and frames, as the tool prints them, held against the independent model on
 //! random files, from fresh tables and from such as were kept.
 
-use model::gen::{deep_file, lawful, roomy, Rng};
+use model::gen::{deep_file, lawful, roomy, shaped_sweep, Rng};
 use model::history::{History, OLDER};
 use model::model::{Lent, NO_FRAME};
 use reel::looks::{Mark, OnFrame, PAGES};
@@ -61,6 +61,28 @@ impl Both {
         let (first, rest) = file.split_at(whole.length(three.expect("copies of three writes")));
         modelled_from(&mut lent, first);
         [whole, both("rest", rest, lent)]
+    }
+
+    /// A file as `deep` has, with a message of any version, kind, length and bytes before each of its
+    /// own.
+    fn hostile(name: &str, seed: u64) -> Both {
+        let rng = &mut Rng::new(seed);
+        let lent = roomy(rng);
+        let deep = deep_file(rng, lent.tables[0], lent.tables[1]);
+        let own = modelled_from(&mut lent.clone(), &deep);
+        let mut any = shaped_sweep(rng);
+        any.retain(|bytes| {
+            let length = bytes.get(..2).map(|l| u16::from_be_bytes([l[0], l[1]]));
+            length.map(usize::from) == bytes.len().checked_sub(2)
+        });
+        let mut file = Vec::new();
+        for turn in &own[1..] {
+            file.extend(rng.pick(&any));
+            file.extend(&turn.message);
+        }
+        let scratch = Scratch::new(name);
+        let start = kept(&scratch, &lent);
+        Both::of(scratch, &file, lent, start)
     }
 
     fn of(scratch: Scratch, file: &[u8], mut lent: Lent, start: Vec<String>) -> Both {
@@ -338,6 +360,21 @@ fn every_copy_carries_the_write_that_the_model_says() {
             }
         }
         assert!(seen.iter().all(|(_, _, count)| *count > 0), "{seen:?}");
+    }
+}
+
+#[test]
+fn any_messages_in_between_are_followed_as_the_model_says() {
+    for seed in 401..403 {
+        let both = Both::hostile("hostile", seed);
+        let mut stale = 0;
+        for (at, turn) in both.turns.iter().enumerate().skip(1) {
+            let page = turn.page().filter(|&page| usize::from(page) < PAGES);
+            let lines = page.map(|page| both.compared(at, page.into()));
+            let lines = lines.into_iter().flatten();
+            stale += lines.filter(|line| line.starts_with("stale: ")).count();
+        }
+        assert!(stale > 5, "seed {seed}: {stale}");
     }
 }
 
