@@ -3,7 +3,7 @@
 use Prim.Native.Nat.{ℕ, suc, _+_, _≤_, _<_, zero-le}
 use mathlib.Core.Path.{_≡_, refl, sym, ap, ap₂, _∙_, subst}
 use mathlib.Core.Logic.{_≢_}
-use mathlib.Core.Bool.{Bool, true, false, not, _&&_, cond}
+use mathlib.Core.Bool.{Bool, true, false, not, _&&_, cond, and-false}
 use mathlib.Core.List.{List, [], _∷_, _++_, map, map-append}
 use native.Mathlib.Numerals.{add-one}
 use native.Mathlib.Omega.{arith}
@@ -15,7 +15,7 @@ use Rattle.tables.specs.declared.Copy.{Copy}
 use Rattle.tables.specs.declared.Page.{Page}
 use Rattle.tables.specs.declared.Edit.the-variants.{Created, Staled, Placed, Added, Removed, Marked}
 use Rattle.tables.specs.Lists.{count, Each}
-use Rattle.tables.specs.Model.{isNull, inUse, absent, zeroCopy, onFrame}
+use Rattle.tables.specs.Model.{nullFrame, isNull, inUse, absent, zeroCopy, onFrame}
 use Rattle.tables.specs.Rules.{isCurrent}
 use Rattle.tables.specs.Changes.{created, staleCopy, newCopy, withCurrent, changed}
 use Rattle.tables.proofs.ListLaws.{and-intro, any-default, count-at}
@@ -27,11 +27,7 @@ use Rattle.steps.specs.Stores.{splice, block, zeros}
 use Rattle.steps.specs.Steps.{copyAt}
 use Rattle.steps.proofs.Blocks.{oneOn}
 use Rattle.claims.specs.History.{PageWrite, CopyHistory, nullHistory, PageHistory, absentHistory, copyOf, begun, taking, wrote, copiedTo, dropped, switched}
-use Rattle.claims.specs.Latest.{carriesLast, asCopy, copyBytes}
-
-pub no-and : (a : Bool) → (a && false) ≡ false
-no-and true = refl
-no-and false = refl
+use Rattle.claims.specs.Latest.{carriesLast, asCopy}
 
 -- ---- what is kept
 
@@ -39,8 +35,9 @@ no-and false = refl
 abbrev pub AgedOne : PageHistory → CopyHistory → Type 0
 AgedOne h c = (carriesLast h c ≡ true → c .carries ≡ h .last) × (c .carries .message ≤ h .last .message)
 
+-- a copy holds the bytes of the write that it carries; what it holds is `contents`, which goes by the frame alone
 abbrev pub HoldingOne : List ℕ → CopyHistory → Type 0
-HoldingOne st c = copyBytes st c ≡ c .carries .bytes
+HoldingOne st c = cond (eqb (c .frame) nullFrame) zeros (block st (c .frame)) ≡ c .carries .bytes
 
 -- the record g of a page and the joined stores st beside its history; message n comes next
 pub record Told (n : ℕ) (h : PageHistory) (st : List ℕ) (g : Page) : Type 0 where
@@ -118,7 +115,7 @@ module _ {limit : ℕ} {g : Page} (d : StandingPage limit g) {n : ℕ} {h : Page
     pub good-told : GoodCopy limit (g .n) (asCopy h (copyOf h k))
     good-told = subst (GoodCopy limit (g .n)) copy-told (copy-at d k less)
 
-    pub held-told : copyBytes st (copyOf h k) ≡ copyOf h k .carries .bytes
+    pub held-told : HoldingOne st (copyOf h k)
     held-told = each-at (HoldingOne st) (h .copies) k nullHistory less-past (told .bytes)
 
     pub aged-told : AgedOne h (copyOf h k)
@@ -175,7 +172,8 @@ module _ {limit : ℕ} {g : Page} (d : StandingPage limit g) {n : ℕ} {h : Page
       where
         go : (u : Bool) → c .current ≡ u → (carriesLast h c && u) ≡ eqb (cond u v (c .carries) .message) n
         go true e = rw (marks e) (sym (eq-eqb n n refl))
-        go false e = no-and (carriesLast h c) ∙ sym (ne-eqb (c .carries .message) n (omega (arith, old, told .before)))
+        go false e =
+            and-false (carriesLast h c) ∙ sym (ne-eqb (c .carries .message) n (omega (arith, old, told .before)))
 
     each-told : (cs : List CopyHistory)
         → Each (λ (c : CopyHistory). (c .current ≡ true → carriesLast h c ≡ true)

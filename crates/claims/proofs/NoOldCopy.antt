@@ -9,7 +9,7 @@ use native.Mathlib.Decide.{ℕ-discrete}
 use native.Mathlib.Omega.{arith}
 use lib.ListN.{length, getD, take-append-drop, getD-replicate}
 use lib.Dec.{ltb, eqb}
-use borrow.Author.Tests.{leb-true, ltb-false, lt-ltb, eqb-true, eqb-false, eq-eqb, ne-eqb}
+use borrow.Author.Tests.{leb-true, ltb-false, lt-ltb, eqb-false, eq-eqb, ne-eqb}
 use Rattle.tables.specs.declared.Copy.{Copy}
 use Rattle.tables.specs.declared.Page.{Page}
 use Rattle.tables.specs.declared.Tables.{Tables}
@@ -34,11 +34,11 @@ use Rattle.steps.specs.declared.Kind.the-variants.{Create, DeletePage, Grant, R
 use Rattle.steps.specs.declared.Act.the-variants as Act
 use Rattle.steps.specs.declared.Call.{Call}
 use Rattle.steps.specs.declared.View.{View}
-use Rattle.steps.specs.Kinds.{station, page, names, kindNumber, isRead, kinds, kindOf, code, among, has}
-use Rattle.steps.specs.Stores.{part, block, zeros, layFrames}
+use Rattle.steps.specs.Kinds.{station, page, names, isRead, code, among, has}
+use Rattle.steps.specs.Stores.{part, block, contents, zeros, layFrames}
 use Rattle.steps.specs.Steps.{Outcome, refuse, accept, test, mapped, Plan, copyAt, currents, firstCurrent, pageFor, viewing, viewOf, rulesNumber, decideAny}
 use Rattle.steps.specs.Effects.{laidFrames, shownOf, stored, workData, State, joined, Result, carriedOut, step, left, dataOf}
-use Rattle.steps.proofs.KindLaws.{kind-numbered}
+use Rattle.steps.proofs.KindLaws.{kind-is}
 use Rattle.steps.proofs.Blocks.{block-lay-whole, block-lay-other, each-own, each-spared}
 use Rattle.steps.proofs.StoreLaws.{length-part}
 use Rattle.steps.proofs.ClearLaws.{on, frees-clears}
@@ -54,7 +54,7 @@ use Rattle.messages.specs.Run.{Sent, asked, bytesOf, respond, answer, Turn, tur
 use Rattle.theorems.proofs.Frames.{by-message}
 use Rattle.theorems.proofs.Whole.{start-inv}
 use Rattle.claims.specs.History.{PageWrite, PageHistory, nullHistory, absentHistory, copyOf, copiedTo, followed, isOf, followedIn, historyAfter}
-use Rattle.claims.specs.Latest.{nextHistory, Along, carriesLast, asCopy, copyBytes, Latest, ReadLast, ReadsLast, NoOldCopy}
+use Rattle.claims.specs.Latest.{nextHistory, Along, carriesLast, asCopy, Latest, ReadLast, ReadsLast, NoOldCopy}
 use Rattle.claims.specs.Note.{firstOf}
 use Rattle.claims.proofs.History.{Told, told-absent, told-begun, told-same, absent-long, copies-long, used-told, copy-told, good-told, held-told, aged-told, told-stored, told-written, told-marked, told-removed, told-placed, told-added}
 
@@ -441,10 +441,6 @@ latest-told q near n h s good told =
 
 -- ---- a read
 
-pub read-is : (k : Kind) → isRead k ≡ true → k ≡ Read
-unfolding kinds
-read-is k e = sym (kind-numbered k) ∙ ap kindOf (eqb-true (kindNumber k) 4 e)
-
 -- where the first copy stands of which f holds
 pub record FirstAt (f : Copy → Bool) (cs : List Copy) : Type 0 where
   pub at : ℕ
@@ -498,14 +494,14 @@ module _ (q : ℕ) (near : q < 64) (n : ℕ) (h : PageHistory) (s : State)
       first-current (inUse ofPage) ∙ ap (λ (x : Copy). x .frame) (f .first ∙ is) in
       let framed : eqb (copyOf h k .frame) 255 ≡ false = current-placed (good-told d told k less) cur in
       let last = aged-told d told k less .0 (good-told d told k less .marks cur) in
-      let told-data : dataOf (t .outcome) ≡ part (copyBytes (joined s) (copyOf h k)) (c .offset) (c .count) =
+      let told-data : dataOf (t .outcome) ≡ part (contents (joined s) (asCopy h (copyOf h k))) (c .offset) (c .count) =
       shows ∙ ap (λ (x : ℕ). part (block (joined s) x) (c .offset) (c .count)) frame ∙ rw framed in
       record {
         from = k;
         one-of = omega (arith, copies-long d told);
         is-current = cur;
         shown = told-data
-            ∙ ap (λ (z : State). part (copyBytes (joined z) (copyOf h k)) (c .offset) (c .count)) (sym same);
+            ∙ ap (λ (z : State). part (contents (joined z) (asCopy h (copyOf h k))) (c .offset) (c .count)) (sym same);
         carries-last = last;
         latest = told-data
             ∙ ap (λ (l : List ℕ). part l (c .offset) (c .count)) (held-told d told k less
@@ -523,7 +519,7 @@ module _ (q : ℕ) (near : q < 64) (n : ℕ) (h : PageHistory) (s : State)
     plan-read plan u out =
         let v = viewOf (s .tables) c in
         let g = pageAt (s .tables) (pageFor c) in
-        let is : c .kind ≡ Read = read-is (c .kind) read in
+        let is : c .kind ≡ Read = kind-is (c .kind) Read read in
         let need : Access g (c .station) Act.Read = subst (Needs g c) is (u .does .needs) in
         let plans : plan ≡ planFor v c (length bs) Read = u .does .plan-is ∙ ap (planFor v c (length bs)) is in
         let shows : dataOf (t .outcome) ≡ part (block (joined s) (firstCurrent (inUse g))) (c .offset) (c .count) =

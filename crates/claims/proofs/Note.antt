@@ -28,6 +28,7 @@ use Rattle.steps.specs.Stores.{part, block, contents}
 use Rattle.steps.specs.Steps.{Outcome, refuse, accept, test, mapped, Plan, rightOf, may, copyAt, currents, firstCurrent, pageFor, viewOf}
 use Rattle.steps.specs.Effects.{shownOf, workData, State, joined, Result, carriedOut, step, left}
 use Rattle.steps.specs.Promises.{stateOf}
+use Rattle.steps.proofs.KindLaws.{kind-is}
 use Rattle.steps.proofs.RightLaws.{allows-least}
 use Rattle.steps.proofs.DecisionLaws.{page-near}
 use Rattle.steps.proofs.DecideLaws.{IfAccepted, if-accepted}
@@ -45,7 +46,7 @@ use Rattle.claims.specs.History.{PageWrite, PageHistory, absentHistory, 
 use Rattle.claims.specs.Latest.{nextHistory}
 use Rattle.claims.specs.Note.{firstOf, seen, dataIn, accessIn, CopiesAgree, asksFor, isEntitled, toModify, toRule, toRead, SameContents, Secure, Claims, NoteClaims}
 use Rattle.claims.proofs.History.{Told, copy-told, held-told, aged-told}
-use Rattle.claims.proofs.NoOldCopy.{Known, known, Came, was-refused, was-accepted, came, page-named, viewAt, record-left, message-told, read-is, first-at, first-current, message-good, told-start}
+use Rattle.claims.proofs.NoOldCopy.{Known, known, Came, was-refused, was-accepted, came, page-named, viewAt, record-left, message-told, first-at, first-current, message-good, told-start}
 
 -- ---- the copies of a page
 
@@ -302,7 +303,7 @@ module _ (room : ℕ) (s : State) (fast slow : List ℕ) (fl : length (s .fast) 
       go c plan is u out false e = u .plan-ok .hides e (joined s) (fast ++ slow)
       go c plan is u out true e =
           let g = pageAt (s .tables) (pageFor c) in
-          let kind = read-is (c .kind) e in
+          let kind = kind-is (c .kind) Read e in
           let need : Access g (c .station) Act.Read = subst (Needs g c) kind (u .does .needs) in
           let named : has page (c .kind) ≡ true = ap (has page) kind in
           let right : leb 1 (rightOf g (c .station)) ≡ true = sym (allows-least (rightOf g (c .station)) Act.Read)
@@ -330,7 +331,7 @@ module _ (room : ℕ) (s : State) (fast slow : List ℕ) (fl : length (s .fast) 
           let at : pageFor c ≡ q =
           sym (page-named s c (bytesOf x) plan u (and-left (has page (c .kind)) _ of))
           ∙ eqb-true (c .page) q (and-right (has page (c .kind)) _ of) in
-          let kind = read-is (c .kind) (and-left (isRead (c .kind)) _ (and-right (isOf q c) _ asks)) in
+          let kind = kind-is (c .kind) Read (and-left (isRead (c .kind)) _ (and-right (isOf q c) _ asks)) in
           let need : Access g (c .station) Act.Read = subst (Needs g c) kind (u .does .needs) in
           let plans : plan ≡ planFor v c (length (bytesOf x)) Read = u .does .plan-is
           ∙ ap (planFor v c (length (bytesOf x))) kind in

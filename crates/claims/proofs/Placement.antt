@@ -2,7 +2,7 @@
 -- message; the messages of a file; a read of a page with a CURRENT copy; a copy set current; a copy made of a null one.
 use Prim.Native.Nat.{ℕ, suc, _≤_, _<_}
 use mathlib.Core.Path.{_≡_, refl, sym, ap, _∙_, subst}
-use mathlib.Core.Bool.{Bool, true, false, not, _&&_, cond, true≢false, false≢true}
+use mathlib.Core.Bool.{Bool, true, false, not, _&&_, cond, true≢false, false≢true, and-false}
 use mathlib.Core.List.{List, [], _∷_}
 use native.Mathlib.Omega.{arith}
 use lib.ListN.{length, getD, set, length-set}
@@ -34,6 +34,7 @@ use Rattle.steps.specs.declared.Work.the-variants.{Lays}
 use Rattle.steps.specs.Kinds.{station, page, names, kindNumber, kinds, isRead, code, among, has, argument, callOf}
 use Rattle.steps.specs.Steps.{Outcome, refuse, accept, guarded, mapped, Plan, planOf, noWork, showing, may, copyAt, currents, firstCurrent, perform, decideOn, pageFor, viewOf, decide, numberOf}
 use Rattle.steps.specs.Effects.{State, Result, carriedOut, step, left}
+use Rattle.steps.proofs.KindLaws.{kind-is}
 use Rattle.steps.proofs.RangeLaws.{outside-listed}
 use Rattle.steps.proofs.StepLaws.{Good, page-stands, good-rules, decide-ruled}
 use Rattle.messages.specs.declared.Parsed.{Parsed}
@@ -46,8 +47,7 @@ use Rattle.claims.specs.Latest.{nextHistory}
 use Rattle.theorems.specs.Flat.{gone, here}
 use Rattle.claims.specs.Note.{seen, asksFor, toModify, toRule}
 use Rattle.claims.specs.Placement.{unstamped, fromPlacement, BroughtBack, PagesSafe, Placement}
-use Rattle.claims.proofs.History.{no-and}
-use Rattle.claims.proofs.NoOldCopy.{came, read-is, message-good}
+use Rattle.claims.proofs.NoOldCopy.{came, message-good}
 use Rattle.claims.proofs.Note.{slotTold, seen-told, dataTold, accessTold, data-left, access-left, Histories, histories-left, start-histories}
 
 -- ---- one message
@@ -81,7 +81,7 @@ asks-none : (q : ℕ) (f : Call → Bool) (a : Parsed) → unstamped a ≡ true
     → ((c : Call) → has station (c .kind) ≡ false → f c ≡ false)
     → asksFor q f a ≡ false
 asks-none q f (Refused n) e h = refl
-asks-none q f (Asked c) e h = rw (h c (not-true _ e)) (no-and (isOf q c))
+asks-none q f (Asked c) e h = rw (h c (not-true _ e)) (and-false (isOf q c))
 
 -- a page that has the same data and the same access is the same
 slot-same : (h h′ : PageHistory) (g g′ : Page) → dataTold h′ ≡ dataTold h → accessTold h′ g′ ≡ accessTold h g
@@ -114,7 +114,7 @@ module _ (n : ℕ) (H : ℕ → PageHistory) (s : State) (k : Histories n H s) (
       let g = pageAt (s .tables) q in
       let none : (f : Page → Call → Bool) → ((c : Call) → has station (c .kind) ≡ false → f g c ≡ false)
       → (not (isRefusal o) && asksFor q (f g) (asked x)) ≡ false =
-      λ f h. rw (asks-none q (f g) (asked x) e h) (no-and (not (isRefusal o))) in
+      λ f h. rw (asks-none q (f g) (asked x) e h) (and-false (not (isRefusal o))) in
       seen-told q near (suc n) h′ s′ (k′ .good) (k′ .told q near)
       ∙ slot-same (H q) h′ g (pageAt (s′ .tables) q)
       (data-left q near n (H q) s x o (came room s x) (none toModify (λ c z. entitled-none g c z .0)))
@@ -179,7 +179,7 @@ module _ (room q : ℕ) (wide : 70 ≤ room) (near : q < 64) where
       go (Asked c) is e =
           let of = and-left (isOf q c) _ e in
           let named = eqb-true (c .page) q (and-right (has page (c .kind)) _ of) in
-          let kind = read-is (c .kind) (and-right (isOf q c) _ e) in
+          let kind = kind-is (c .kind) Read (and-right (isOf q c) _ e) in
           let at : pageFor c ≡ q = rw (named, lt-ltb q 64 near) in
           let g : Page = pageAt (s .tables) (pageFor c) in
           let some′ : absent g ≡ false = ap (λ (i : ℕ). absent (pageAt (s .tables) i)) at ∙ some in

@@ -3,17 +3,17 @@
 -- a run.
 use Prim.Native.Nat.{ℕ, suc, _*_, _≤_, _<_}
 use mathlib.Core.Path.{_≡_}
-use mathlib.Core.Bool.{Bool, true, false, not, _||_, cond}
+use mathlib.Core.Bool.{Bool, true, false, not, _||_}
 use mathlib.Core.List.{List, [], _∷_, map}
 use lib.ListN.{length}
 use lib.Dec.{eqb}
 use Rattle.tables.specs.declared.Copy.{Copy}
 use Rattle.tables.specs.declared.Page.{Page}
 use Rattle.tables.specs.Lists.{all, count, Each}
-use Rattle.tables.specs.Model.{nullFrame, inUse, absent, pageAt, freshTables}
+use Rattle.tables.specs.Model.{inUse, absent, pageAt, freshTables}
 use Rattle.steps.specs.declared.Call.{Call}
 use Rattle.steps.specs.Kinds.{isRead}
-use Rattle.steps.specs.Stores.{part, block, zeros}
+use Rattle.steps.specs.Stores.{part, contents}
 use Rattle.steps.specs.Effects.{State, joined, dataOf}
 use Rattle.steps.specs.Promises.{stateOf}
 use Rattle.messages.specs.declared.Parsed.the-variants.{Asked}
@@ -43,11 +43,7 @@ carriesLast h c = eqb (c .carries .message) (h .last .message)
 abbrev pub asCopy : PageHistory → CopyHistory → Copy
 asCopy h c = record { frame = c .frame; current = c .current; recent = carriesLast h c }
 
--- what a copy should be found to hold in the joined stores st: a null copy counts as 64 zeros
-abbrev pub copyBytes : List ℕ → CopyHistory → List ℕ
-copyBytes st c = cond (eqb (c .frame) nullFrame) zeros (block st (c .frame))
-
--- of a page with the record g
+-- of a page with the record g, where the joined stores are st
 pub record Latest (h : PageHistory) (st : List ℕ) (g : Page) : Type 0 where
   pub standing : absent g ≡ not (h .stands)
   -- the tables have these copies, in this order, with these marks
@@ -58,7 +54,7 @@ pub record Latest (h : PageHistory) (st : List ℕ) (g : Page) : Type 0 where
   pub some-last : h .stands ≡ true → 1 ≤ count (carriesLast h) (h .copies)
   -- each copy, a stale one too, holds the page's bytes as they were after the write that it carries: "Each COPY
   -- contains the data that was associated with the PAGE at some point in time"
-  pub bytes : Each (λ (c : CopyHistory). copyBytes st c ≡ c .carries .bytes) (h .copies)
+  pub bytes : Each (λ (c : CopyHistory). contents st (asCopy h c) ≡ c .carries .bytes) (h .copies)
 
 -- ---- of an accepted read c
 
@@ -67,7 +63,8 @@ pub record ReadLast (h : PageHistory) (t : Turn) (c : Call) : Type 0 where
   pub from : ℕ
   pub one-of : from < length (h .copies)
   pub is-current : copyOf h from .current ≡ true
-  pub shown : dataOf (t .outcome) ≡ part (copyBytes (joined (t .found)) (copyOf h from)) (c .offset) (c .count)
+  pub shown : dataOf (t .outcome)
+      ≡ part (contents (joined (t .found)) (asCopy h (copyOf h from))) (c .offset) (c .count)
   -- and carries the last accepted write
   pub carries-last : copyOf h from .carries ≡ h .last
   -- so that they are the page's bytes after that write

@@ -115,6 +115,7 @@ pub record Secure (kernel : State → Sent → Outcome Result) (room : ℕ) (t :
   -- "no unauthorized modification of information"
   pub data-kept : (q : ℕ) → q < 64 → isEntitled toModify t q ≡ false
       → dataIn (seen (left (t .found) (t .outcome)) q) ≡ dataIn (seen (t .found) q)
+  -- and of owner and rights, by which modification and access are authorised
   pub access-kept : (q : ℕ) → q < 64 → isEntitled toRule t q ≡ false
       → accessIn (seen (left (t .found) (t .outcome)) q) ≡ accessIn (seen (t .found) q)
   -- "no unauthorized direct access to information": unless the turn is entitled to read a page, its reply is

@@ -15,7 +15,7 @@ use Rattle.tables.specs.Model.{inUse, absent, freshCopy, freshTables, pageAt}
 use Rattle.tables.specs.Changes.{created, withCopies, newCopy}
 use Rattle.steps.specs.declared.Call.{Call}
 use Rattle.steps.specs.Kinds.{names, kinds, code, among, argument, callOf}
-use Rattle.steps.specs.Stores.{part}
+use Rattle.steps.specs.Stores.{part, contents}
 use Rattle.steps.specs.Steps.{accept}
 use Rattle.steps.specs.Effects.{State, joined, dataOf, readCall}
 use Rattle.messages.specs.Messages.{parse}
@@ -24,7 +24,7 @@ use Rattle.theorems.specs.Cases.{runOn}
 use Rattle.theorems.specs.Witness3.{But, start}
 use Rattle.claims.specs.History.{PageWrite, CopyHistory, PageHistory, absentHistory, nullHistory, copyOf, followed, historyAfter}
 use Rattle.claims.specs.OldCopies.{historyOver}
-use Rattle.claims.specs.Latest.{carriesLast, asCopy, copyBytes, Latest, ReadLast, ReadsLast, NoOldCopy}
+use Rattle.claims.specs.Latest.{carriesLast, asCopy, Latest, ReadLast, ReadsLast, NoOldCopy}
 
 -- ---- the fields of `Latest`
 
@@ -57,7 +57,7 @@ module _ (w : Beside) where
   Says copies = inUse (w .page) ≡ map (asCopy h) (h .copies)
   Says current-last = all (λ (c : CopyHistory). not (c .current) || carriesLast h c) (h .copies) ≡ true
   Says some-last = h .stands ≡ true → 1 ≤ count (carriesLast h) (h .copies)
-  Says bytes = Each (λ (c : CopyHistory). copyBytes (w .stores) c ≡ c .carries .bytes) (h .copies)
+  Says bytes = Each (λ (c : CopyHistory). contents (w .stores) (asCopy h c) ≡ c .carries .bytes) (h .copies)
 
   -- they are what `Latest` says
   pub field-of : Latest h (w .stores) (w .page) → (i : Field) → Says i
@@ -226,7 +226,8 @@ module _ (w : Reading) where
   Tells from is-current = copyOf (w .history) from .current ≡ true
   Tells from shown =
       dataOf (w .turn .outcome)
-      ≡ part (copyBytes (joined (w .turn .found)) (copyOf (w .history) from)) (w .call .offset) (w .call .count)
+      ≡ part (contents (joined (w .turn .found)) (asCopy (w .history) (copyOf (w .history) from))) (w .call .offset)
+      (w .call .count)
   Tells from carries-last = copyOf (w .history) from .carries ≡ w .history .last
   Tells from latest =
       dataOf (w .turn .outcome) ≡ part (w .history .last .bytes) (w .call .offset) (w .call .count)

@@ -3,7 +3,7 @@
 -- Computed.
 use Prim.Native.Nat.{ℕ, zero, suc, _≤_, _<_}
 use mathlib.Core.Path.{_≡_, refl, sym, ap, _∙_, subst}
-use mathlib.Core.Bool.{Bool, true, false, _&&_, cond, false≢true, true≢false}
+use mathlib.Core.Bool.{Bool, true, false, cond, false≢true, true≢false, and-false}
 use mathlib.Core.List.{List, [], _∷_, _++_}
 use native.Mathlib.Decide.{ℕ-discrete}
 use native.Mathlib.Omega.{arith}
@@ -394,11 +394,7 @@ pub look-ruled : Secure (toldByLook .kernel) 70 (toldByLook .turn) → ⊥
 unfolding parse names kinds code among argument callOf reply
 look-ruled k =
     false≢true (ap (λ (l : List ℕ). eqb (getD l 6 0) 7)
-    (k .reply-blind (λ q _. go (eqb 5 q)) (replicate 64 7) (replicate 64 7) refl refl))
-  where
-    go : (b : Bool) → (b && false) ≡ false
-    go true = refl
-    go false = refl
+    (k .reply-blind (λ q _. and-false (eqb 5 q)) (replicate 64 7) (replicate 64 7) refl refl))
 
 -- the owner's read, refused with a number that is a byte of the CURRENT copy
 abbrev pub toldByRefusal : Answered

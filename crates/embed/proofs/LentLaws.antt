@@ -1,6 +1,6 @@
 -- Tables in lent bytes: those that are put back are found by the next call, and bytes that hold none are broken tables.
 use Prim.Native.Nat.{ℕ, _+_}
-use mathlib.Core.Bool.{Bool, true, false, _&&_, cond, false≢true}
+use mathlib.Core.Bool.{Bool, true, false, _&&_, cond, false≢true, and-false}
 use mathlib.Core.List.{List, [], _∷_}
 use mathlib.Core.Path.{_≡_, refl, sym, ap, _∙_}
 use lib.ListN.{length, drop}
@@ -34,10 +34,6 @@ put-back-same b low = at-most (tablesIn b) refl
     at-most : (h : Bool) → tablesIn b ≡ h → cond h (tablesBytes (cond h (tablesFrom b) noTables)) b ≡ b
     at-most true e = tables-same b low e
     at-most false e = refl
-
-and-false : (a : Bool) → (a && false) ≡ false
-and-false true = refl
-and-false false = refl
 
 -- tables that may have moved, put back only then
 pub put-moved : (b : List ℕ) (moved : Bool) (t : Tables) → AreBytes b → (moved ≡ false → t ≡ tablesOf b)

@@ -1,7 +1,7 @@
 -- The kinds and their numbers. In order: a number that is none of 2 to 12, as the last arm of a `match` has it; the
 -- numbers of the kinds.
 use Prim.Native.Nat.{ℕ, _+_, _-_, _≤_, _<_}
-use mathlib.Core.Path.{_≡_, refl, ap}
+use mathlib.Core.Path.{_≡_, refl, sym, ap, _∙_}
 use mathlib.Core.Bool.{Bool, true, false}
 use mathlib.Core.List.{List}
 use native.Mathlib.Decide.{decLe}
@@ -61,6 +61,10 @@ numbered Retire = (refl, refl)
 
 pub kind-numbered : (k : Kind) → kindOf (kindNumber k) ≡ k
 kind-numbered k = numbered k .0
+
+-- kinds with the same number are the same
+pub kind-is : (k j : Kind) → eqb (kindNumber k) (kindNumber j) ≡ true → k ≡ j
+kind-is k j e = sym (kind-numbered k) ∙ ap kindOf (eqb-true (kindNumber k) (kindNumber j) e) ∙ kind-numbered j
 
 pub number-known : (k : Kind) → isUnknown (kindNumber k) ≡ false
 number-known k = numbered k .1

@@ -27,11 +27,11 @@ use Rattle.tables.proofs.ChangeSound.{retired-after}
 use Rattle.steps.specs.declared.Kind.{Kind}
 use Rattle.steps.specs.declared.Kind.the-variants.{Retire}
 use Rattle.steps.specs.declared.Call.{Call}
-use Rattle.steps.specs.Kinds.{frame, names, kinds, code, among, has, kindNumber, isRetire, kindOf}
+use Rattle.steps.specs.Kinds.{frame, names, code, among, has, isRetire}
 use Rattle.steps.specs.Stores.{block, zeros, layFrames}
 use Rattle.steps.specs.Steps.{Outcome, refuse, accept, test, mapped, Plan, planOf, noWork, pageFor, viewOf, rulesNumber, decideAny}
 use Rattle.steps.specs.Effects.{bit, laidFrames, State, joined, Result, carriedOut, step, left}
-use Rattle.steps.proofs.KindLaws.{kind-numbered}
+use Rattle.steps.proofs.KindLaws.{kind-is}
 use Rattle.steps.proofs.DecisionLaws.{page-near}
 use Rattle.steps.proofs.DecideLaws.{IfAccepted, if-accepted, past-number}
 use Rattle.steps.proofs.PlanLaws.{retire-plans}
@@ -63,13 +63,9 @@ one t ok f low = go (retiredAt t f) (eqb (holders t f) 0) refl refl
 
 -- ---- one message
 
-retire-is : (k : Kind) → isRetire k ≡ true → k ≡ Retire
-unfolding kinds
-retire-is k e = sym (kind-numbered k) ∙ ap kindOf (eqb-true (kindNumber k) 12 e)
-
 retire-named : (k : Kind) → isRetire k ≡ true → has frame k ≡ true
 unfolding names code among
-retire-named k e = subst (λ (x : Kind). has frame x ≡ true) (sym (retire-is k e)) refl
+retire-named k e = subst (λ (x : Kind). has frame x ≡ true) (sym (kind-is k Retire e)) refl
 
 -- the frame of a retire that is accepted is below 254
 retired-near : (s : State) (c : Call) (bs : List ℕ) (plan : Plan) → Sure s c bs plan → isRetire (c .kind) ≡ true → c .frame < 254
@@ -126,7 +122,7 @@ unfolding step changed leavesRecord laidFrames layFrames
 call-alone s c bs r k e =
     go (decideAny (s .tables) (length (s .fast)) (length (s .slow)) c (length bs)) (sure s c bs)
     (past-number (rulesNumber (s .tables) (length (s .fast)) (length (s .slow))) (rules-listed (s .tables) (length (s .fast)) (length (s .slow))) (λ _.
-    retire-plans (viewOf (s .tables) c) c (length bs) (retire-is (c .kind) k))) e
+    retire-plans (viewOf (s .tables) c) c (length bs) (kind-is (c .kind) Retire k))) e
   where
     t : Tables
     t = s .tables

@@ -166,23 +166,6 @@ impl PageHistory {
     }
 }
 
-/// The page that a call names.
-fn page_of(call: &Call) -> Option<u8> {
-    match *call {
-        Call::Create { page, .. }
-        | Call::DeletePage { page, .. }
-        | Call::Grant { page, .. }
-        | Call::Read { page, .. }
-        | Call::Write { page, .. }
-        | Call::MakeCopy { page, .. }
-        | Call::DeleteCopy { page, .. }
-        | Call::SetCurrent { page, .. }
-        | Call::RemoveCurrent { page, .. }
-        | Call::LookPage { page } => Some(page),
-        Call::LookFrame { .. } | Call::Retire { .. } => None,
-    }
-}
-
 /// Every page from the start of a run on.
 #[derive(Clone)]
 pub struct History {
@@ -218,7 +201,9 @@ impl History {
     pub fn follow(&mut self, message: &[u8], is_accepted: bool) {
         self.messages += 1;
         if let (true, Ok(call)) = (is_accepted, Call::decode(message)) {
-            let page = page_of(&call).and_then(|page| self.pages.get_mut(usize::from(page)));
+            let page = call
+                .page()
+                .and_then(|page| self.pages.get_mut(usize::from(page)));
             if let Some(page) = page {
                 page.follow(self.messages, &call);
             }
@@ -245,7 +230,7 @@ impl History {
             checked.map_err(|error| format!("history: page {number}, {error}"))?;
         }
         let call = Call::decode(message).ok().filter(|_| is_accepted);
-        match (call.as_ref(), call.as_ref().and_then(page_of)) {
+        match (call.as_ref(), call.as_ref().and_then(Call::page)) {
             (Some(Call::Read { offset, count, .. }), Some(page)) => {
                 self.check_read(page, *offset, *count, &reply[6..])
             }
@@ -326,7 +311,9 @@ impl History {
         let Ok(call) = Call::decode(message) else {
             return;
         };
-        let page = page_of(&call).and_then(|page| self.pages.get(usize::from(page)));
+        let page = call
+            .page()
+            .and_then(|page| self.pages.get(usize::from(page)));
         if let Some(page) = page {
             add(counts, page.reached(&call, number));
         }

@@ -632,6 +632,23 @@ pub(crate) fn body(bytes: &[u8]) -> Result<&[u8], Refusal> {
 }
 
 impl Call {
+    /// The page that it names.
+    pub fn page(&self) -> Option<u8> {
+        match *self {
+            Call::Create { page, .. }
+            | Call::DeletePage { page, .. }
+            | Call::Grant { page, .. }
+            | Call::Read { page, .. }
+            | Call::Write { page, .. }
+            | Call::MakeCopy { page, .. }
+            | Call::DeleteCopy { page, .. }
+            | Call::SetCurrent { page, .. }
+            | Call::RemoveCurrent { page, .. }
+            | Call::LookPage { page } => Some(page),
+            Call::LookFrame { .. } | Call::Retire { .. } => None,
+        }
+    }
+
     /// The message at the front of some bytes, or which of 1 to 4 it falls under.
     pub fn decode(bytes: &[u8]) -> Result<Call, Refusal> {
         let (&kind, arguments) = body(bytes)?.split_first().ok_or(Refusal::UnknownKind)?;

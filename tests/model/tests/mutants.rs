@@ -203,18 +203,11 @@ impl Mutant {
 impl<'a> Turn<'a> {
     /// The page of the call as it was before, if the call was accepted.
     fn accepted_page(&self) -> Option<(usize, Page)> {
-        let page = match self.call.as_ref()? {
-            Call::Create { .. } | Call::LookFrame { .. } | Call::Retire { .. } => return None,
-            Call::DeletePage { page, .. }
-            | Call::Grant { page, .. }
-            | Call::Read { page, .. }
-            | Call::Write { page, .. }
-            | Call::MakeCopy { page, .. }
-            | Call::DeleteCopy { page, .. }
-            | Call::SetCurrent { page, .. }
-            | Call::RemoveCurrent { page, .. }
-            | Call::LookPage { page } => usize::from(*page),
-        };
+        let call = self.call.as_ref()?;
+        if matches!(call, Call::Create { .. }) {
+            return None;
+        }
+        let page = usize::from(call.page()?);
         let before = Tables::from_raw(&self.before.tables)?;
         (self.answer.number == 0).then(|| (page, before.pages[page].clone().expect("a page")))
     }
