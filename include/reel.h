@@ -1,9 +1,10 @@
 /*
  * The reel page kernel: the functions of libreel.a, for C99 and C++ on x86-64 (System V). docs/EMBEDDING.md has the
- * whole of it; examples/worked.c is a program for a unit, examples/station.c one for a station, and examples/power.h
- * keeps a unit through a loss of power.
+ * whole of it; examples/worked.c is a program for a unit, examples/station.c one for a station, examples/forecast.c one
+ * for a planner, and examples/power.h keeps a unit through a loss of power.
  *
- * The caller lends every byte. A buffer is passed as a pointer and its length, in bytes or, for the tally, in numbers:
+ * The caller lends every byte. A buffer is passed as a pointer and its length, in bytes or, for the tally and the
+ * figures, in numbers:
  *
  *   tables  REEL_TABLES_SIZE bytes, made by reel_fresh and then kept by the caller
  *   fast    REEL_FRAME_SIZE * P bytes, frames 0 to P - 1; P and S as given to reel_fresh
@@ -11,11 +12,12 @@
  *   out     REEL_REPLY_SIZE bytes or more, for reel_write REEL_MESSAGE_SIZE or more, for reel_write_create_closed
  *           REEL_CLOSED_SIZE or more; what no reply or message takes remains as it was
  *   tally   REEL_TALLY_SIZE numbers: messages, refusals, bytes laid; each stops at 4294967295
+ *   figures REEL_FIGURES_SIZE numbers of a forecast, only written; each stops at 4294967295
  *   used    one size_t, without a length beside it; it is only written
  *
  * Any bytes and any lengths may be passed: tables of another length, or whose bytes break a table rule, are answered
- * REEL_BROKEN_TABLES, stores of another length REEL_MISFIT_STORE, a shorter out REEL_SHORT_BUFFER. A tally of another
- * length is left alone. Only these are the caller's duty, and are not tested:
+ * REEL_BROKEN_TABLES, stores of another length REEL_MISFIT_STORE, a shorter out REEL_SHORT_BUFFER. A tally or figures
+ * of another length are left alone. Only these are the caller's duty, and are not tested:
  *
  *   - Each pointer leads to as many elements as its length says (used to one), is aligned for its type, and is not
  *     null, also where the length is 0: there it is the address of anything, such as of a byte that is not used.
@@ -43,7 +45,7 @@ extern "C" {
 /* ---- the version: major, minor and patch */
 
 #define REEL_VERSION_MAJOR 5
-#define REEL_VERSION_MINOR 0
+#define REEL_VERSION_MINOR 1
 #define REEL_VERSION_PATCH 0
 #define REEL_VERSION (65536 * REEL_VERSION_MAJOR + 256 * REEL_VERSION_MINOR + REEL_VERSION_PATCH)
 
@@ -200,6 +202,14 @@ static inline size_t reel_next(const uint8_t *bytes, size_t left) {
 #define REEL_TALLY_REFUSALS 1
 #define REEL_TALLY_LAID 2
 
+/* ---- the figures of a forecast, 34 numbers */
+
+#define REEL_NUMBERS 32 /* messages are counted under 0 to 31: enum reel_number, and what versions to come may add */
+#define REEL_FIGURES_SIZE 34
+#define REEL_FIGURES_MOST 0   /* the most frames held at the start or after any message, 0 to 254 */
+#define REEL_FIGURES_LAID 1   /* the bytes laid in all */
+#define REEL_FIGURES_COUNTS 2 /* how many messages get number 0; from here on one figure for each number */
+
 /* ---- the functions */
 
 /*
@@ -251,6 +261,15 @@ size_t reel_replies(uint8_t *tables, size_t tables_len, uint8_t *fast, size_t fa
  */
 uint32_t reel_read(const uint8_t *tables, size_t tables_len, size_t fast_len, size_t slow_len, uint8_t station,
                    uint8_t page, uint8_t offset, uint8_t count);
+
+/*
+ * Forecasts a call file on the tables, without any store: the figures are those that reel_run of the file would come
+ * to, whatever fitting stores hold. Tables and file remain as they were. A frame is held where a copy is on it, so
+ * neither a free one nor a retired one is; a cut end of the file is one message with REEL_CUT_SHORT. Gives
+ * REEL_ACCEPTED, or REEL_BROKEN_TABLES, and then every figure is 0. Functions below take the figures apart.
+ */
+uint8_t reel_forecast(const uint8_t *tables, size_t tables_len, const uint8_t *file, size_t file_len, uint32_t *figures,
+                      size_t figures_len);
 
 /*
  * Writes the message of a call at the head of out: its kind, and its arguments in the order of enum reel_kind.
@@ -313,6 +332,26 @@ static inline size_t reel_read_offset(uint32_t place) { return place >> 16; }
 /* A pointer to the first byte of the read, in the stores that the place was asked for. */
 static inline const uint8_t *reel_read_bytes(uint32_t place, const uint8_t *fast, const uint8_t *slow) {
   return (reel_read_slow(place) ? slow : fast) + reel_read_offset(place);
+}
+
+/* ---- the figures of reel_forecast, taken apart */
+
+/* The most frames held at the start or after any message. */
+static inline unsigned reel_forecast_most(const uint32_t *figures) { return figures[REEL_FIGURES_MOST]; }
+
+/* The bytes laid in all. */
+static inline uint32_t reel_forecast_laid(const uint32_t *figures) { return figures[REEL_FIGURES_LAID]; }
+
+/* How many messages get a number; none get one above 31. */
+static inline uint32_t reel_forecast_count(const uint32_t *figures, unsigned number) {
+  return number < REEL_NUMBERS ? figures[REEL_FIGURES_COUNTS + number] : 0;
+}
+
+/* How many messages are refused, with any number. */
+static inline uint64_t reel_forecast_refused(const uint32_t *figures) {
+  uint64_t refused = 0;
+  for (unsigned number = 1; number < REEL_NUMBERS; number++) refused += reel_forecast_count(figures, number);
+  return refused;
 }
 
 /* ---- the writer for each kind, its arguments by name; for the rest as reel_write */

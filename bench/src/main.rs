@@ -4,10 +4,11 @@
 //! does that work once on that side, for a count of instructions, and `bench WORK count` prints how
 //! many messages, tests or calls it has. WORK is run, answer or sound, or frames1, frames8 or
 //! frames64, looks at frames on so many pages, or copies, pages, copydeletes or pagedeletes, the
-//! deletes, or retires or retired, frames retired and calls on retired ones; on the kernel's side alone
-//! kept or parts, a run with its replies, and refused, look, grant or empty, the C call by itself.
-//! no-copydeletes, no-pagedeletes and no-retires are the same files without the deletes or retires, to
-//! be taken off. WORK is also write or read-reply, with SIDE kernel or rust.
+//! deletes, or retires or retired, frames retired and calls on retired ones, or forecast, that of the
+//! file of run; on the kernel's side alone kept or parts, a run with its replies, and refused, look,
+//! grant or empty, the C call by itself. no-copydeletes, no-pagedeletes and no-retires are the same
+//! files without the deletes or retires, to be taken off. WORK is also write or read-reply, with SIDE
+//! kernel or rust.
 
 mod exchange;
 mod timing;
@@ -40,12 +41,16 @@ enum Side {
     Parts,
     /// The kernel: each message by itself, the rules tested at each.
     Answers,
+    /// The kernel: the forecast, from the tables alone.
+    Forecast,
     /// Plain Rust that searches the pages for a frame's holder, without any test of the rules.
     Unchecked,
     /// Plain Rust with a register of holders, without any test.
     Registered,
     /// Plain Rust with a register, and the test at each message.
     Checked,
+    /// The forecast of plain Rust with a register, without any test.
+    ForecastByRust,
 }
 
 /// A state, and a call file to be answered from there.
@@ -248,6 +253,20 @@ impl Work {
         }
     }
 
+    /// Both forecasts are the same, and that of the run.
+    fn check_forecast(&self) {
+        let mut unit = self.unit(kernel::LEAST_BUFFER);
+        let mut figures = [0; kernel::FIGURES];
+        let number = kernel::forecast(&unit.tables, &self.file, &mut figures);
+        assert_eq!(number, 0, "sound tables");
+        let mut tables = self.start.tables.clone();
+        assert_eq!(figures, tables.forecast_by_rust(&self.file), "forecasts");
+        unit.run(&self.file);
+        let [_, laid, accepted, refused @ ..] = figures;
+        let refused: u32 = refused.iter().sum();
+        assert_eq!(unit.tally, [accepted + refused, refused, laid], "tallies");
+    }
+
     /// The times of each side, round by round, for each message.
     fn times<const N: usize>(&self, rounds: usize, sides: [Side; N]) -> [Vec<f64>; N] {
         self.times_of(rounds, &self.file, self.counts.messages, sides)
@@ -338,9 +357,15 @@ impl Sides {
             Side::Answers => {
                 timing::answers(&mut self.last, file);
             }
+            Side::Forecast => {
+                black_box(self.last.forecast(file)).expect("sound tables");
+            }
             Side::Unchecked => self.searching.run_by_rust::<false>(file),
             Side::Registered => self.registered.run_by_rust::<false>(file),
             Side::Checked => self.registered.run_by_rust::<true>(file),
+            Side::ForecastByRust => {
+                black_box(self.registered.tables.forecast_by_rust(file));
+            }
         }
     }
 }
@@ -431,6 +456,7 @@ fn row(what: &str, kernel: &[f64], other: &[f64]) {
 fn report() {
     let (shift, full) = (Work::shift(), Work::full());
     shift.check();
+    shift.check_forecast();
     full.check();
     println!("(a) a shift from fresh tables, {}", shift.describe());
     println!("(b) single messages on full tables, {}", full.describe());
@@ -450,6 +476,10 @@ fn report() {
     row(whole, &kept, &run);
     let emptied = "(a) every reply kept, 4096 bytes at a time; run";
     row(emptied, &parts, &run);
+    let [forecast, run, by_rust] = shift.times(100, [Side::Forecast, Side::Run, Side::ForecastByRust]);
+    row("(a) forecast; run", &forecast, &run);
+    let beside_rust = "(a) forecast; that of Rust with the register, without any test of the rules";
+    row(beside_rust, &forecast, &by_rust);
     let [answers, checked] = full.times(400, [Side::Answers, Side::Checked]);
     let single = "(b) answer; Rust with the test before the message";
     row(single, &answers, &checked);
@@ -630,7 +660,7 @@ fn once(work: &str, side: &str) {
     let pages = work.strip_prefix("frames").and_then(|n| n.parse().ok());
     let given = match (work, pages) {
         (_, Some(pages)) => Work::frames(pages),
-        ("run" | "kept" | "parts", _) => Work::shift(),
+        ("run" | "kept" | "parts" | "forecast", _) => Work::shift(),
         ("copies", _) => Work::copies_in_turn(),
         ("pages", _) => Work::pages_in_turn(),
         ("copydeletes", _) => Work::copy_deletes(),
@@ -654,6 +684,8 @@ fn once(work: &str, side: &str) {
         ("kept", _) => Side::Kept,
         ("parts", _) => Side::Parts,
         ("answer", "kernel") => Side::Answers,
+        ("forecast", "kernel") => Side::Forecast,
+        ("forecast", _) => Side::ForecastByRust,
         (_, "kernel") => Side::Run,
         (_, "unchecked") => Side::Unchecked,
         (_, "registered") => Side::Registered,

@@ -39,6 +39,10 @@ pub struct Tables<const REGISTER: bool> {
 /// Messages, refusals and bytes laid.
 pub type Tally = [u32; 3];
 
+/// What is forecast: the most frames held, the bytes laid, and how many messages get each number 0
+/// to 31.
+pub type Figures = [u32; 34];
+
 const FRESH: Entry = Entry {
     frame: NULL_FRAME,
     current: false,
@@ -184,6 +188,19 @@ impl<const REGISTER: bool> Tables<REGISTER> {
     }
 }
 
+/// Every message of a call file, or none where one is cut short.
+#[inline]
+fn each_message<'a>(file: &'a [u8], mut visit: impl FnMut(Option<&'a [u8]>)) {
+    let mut rest = file;
+    while !rest.is_empty() {
+        let whole = rest.split_first_chunk().and_then(|(&length, after)| {
+            after.split_at_checked(usize::from(u16::from_be_bytes(length)))
+        });
+        visit(whole.map(|(m, _)| m));
+        rest = whole.map_or(&[], |(_, after)| after);
+    }
+}
+
 /// What a message works on.
 #[derive(Clone)]
 pub struct Peer<const REGISTER: bool> {
@@ -236,8 +253,8 @@ fn shape(m: &[u8]) -> Result<(), u8> {
     test(ok, 4)
 }
 
-/// Kinds 1 to 5, which name a station.
-fn station_step<const REGISTER: bool>(
+/// Kinds 1 to 5, which name a station. Where not LAYS, here and below, stores and data play no part.
+fn station_step<const REGISTER: bool, const LAYS: bool>(
     t: &mut Tables<REGISTER>,
     fast: &mut [u8],
     slow: &mut [u8],
@@ -267,7 +284,9 @@ fn station_step<const REGISTER: bool>(
             for c in std::mem::replace(g, ABSENT).used() {
                 if c.frame != NULL_FRAME {
                     t.enter(c.frame, FREE_ENTRY);
-                    frame_mut(p, fast, slow, c.frame).fill(0);
+                    if LAYS {
+                        frame_mut(p, fast, slow, c.frame).fill(0);
+                    }
                     laid += 64;
                 }
             }
@@ -287,7 +306,9 @@ fn station_step<const REGISTER: bool>(
             test(g.n != 0, 9)?;
             test(g.rights[s] >= 1, 10)?;
             let f = g.used().iter().find(|c| c.current).ok_or(11)?.frame;
-            data[..count].copy_from_slice(&frame(p, fast, slow, f)[o..o + count]);
+            if LAYS {
+                data[..count].copy_from_slice(&frame(p, fast, slow, f)[o..o + count]);
+            }
             Ok((0, count))
         }
         _ => {
@@ -299,10 +320,10 @@ fn station_step<const REGISTER: bool>(
             let currents = used.iter().filter(|c| c.current).count();
             test(currents != 0, 11)?;
             for c in used {
-                if c.current {
-                    frame_mut(p, fast, slow, c.frame)[o..o + bytes.len()].copy_from_slice(bytes);
-                } else {
+                if !c.current {
                     c.recent = false;
+                } else if LAYS {
+                    frame_mut(p, fast, slow, c.frame)[o..o + bytes.len()].copy_from_slice(bytes);
                 }
             }
             Ok(((bytes.len() * currents) as u16, 0))
@@ -311,7 +332,7 @@ fn station_step<const REGISTER: bool>(
 }
 
 /// Kinds 6 to 12.
-fn placement_step<const REGISTER: bool>(
+fn placement_step<const REGISTER: bool, const LAYS: bool>(
     t: &mut Tables<REGISTER>,
     fast: &mut [u8],
     slow: &mut [u8],
@@ -329,7 +350,9 @@ fn placement_step<const REGISTER: bool>(
             None if t.is_retired(f) => [2, 255, 255],
             None => [0, 255, 255],
         };
-        data[..3].copy_from_slice(&shown);
+        if LAYS {
+            data[..3].copy_from_slice(&shown);
+        }
         return Ok((0, 3));
     }
     if kind == 12 {
@@ -344,9 +367,11 @@ fn placement_step<const REGISTER: bool>(
     if kind == 10 {
         let g = &t.pages[page];
         test(g.n != 0, 9)?;
-        data[0] = g.n;
-        for (c, shown) in g.used().iter().zip(data[1..].chunks_exact_mut(3)) {
-            shown.copy_from_slice(&[c.frame, c.current as u8, c.recent as u8]);
+        if LAYS {
+            data[0] = g.n;
+            for (c, shown) in g.used().iter().zip(data[1..].chunks_exact_mut(3)) {
+                shown.copy_from_slice(&[c.frame, c.current as u8, c.recent as u8]);
+            }
         }
         return Ok((0, 1 + 3 * usize::from(g.n)));
     }
@@ -363,13 +388,17 @@ fn placement_step<const REGISTER: bool>(
         test(g.n < 8, 14)?;
         let from = g.copies[usize::from(number)];
         let k = if from.frame == NULL_FRAME {
-            frame_mut(p, fast, slow, f).fill(0);
+            if LAYS {
+                frame_mut(p, fast, slow, f).fill(0);
+            }
             g.copies[0].frame = f;
             0
         } else {
-            let mut bytes = [0; 64];
-            bytes.copy_from_slice(frame(p, fast, slow, from.frame));
-            frame_mut(p, fast, slow, f).copy_from_slice(&bytes);
+            if LAYS {
+                let mut bytes = [0; 64];
+                bytes.copy_from_slice(frame(p, fast, slow, from.frame));
+                frame_mut(p, fast, slow, f).copy_from_slice(&bytes);
+            }
             g.copies[usize::from(g.n)] = Entry {
                 frame: f,
                 current: false,
@@ -391,7 +420,9 @@ fn placement_step<const REGISTER: bool>(
             test(!g.copies[k].recent || recents != 1, 15)?;
             // Not null: a null copy is the only MOST RECENT one.
             let freed = g.copies[k].frame;
-            frame_mut(p, fast, slow, freed).fill(0);
+            if LAYS {
+                frame_mut(p, fast, slow, freed).fill(0);
+            }
             g.copies.copy_within(k + 1..n, k);
             g.copies[n - 1] = FRESH;
             g.n -= 1;
@@ -411,6 +442,63 @@ fn placement_step<const REGISTER: bool>(
             g.copies[k].current = false;
             Ok((0, 0))
         }
+    }
+}
+
+/// A message of the right shape.
+#[inline]
+fn step<const REGISTER: bool, const LAYS: bool>(
+    t: &mut Tables<REGISTER>,
+    fast: &mut [u8],
+    slow: &mut [u8],
+    m: &[u8],
+    data: &mut [u8],
+) -> Step {
+    if m[1] <= 5 {
+        station_step::<REGISTER, LAYS>(t, fast, slow, m, data)
+    } else {
+        placement_step::<REGISTER, LAYS>(t, fast, slow, m, data)
+    }
+}
+
+impl<const REGISTER: bool> Tables<REGISTER> {
+    /// On how many frames copies are.
+    fn held(&self) -> u32 {
+        let copies = self.pages.iter().flat_map(Page::used);
+        copies.filter(|c| c.frame != NULL_FRAME).count() as u32
+    }
+
+    /// One message, or none where it is cut short, without any store.
+    #[inline]
+    fn foresee(&mut self, m: Option<&[u8]>) -> Step {
+        let m = m.ok_or(1)?;
+        shape(m)?;
+        step::<REGISTER, false>(self, &mut [], &mut [], m, &mut [])
+    }
+
+    /// The forecast of a call file from these tables, which come to its end.
+    #[inline(never)]
+    pub fn forecast_by_rust(&mut self, file: &[u8]) -> Figures {
+        let mut held = self.held();
+        let (mut most, mut laid, mut counts) = (held, 0_u32, [0_u32; 32]);
+        each_message(file, |m| {
+            let (number, more) = match self.foresee(m) {
+                Ok((laid, _)) => (0, u32::from(laid)),
+                Err(number) => (usize::from(number), 0),
+            };
+            counts[number] = counts[number].saturating_add(1);
+            laid = laid.saturating_add(more);
+            match m {
+                Some([_, 6, ..]) if number == 0 => held += 1,
+                Some([_, 2 | 7, ..]) => held -= more / 64,
+                _ => (),
+            }
+            most = most.max(held);
+        });
+        let mut figures = [0; 34];
+        figures[..2].copy_from_slice(&[most, laid]);
+        figures[2..].copy_from_slice(&counts);
+        figures
     }
 }
 
@@ -470,24 +558,13 @@ impl<const REGISTER: bool> Peer<REGISTER> {
             self.rules()?;
         }
         let (fast, slow, data) = (&mut self.fast, &mut self.slow, &mut self.out[6..70]);
-        if m[1] <= 5 {
-            station_step(&mut self.tables, fast, slow, m, data)
-        } else {
-            placement_step(&mut self.tables, fast, slow, m, data)
-        }
+        step::<REGISTER, true>(&mut self.tables, fast, slow, m, data)
     }
 
     /// A run over a call file; each reply goes over the one before it.
     #[inline(never)]
     pub fn run_by_rust<const CHECKED: bool>(&mut self, file: &[u8]) {
-        let mut rest = file;
-        while !rest.is_empty() {
-            let whole = rest.split_first_chunk().and_then(|(&length, after)| {
-                after.split_at_checked(usize::from(u16::from_be_bytes(length)))
-            });
-            self.message::<CHECKED>(whole.map(|(m, _)| m));
-            rest = whole.map_or(&[], |(_, after)| after);
-        }
+        each_message(file, |m| self.message::<CHECKED>(m));
     }
 
     /// Tests the rules so many times, each time with another owner of page 0; gives how often they

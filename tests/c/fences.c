@@ -2,10 +2,11 @@
  * Lends every buffer flush against memory that may be neither read nor written, before it or behind it, and what is
  * const in memory that may only be read. So the processor stops any access of the library outside what it is lent,
  * which no instrumentation of this file could see. The same file is served message by message, in one run and in parts,
- * and all that is left is compared. Of each delete it is tested what it leaves in the lent stores: zeros in the frames
- * that it frees, by the register, and every other byte as it was; of each retire that it sets the mark of its frame and
- * changes nothing else. Each message that is a call is written again, and each reply read where nothing follows it. The
- * messages of every closed page are written too. Messages and sizes follow from a seed.
+ * and all that is left is compared; it is forecast too, and the figures are those that its messages came to. Of each
+ * delete it is tested what it leaves in the lent stores: zeros in the frames that it frees, by the register, and every
+ * other byte as it was; of each retire that it sets the mark of its frame and changes nothing else. Each message that
+ * is a call is written again, and each reply read where nothing follows it. The messages of every closed page are
+ * written too. Messages and sizes follow from a seed.
  */
 #define _DEFAULT_SOURCE
 #include "random.h"
@@ -25,9 +26,9 @@ struct block {
   size_t room;
 };
 
-/* What is lent: tables, stores, reply buffer, tally and the number of bytes used. */
+/* What is lent: tables, stores, reply buffer, tally, figures and the number of bytes used. */
 struct unit {
-  struct block tables, fast, slow, out, tally, used;
+  struct block tables, fast, slow, out, tally, figures, used;
   size_t fast_len, slow_len;
 };
 
@@ -53,6 +54,10 @@ static uint8_t *part(struct block b, size_t length) { return behind ? b.start + 
 
 static uint32_t *tally_of(struct unit u, size_t length) { return (uint32_t *)part(u.tally, length * sizeof(uint32_t)); }
 
+static uint32_t *figures_of(struct unit u, size_t length) {
+  return (uint32_t *)part(u.figures, length * sizeof(uint32_t));
+}
+
 /* These bytes, where they may only be read. */
 static const uint8_t *sealed(struct block b, const uint8_t *bytes, size_t length) {
   expect(mprotect(b.start, b.room, PROT_READ | PROT_WRITE) == 0, "memory");
@@ -68,6 +73,7 @@ static struct unit make_unit(void) {
   u.slow = fenced(2 * PAGE);
   u.out = fenced(PAGE);
   u.tally = fenced(PAGE);
+  u.figures = fenced(PAGE);
   u.used = fenced(PAGE);
   u.fast_len = u.slow_len = 0;
   return u;
@@ -215,6 +221,42 @@ static void not_on_retired(struct state before, uint8_t frame, uint32_t answered
   expect(reel_answer_number(answered) != REEL_RETIRED || is_retired, "a frame that is not retired");
 }
 
+/* How many frames a copy is on. */
+static uint32_t held(const uint8_t *tables) {
+  uint32_t count = 0;
+  size_t f;
+  for (f = 0; f < frames; f++) count += (uint32_t)is_held(tables, f);
+  return count;
+}
+
+/* The figures so far, with one message more. */
+static void count_on(uint32_t *figures, struct unit u, uint32_t answered) {
+  uint32_t now = held(part(u.tables, REEL_TABLES_SIZE));
+  if (figures[REEL_FIGURES_MOST] < now) figures[REEL_FIGURES_MOST] = now;
+  figures[REEL_FIGURES_LAID] += reel_answer_laid(answered);
+  figures[REEL_FIGURES_COUNTS + reel_answer_number(answered)]++;
+}
+
+/* A file is forecast from tables that may only be read: 34 figures become those that its messages came to; more or
+   fewer are left as they were. */
+static void forecast_alike(struct unit u, struct block tables, const uint8_t *file, size_t length,
+                           const uint32_t *figures) {
+  uint8_t filled[(REEL_FIGURES_SIZE + 1) * sizeof(uint32_t)];
+  const uint8_t *from = sealed(tables, part(u.tables, REEL_TABLES_SIZE), REEL_TABLES_SIZE);
+  size_t count;
+  memset(filled, FILLER, sizeof filled);
+  for (count = 0; count <= REEL_FIGURES_SIZE + 1; count++) {
+    size_t size = count * sizeof(uint32_t);
+    memset(part(u.figures, size), FILLER, size);
+    expect(reel_forecast(from, REEL_TABLES_SIZE, file, length, figures_of(u, count), count) == REEL_ACCEPTED,
+           "a forecast on sound tables");
+    if (count == REEL_FIGURES_SIZE)
+      expect(memcmp(figures_of(u, count), figures, size) == 0, "the figures that are forecast");
+    else
+      expect(memcmp(part(u.figures, size), filled, size) == 0, "figures of another length");
+  }
+}
+
 static void same(struct unit one, struct unit other) {
   expect(memcmp(part(one.tables, REEL_TABLES_SIZE), part(other.tables, REEL_TABLES_SIZE), REEL_TABLES_SIZE) == 0,
          "tables");
@@ -225,9 +267,11 @@ static void same(struct unit one, struct unit other) {
          "the tally");
 }
 
-/* One file: a message a call, in one run, and in parts. */
-static void serve(struct unit one, struct unit whole, struct unit parts, struct block lent, uint8_t p, uint8_t s) {
+/* One file: a message a call, in one run, and in parts; and forecast. */
+static void serve(struct unit one, struct unit whole, struct unit parts, struct block lent, struct block tables,
+                  uint8_t p, uint8_t s) {
   static uint8_t file[FILE_MOST], replies[REPLIES_MOST];
+  uint32_t figures[REEL_FIGURES_SIZE] = {0};
   size_t length = 0, said = 0, at = 0, room = REEL_REPLY_SIZE + any(200), i;
   size_t *used = (size_t *)part(parts.used, sizeof(size_t));
   uint32_t *tally = tally_of(one, REEL_TALLY_SIZE);
@@ -252,14 +296,20 @@ static void serve(struct unit one, struct unit whole, struct unit parts, struct 
     tally[REEL_TALLY_MESSAGES]++;
     tally[REEL_TALLY_REFUSALS] += reel_answer_number(answered) != REEL_ACCEPTED;
     tally[REEL_TALLY_LAID] += reel_answer_laid(answered);
+    count_on(figures, one, answered);
     length += size;
     said += reel_answer_length(answered);
   }
   sealed(lent, file, length);
+  forecast_alike(whole, tables, part(lent, length), length, figures);
+  expect(reel_forecast_refused(figures) == tally[REEL_TALLY_REFUSALS], "the refusals that are forecast");
   reel_run(part(whole.tables, REEL_TABLES_SIZE), REEL_TABLES_SIZE, part(whole.fast, whole.fast_len), whole.fast_len,
            part(whole.slow, whole.slow_len), whole.slow_len, part(lent, length), length,
            part(whole.out, REEL_REPLY_SIZE), REEL_REPLY_SIZE, tally_of(whole, REEL_TALLY_SIZE), REEL_TALLY_SIZE);
   same(one, whole);
+  memset(figures, 0, sizeof figures);
+  figures[REEL_FIGURES_MOST] = held(part(whole.tables, REEL_TABLES_SIZE));
+  forecast_alike(whole, tables, part(lent, 0), 0, figures); /* of no message: the frames held at the start */
   for (i = 0; at < length; i += *used) {
     at = reel_replies(part(parts.tables, REEL_TABLES_SIZE), REEL_TABLES_SIZE, part(parts.fast, parts.fast_len),
                       parts.fast_len, part(parts.slow, parts.slow_len), parts.slow_len, part(lent, length), length, at,
@@ -330,12 +380,15 @@ static void senseless_call(struct unit u, struct block lent) {
 }
 
 /* Buffers of any lengths with any bytes. */
-static void senseless(struct unit u, struct block lent) {
+static void senseless(struct unit u, struct block lent, struct block only_read) {
   uint8_t bytes[REEL_MESSAGE_SIZE];
   size_t tables = any(4) == 0 ? any(PAGE) : REEL_TABLES_SIZE, fast = any(2 * PAGE), slow = any(2 * PAGE);
   size_t room = any(200), size = any_message(bytes, frames), tally = any(5), place = any(80), i;
+  size_t figures = any(2) == 0 ? REEL_FIGURES_SIZE : any(2 * REEL_FIGURES_SIZE);
   uint8_t *t = part(u.tables, tables), *f = part(u.fast, fast), *s = part(u.slow, slow), *out = part(u.out, room);
   const uint8_t *sent;
+  unsigned number;
+  int broken;
   if (any(4) == 0) size = any((uint32_t)size);
   if (any(2) == 0) reel_fresh((uint8_t)any(130), (uint8_t)any(130), t, tables);
   if (any(2) == 0 && tables == REEL_TABLES_SIZE) {
@@ -343,7 +396,12 @@ static void senseless(struct unit u, struct block lent) {
     s = part(u.slow, slow = REEL_FRAME_SIZE * (size_t)(t[REEL_TABLES_S] % 128));
   }
   for (i = any(3); i > 0 && tables > 0; i--) t[any((uint32_t)tables)] = (uint8_t)any(256);
-  sent = sealed(lent, t, tables);
+  sent = sealed(only_read, t, tables);
+  number = reel_forecast(sent, tables, sealed(lent, bytes, size), size, figures_of(u, figures), figures);
+  broken = reel_rules(sent, tables, 0, 0) == REEL_BROKEN_TABLES;
+  expect(number == (broken ? REEL_BROKEN_TABLES : REEL_ACCEPTED), "the number of a forecast");
+  for (i = 0; i < figures && figures == REEL_FIGURES_SIZE && broken; i++)
+    expect(figures_of(u, figures)[i] == 0, "figures of broken tables");
   reel_rules(sent, tables, fast, slow);
   reel_read(sent, tables, fast, slow, (uint8_t)any(17), (uint8_t)any(65), (uint8_t)any(65), (uint8_t)any(66));
   sent = sealed(lent, bytes, size);
@@ -356,13 +414,13 @@ static void senseless(struct unit u, struct block lent) {
 int main(void) {
   static const uint8_t sizes[][2] = {{0, 0}, {4, 4}, {0, 5}, {5, 0}, {3, 127}, {127, 127}};
   struct unit one = make_unit(), whole = make_unit(), parts = make_unit();
-  struct block lent = fenced(FILE_MOST);
+  struct block lent = fenced(FILE_MOST), tables = fenced(PAGE);
   size_t i;
   for (behind = 0; behind < 2; behind++) {
-    for (i = 0; i < sizeof sizes / sizeof *sizes; i++) serve(one, whole, parts, lent, sizes[i][0], sizes[i][1]);
+    for (i = 0; i < sizeof sizes / sizeof *sizes; i++) serve(one, whole, parts, lent, tables, sizes[i][0], sizes[i][1]);
     closed_pages(one.out);
     for (i = 0; i < 20000; i++) {
-      senseless(one, lent);
+      senseless(one, lent, tables);
       senseless_call(one, lent);
     }
   }

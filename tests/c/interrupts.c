@@ -41,7 +41,7 @@ static const uint8_t calls[] = {
 /* All that is lent, and what a call gave. */
 struct unit {
   uint8_t tables[REEL_TABLES_SIZE], fast[REEL_FRAME_SIZE * P], slow[REEL_FRAME_SIZE * S], out[4 * REEL_REPLY_SIZE];
-  uint32_t tally[REEL_TALLY_SIZE];
+  uint32_t tally[REEL_TALLY_SIZE], figures[REEL_FIGURES_SIZE];
   size_t used;
   uint64_t given;
 };
@@ -80,14 +80,17 @@ static void by_replies(struct unit *u) {
   u->given = reel_replies(u->tables, sizeof u->tables, u->fast, sizeof u->fast, u->slow, sizeof u->slow, calls,
                           sizeof calls, 0, u->out, sizeof u->out, u->tally, REEL_TALLY_SIZE, &u->used);
 }
+static void by_forecast(struct unit *u) {
+  u->given = reel_forecast(u->tables, sizeof u->tables, calls, sizeof calls, u->figures, REEL_FIGURES_SIZE);
+}
 static void by_write(struct unit *u) { u->given = reel_write_write(3, 5, 0, calls, 64, u->out, sizeof u->out); }
 static void by_read_reply(struct unit *u) {
   u->given = reel_read_reply(REEL_KIND_SET_CURRENT, u->out, sizeof u->out); /* of the last message served */
 }
 
 int main(void) {
-  static void (*const functions[])(struct unit *) = {by_version, by_fresh,   by_rules, by_read,      by_answer,
-                                                     by_run,     by_replies, by_write, by_read_reply};
+  static void (*const functions[])(struct unit *) = {by_version, by_fresh,   by_rules,    by_read,  by_answer,
+                                                     by_run,     by_replies, by_forecast, by_write, by_read_reply};
   static uint8_t stack[65536];
   static struct unit begun, plain, interrupted;
   stack_t own = {.ss_sp = stack, .ss_size = sizeof stack};

@@ -3,7 +3,7 @@
  * have the same messages, but each byte that a write carries is another: every byte after the offset of a message of
  * version 1 and kind 5, also of one that is refused 4 or cut short. Both stores and the reply buffer differ in every
  * byte too. Each file is served by reel_run, by reel_replies into one buffer and in parts, and message by message by
- * reel_answer, with reel_rules and reel_read in between.
+ * reel_answer, with reel_rules and reel_read in between; and it is forecast by reel_forecast.
  *
  *   pairs SAMPLE               compares what the library gives for the two files of each pair, and what it leaves
  *   pairs SAMPLE SIDE [COUNT]  serves one file, 0 or 1, of each pair or of the first COUNT, for valgrind, and prints a
@@ -45,14 +45,14 @@ struct pair {
 /* What the library gave and left. */
 struct record {
   uint8_t tables[REEL_TABLES_SIZE], replies[REPLIES_MOST];
-  uint32_t tally[REEL_TALLY_SIZE], answers[MESSAGES_MOST], between[2 * MESSAGES_MOST];
-  size_t said, asked;       /* bytes of replies; what reel_rules and reel_read gave in between */
+  uint32_t tally[REEL_TALLY_SIZE], figures[REEL_FIGURES_SIZE], answers[MESSAGES_MOST], between[2 * MESSAGES_MOST];
+  size_t said, asked;       /* bytes of replies; what reel_rules and reel_read gave in between, or reel_forecast */
   unsigned first, answered; /* the message that the first reply kept is for; answers of reel_answer */
 };
 
 static const char *sample;
 static uint8_t tables[REEL_TABLES_SIZE], fast[STORE_MOST], slow[STORE_MOST], sent[FILE_MOST], out[REPLIES_MOST];
-static uint32_t tally[REEL_TALLY_SIZE];
+static uint32_t tally[REEL_TALLY_SIZE], figures[REEL_FIGURES_SIZE];
 static size_t fast_len, slow_len;
 static struct record records[2];
 static unsigned seen[LAST_NUMBER + 1], reads, differing; /* answers by number; accepted reads, and those that differ */
@@ -367,6 +367,7 @@ static void lend(const struct pair *pair, uint8_t side, size_t room) {
   expect(reel_fresh(pair->p, pair->s, tables, sizeof tables) == REEL_ACCEPTED, "fresh tables");
   if (pair->state == REEL_BROKEN_TABLES) tables[REEL_TABLES_REGISTER] ^= 1;
   memcpy(tally, begun, sizeof tally);
+  memset(figures, 0, sizeof figures);
   fast_len = REEL_FRAME_SIZE * (size_t)pair->p;
   slow_len = REEL_FRAME_SIZE * (size_t)pair->s - (pair->state == REEL_MISFIT_STORE);
   memset(fast, 0, fast_len);
@@ -427,6 +428,13 @@ static void by_answer(struct record *r, size_t room) {
   }
 }
 
+/* No reply is there to keep. */
+static void by_forecast(struct record *r, size_t room) {
+  (void)room;
+  r->between[r->asked++] = reel_forecast(tables, sizeof tables, sent, length, figures, REEL_FIGURES_SIZE);
+  r->first = messages;
+}
+
 static const struct way {
   const char *name;
   void (*serve)(struct record *r, size_t room);
@@ -434,7 +442,8 @@ static const struct way {
 } ways[] = {{"in one run", by_run, REEL_REPLY_SIZE},
             {"in one buffer", by_replies, 0},
             {"in parts", by_replies, PART},
-            {"one by one", by_answer, REEL_REPLY_SIZE}};
+            {"one by one", by_answer, REEL_REPLY_SIZE},
+            {"forecast", by_forecast, REEL_REPLY_SIZE}};
 enum { WAYS = sizeof ways / sizeof *ways };
 
 static void serve(const struct pair *pair, const struct way *way, uint8_t side, struct record *r) {
@@ -445,6 +454,7 @@ static void serve(const struct pair *pair, const struct way *way, uint8_t side, 
   way->serve(r, room);
   memcpy(r->tables, tables, sizeof tables);
   memcpy(r->tally, tally, sizeof tally);
+  memcpy(r->figures, figures, sizeof figures);
 }
 
 /* ---- what may differ: the data of accepted reads */
@@ -461,10 +471,12 @@ static void compare(const struct pair *pair, const struct record *one, const str
   unsigned m = one->first;
   expect(memcmp(one->tables, other->tables, sizeof one->tables) == 0, "equal tables");
   expect(memcmp(one->tally, other->tally, sizeof one->tally) == 0, "equal tallies");
+  expect(memcmp(one->figures, other->figures, sizeof one->figures) == 0, "equal figures");
   expect(one->said == other->said && one->answered == other->answered && one->asked == other->asked,
          "replies of equal lengths");
   expect(memcmp(one->answers, other->answers, one->answered * sizeof *one->answers) == 0, "equal answers");
-  expect(memcmp(one->between, other->between, one->asked * sizeof *one->between) == 0, "equal rules and places");
+  expect(memcmp(one->between, other->between, one->asked * sizeof *one->between) == 0,
+         "equal rules and places, or an equal number of the forecast");
   for (said = 0; said < one->said; said += size, m++) {
     const uint8_t *reply = one->replies + said, *twin = other->replies + said;
     size_t same;
@@ -488,6 +500,7 @@ static void check_defined(const struct record *r) {
   unsigned m = r->first;
   VALGRIND_CHECK_MEM_IS_DEFINED(r->tables, sizeof r->tables);
   VALGRIND_CHECK_MEM_IS_DEFINED(r->tally, sizeof r->tally);
+  VALGRIND_CHECK_MEM_IS_DEFINED(r->figures, sizeof r->figures);
   VALGRIND_CHECK_MEM_IS_DEFINED(r->answers, r->answered * sizeof *r->answers);
   VALGRIND_CHECK_MEM_IS_DEFINED(r->between, r->asked * sizeof *r->between);
   for (said = 0; said < r->said; said += size, m++) {
@@ -534,7 +547,8 @@ static void compare_sides(void) {
       serve(pairs + i, ways + w, 0, records);
       serve(pairs + i, ways + w, 1, records + 1);
       compare(pairs + i, records, records + 1);
-      expect(pairs[i].state != REEL_ACCEPTED || ways[w].serve == by_run || differing > before,
+      expect(pairs[i].state != REEL_ACCEPTED || ways[w].serve == by_run || ways[w].serve == by_forecast ||
+                 differing > before,
              "reads that show different bytes");
     }
   }

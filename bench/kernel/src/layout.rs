@@ -65,6 +65,8 @@ mod tests {
             ("REEL_MOST_FRAMES", crate::MOST_FRAMES.into()),
             ("REEL_FRAME_SIZE", crate::FRAME),
             ("REEL_CLOSED_SIZE", crate::CLOSED),
+            ("REEL_NUMBERS", crate::NUMBERS),
+            ("REEL_FIGURES_SIZE", crate::FIGURES),
             ("REEL_PAGE_SIZE", PAGE_SIZE),
             ("REEL_PAGE_RIGHTS", PAGE_RIGHTS),
             ("REEL_PAGE_COPIES", PAGE_COPIES),

@@ -4,7 +4,7 @@
 pub mod layout;
 
 /// The version of the library that this binding is for: 65536 * major + 256 * minor + patch.
-pub const VERSION: u32 = 5 * 65536;
+pub const VERSION: u32 = 5 * 65536 + 256;
 /// How many bytes the tables take; `layout` says what stands where.
 pub const TABLES: usize = 3198;
 /// The bytes of a frame, and so of a page.
@@ -17,6 +17,10 @@ pub const LEAST_BUFFER: usize = 70;
 pub const MESSAGE: usize = 71;
 /// The length of what `write_create_closed` lays: a create of 6 bytes and fifteen grants of 8.
 pub const CLOSED: usize = 126;
+/// A forecast counts messages under so many numbers, 0 to 31.
+pub const NUMBERS: usize = 32;
+/// How many figures `forecast` lays: the most frames held, the bytes laid, and the counts.
+pub const FIGURES: usize = 2 + NUMBERS;
 
 const CREATE: u8 = 1;
 const GRANT: u8 = 3;
@@ -86,6 +90,15 @@ extern "C" {
         tally_len: usize,
         used: *mut usize,
     ) -> usize;
+
+    fn reel_forecast(
+        tables: *const u8,
+        tables_len: usize,
+        file: *const u8,
+        file_len: usize,
+        figures: *mut u32,
+        figures_len: usize,
+    ) -> u8;
 
     fn reel_write(
         kind: u8,
@@ -252,6 +265,48 @@ pub fn replies(
         )
     };
     Reached { at, used }
+}
+
+/// Forecasts a call file on tables, without any store: 5 for broken tables, else 0. Lays the figures:
+/// the most frames held at the start or after any message, the bytes laid in all, and how many
+/// messages get each number from 0 to 31. With 5 all of them are 0. Another number of figures than
+/// `FIGURES` is left alone.
+pub fn forecast(tables: &[u8], file: &[u8], figures: &mut [u32]) -> u8 {
+    unsafe {
+        reel_forecast(
+            tables.as_ptr(),
+            tables.len(),
+            file.as_ptr(),
+            file.len(),
+            figures.as_mut_ptr(),
+            figures.len(),
+        )
+    }
+}
+
+/// What is forecast of a call file. Each figure stops at 4294967295.
+#[derive(Clone, Copy, Debug, PartialEq, Eq)]
+pub struct Forecast {
+    /// The most frames held at the start or after any message.
+    pub most: u32,
+    /// The bytes laid in all.
+    pub laid: u32,
+    /// How many messages get each number.
+    pub counts: [u32; NUMBERS],
+}
+
+impl Forecast {
+    /// The forecast of a call file on tables, or 5 for broken ones.
+    pub fn of(tables: &[u8], file: &[u8]) -> Result<Forecast, u8> {
+        let mut figures = [0; FIGURES];
+        match forecast(tables, file, &mut figures) {
+            0 => {
+                let [most, laid, counts @ ..] = figures;
+                Ok(Forecast { most, laid, counts })
+            }
+            number => Err(number),
+        }
+    }
 }
 
 /// Writes the message of a call to the front of `out`, and gives its length: the kind, its arguments
@@ -425,6 +480,11 @@ impl Unit {
         }
     }
 
+    /// The forecast of a call file from here on, or 5 where the tables break a rule.
+    pub fn forecast(&self, file: &[u8]) -> Result<Forecast, u8> {
+        Forecast::of(&self.tables, file)
+    }
+
     /// Runs a call file; the rules are tested once. The buffer has the last reply, and behind it what
     /// that did not cover of longer ones before.
     pub fn run(&mut self, file: &[u8]) {
@@ -460,7 +520,10 @@ impl Unit {
 
 #[cfg(test)]
 mod tests {
-    use super::{read_reply, write, write_create_closed, Answer, Unit, CLOSED, MESSAGE, TABLES};
+    use super::{
+        read_reply, write, write_create_closed, Answer, Forecast, Unit, CLOSED, FIGURES, MESSAGE,
+        NUMBERS, TABLES,
+    };
 
     /// The worked example of document 01, and its replies.
     const FILE: [&[u8]; 6] = [
@@ -712,6 +775,54 @@ mod tests {
             assert_eq!(unit.answer(&[0, 5, 1, 6, page, copy, 5]).number, number);
         }
         assert_eq!((unit.rules(), &unit.slow[..]), (0, &[0xDD; 4 * 64][..]));
+    }
+
+    /// What is forecast with these counts, and no other message.
+    fn foretold(most: u32, laid: u32, given: &[(usize, u32)]) -> Result<Forecast, u8> {
+        let mut counts = [0; NUMBERS];
+        for &(number, count) in given {
+            counts[number] = count;
+        }
+        Ok(Forecast { most, laid, counts })
+    }
+
+    #[test]
+    fn a_forecast_is_what_the_run_gives() {
+        let mut unit = Unit::fresh(4, 4).unwrap();
+        assert_eq!(unit.forecast(&[]), foretold(0, 0, &[]));
+        let file = [&FILE.concat()[..], &[0, 5, 1, 6, 5, 0, 8], &[0]].concat();
+        let tables = unit.tables.clone();
+        assert_eq!(
+            unit.forecast(&file),
+            foretold(1, 66, &[(0, 6), (7, 1), (1, 1)])
+        );
+        assert_eq!(unit.tables, tables);
+        unit.run(&file);
+        assert_eq!(unit.tally, [8, 2, 66]);
+        // From here on the most frames are held at the start.
+        let delete = [0, 4, 1, 2, 3, 5];
+        assert_eq!(unit.forecast(&delete), foretold(1, 64, &[(0, 1)]));
+    }
+
+    #[test]
+    fn broken_tables_have_no_forecast() {
+        let mut unit = Unit::fresh(4, 4).unwrap();
+        unit.tables[TABLES - 1] = 254;
+        for (tables, file) in [
+            (&unit.tables[..], &FILE.concat()[..]),
+            (&unit.tables, &[]),
+            (&unit.tables[1..], &[]),
+        ] {
+            let mut figures = [7; FIGURES];
+            assert_eq!(super::forecast(tables, file, &mut figures), 5);
+            assert_eq!(figures, [0; FIGURES]);
+            assert_eq!(Forecast::of(tables, file), Err(5));
+        }
+        for length in [0, 1, FIGURES - 1, FIGURES + 1] {
+            let mut figures = vec![7; length];
+            assert_eq!(super::forecast(&unit.tables, &[], &mut figures), 5);
+            assert_eq!(figures, vec![7; length]);
+        }
     }
 
     #[test]

@@ -14,7 +14,7 @@ use Rattle.steps.specs.Effects.{State, Result, left, laidBy}
 use Rattle.steps.specs.Promises.{stateOf}
 use Rattle.steps.proofs.StepLaws.{fit-lengths}
 use Rattle.messages.specs.declared.Tally.{Tally}
-use Rattle.messages.specs.Replies.{replyIn}
+use Rattle.messages.specs.Replies.{replyIn, zeroTally}
 use Rattle.messages.specs.Run.{Sent, answer, Turn, messagesOf, turnsOf, endOf, Run, joinedReplies, stateAfter, partFrom}
 use Rattle.messages.specs.Promises.{sentAlone}
 use Rattle.messages.proofs.JoinLaws.{end-is}
@@ -74,7 +74,7 @@ module _ {k k′ : Kept} {cs cs′ : List Called} (w : Twins (stateIn k) (stateI
   tables-same : keptAfter k cs .tables ≡ keptAfter k′ cs′ .tables
   tables-same =
       q .sane .bytes
-      ∙ ap tablesBytes (runs-alike (record { messages = 0; refusals = 0; laid = 0 }) .tables)
+      ∙ ap tablesBytes (runs-alike zeroTally .tables)
       ∙ sym (q′ .sane .bytes)
 
 -- ---- the numbers that `reel_answer` tells

@@ -5,4 +5,5 @@ pub mod Lent
 pub mod Read
 pub mod Hidden
 pub mod Claims
+pub mod Forecast
 pub mod Witness

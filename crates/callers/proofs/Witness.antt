@@ -10,6 +10,7 @@ use lib.Dec.{eqb}
 use Rattle.tables.specs.Numbers.{accepted}
 use Rattle.tables.specs.Model.{freeEntry, retiredEntry, freshPage, freshTables, retiredAt}
 use Rattle.tables.specs.Changes.{created, withRetired}
+use Rattle.tables.specs.Rules.{isHeld}
 use Rattle.steps.specs.Steps.{numberOf}
 use Rattle.steps.specs.Stores.{block, zeros}
 use Rattle.steps.specs.Effects.{State, joined}
@@ -18,7 +19,7 @@ use Rattle.messages.specs.Run.{Sent, whole, answer, Turn, turnsOf, endOf, Run, 
 use Rattle.theorems.specs.Flat.{none, reactAs, reactTo}
 use Rattle.theorems.specs.Demand1.{TurnObeys, RunObeys}
 use Rattle.theorems.specs.Demand3.{flatAfter, flatEnd, flatAnswers, runAnswers, dues, AgreesOn}
-use Rattle.theorems.specs.Clean.{isHeld, everHeld, Cleared}
+use Rattle.theorems.specs.Clean.{everHeld, Cleared}
 use Rattle.theorems.specs.Retired.{everRetired, NeverAgain}
 use Rattle.theorems.specs.Cases.{runOn}
 use Rattle.theorems.specs.Witness3.{But, fastBytes, slowBytes, start, with56, made, first, second, foreign, uncleared}

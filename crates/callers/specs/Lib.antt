@@ -3,6 +3,8 @@ pub mod Lent
 pub mod Read
 pub mod Hidden
 pub mod Claims
+pub mod Forecast
 pub mod Witness
 pub mod WitnessRead
 pub mod WitnessHidden
+pub mod WitnessForecast

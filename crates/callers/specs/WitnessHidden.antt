@@ -14,6 +14,7 @@ use Rattle.tables.specs.Search.{inCopies, inPages}
 use Rattle.tables.specs.Register.{registerRule}
 use Rattle.steps.specs.Kinds.{names, kinds, code, among, argument, callOf}
 use Rattle.steps.specs.Stores.{fits}
+use Rattle.messages.specs.Replies.{zeroTally}
 use Rattle.messages.specs.declared.Tally.{Tally}
 use Rattle.messages.specs.Messages.{parse, nextAt}
 use Rattle.messages.specs.Run.{split, messagesOf, turnsOf, answer}
@@ -105,7 +106,7 @@ alone each-had =
     refl
 alone turns-alike =
     each (Row turns-alike) (tt, tt)
-    (λ k. omega (arith, k (record { messages = 0; refusals = 0; laid = 0 }) .fast-long)) refl
+    (λ k. omega (arith, k zeroTally .fast-long)) refl
 alone tables-same =
     each (Row tables-same) (tt, tt)
     (λ n. record {

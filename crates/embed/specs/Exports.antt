@@ -16,8 +16,10 @@ use Rattle.steps.specs.Steps.{Outcome, refuse, accept, numberOf}
 use Rattle.steps.specs.Effects.{State, Result, left, laidBy, readPlace}
 use Rattle.steps.specs.Promises.{stateOf, Lent, lent}
 use Rattle.messages.specs.declared.Tally.{Tally}
-use Rattle.messages.specs.Replies.{replyIn, isRefusal}
+use Rattle.messages.specs.declared.Figures.{Figures}
+use Rattle.messages.specs.Replies.{replyIn, zeroTally, isRefusal}
 use Rattle.messages.specs.Run.{answer, Turn, Run, run, buffer, tally, joinedReplies, Part, partFrom}
+use Rattle.messages.specs.Forecast.{numbersCounted, forecast}
 use Rattle.messages.specs.Promises.{sentAlone}
 use Rattle.stations.specs.declared.Reading.{Reading}
 use Rattle.stations.specs.declared.Reading.the-variants.{Refused, Reply}
@@ -30,9 +32,9 @@ use Rattle.embed.specs.Bytes.{tablesSize, tablesBytes, tablesFrom, marks
 abbrev pub versionNumber : ℕ → ℕ → ℕ → ℕ
 versionNumber major minor patch = 65536 * major + 256 * minor + patch
 
--- 5.0.0
+-- 5.1.0
 abbrev pub version : ℕ
-version = versionNumber 5 0 0
+version = versionNumber 5 1 0
 
 -- ---- tables
 
@@ -78,11 +80,30 @@ tallySized l = eqb (length l) 3
 abbrev pub tallyOf : List ℕ → Tally
 tallyOf l =
     cond (tallySized l) (record { messages = getD l 0 0; refusals = getD l 1 0; laid = getD l 2 0 })
-    (record { messages = 0; refusals = 0; laid = 0 })
+    zeroTally
 
 -- three lent numbers with the tally n put into them; any other number of them is left alone
 abbrev pub withTally : List ℕ → Tally → List ℕ
 withTally l n = cond (tallySized l) (n .messages ∷ n .refusals ∷ n .laid ∷ []) l
+
+-- ---- the figures of a forecast
+
+abbrev pub figuresSize : ℕ
+figuresSize = 2 + numbersCounted
+
+-- the most frames held, the bytes laid, and the counts, from number 0 on
+abbrev pub figureNumbers : Figures → List ℕ
+figureNumbers f = f .most ∷ f .laid ∷ f .counts
+
+-- 34 lent numbers with the figures of f put into them; any other number of them is left alone
+abbrev pub withFigures : List ℕ → Figures → List ℕ
+withFigures l f = cond (eqb (length l) figuresSize) (figureNumbers f) l
+
+-- what `reel_forecast` leaves of lent numbers l, on the tables in the bytes b and with a file, and the number that it
+-- gives; b is lent to be read, and stays as it was
+pub record ForecastPromised (b file l l′ : List ℕ) (r : ℕ) : Type 0 where
+  pub told : r ≡ forecast (tablesOf b) file .number
+  pub figures-out : l′ ≡ withFigures l (forecast (tablesOf b) file)
 
 -- ---- a read as a place
 

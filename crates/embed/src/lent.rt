@@ -3,6 +3,8 @@ use crate::image::TABLES_SIZE;
 use crate::image::marks_valid;
 use crate::image::put_tables;
 use crate::image::tables_from;
+use messages::Figures;
+use messages::NUMBERS;
 use messages::Tally;
 use stations::Reading;
 use steps::Place;
@@ -13,8 +15,11 @@ ghost use Prim.Native.Nat.{_<_};
 ghost use lib.ListN.{length};
 ghost use Rattle.embed.specs.Bytes.{tablesSize, tablesBytes};
 ghost use Rattle.embed.specs.Private.{Small, Low};
-ghost use Rattle.embed.specs.Exports.{tablesIn, noTables, tablesOf, withTables, tallyOf, withTally};
+ghost use Rattle.embed.specs.Exports.{tablesIn, noTables, tablesOf, withTables, tallyOf, withTally, withFigures};
 ghost use Rattle.embed.specs.Exports.{storeNumber, placeNumber, packed, readingNumber};
+
+// How many figures a forecast has: the most frames held, the bytes laid, and the counts.
+const FIGURES_SIZE: usize = 2 + NUMBERS;
 
 // Tables that break a rule: P is above 127.
 fn no_tables() -> Tables
@@ -98,6 +103,21 @@ pub(crate) fn put_tally(tally: Tally, numbers: &mut [u32])
         numbers[0] = tally.messages;
         numbers[1] = tally.refusals;
         numbers[2] = tally.laid;
+    }
+}
+
+// The figures of a forecast: the most frames held, the bytes laid, and the counts, from number 0 on.
+pub(crate) fn put_figures(f: Figures, numbers: &mut [u32])
+    ensures { λ _. ⌜ now (numbers .exit) ≡ withFigures (now (numbers .entry)) f ⌝ }
+{
+    if numbers.len() == FIGURES_SIZE {
+        numbers[0] = f.most as u32;
+        numbers[1] = f.laid;
+        let mut n: usize = 0;
+        while n < NUMBERS {
+            numbers[2 + n] = f.counts[n];
+            n += 1;
+        }
     }
 }
 

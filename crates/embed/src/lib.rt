@@ -9,6 +9,7 @@ use lent::holds_tables;
 use lent::packed;
 use lent::place_number;
 pub use lent::put_back;
+use lent::put_figures;
 use lent::put_tally;
 use lent::put_where;
 use lent::reading_number;
@@ -17,6 +18,7 @@ use lent::tables_where;
 use lent::tally_of;
 use messages::answer;
 use messages::fill;
+use messages::forecast;
 use messages::run;
 use stations::read_reply;
 use stations::write_kind;
@@ -32,12 +34,12 @@ ghost use Rattle.steps.specs.Steps.{rulesNumber};
 ghost use Rattle.stations.specs.Writer.{writtenAs};
 ghost use Rattle.stations.specs.Reader.{readReply};
 ghost use Rattle.embed.specs.Exports.{version, tablesOf, freshInto, readNumber, kept};
-ghost use Rattle.embed.specs.Exports.{AnswerPromised, RunPromised, RepliesPromised, WriteLent, readingNumber};
+ghost use Rattle.embed.specs.Exports.{AnswerPromised, RunPromised, RepliesPromised, ForecastPromised, WriteLent, readingNumber};
 
 // The version of what C and Rust see: these functions, what they do, and the tables as bytes.
 const MAJOR: u32 = 5;
 
-const MINOR: u32 = 0;
+const MINOR: u32 = 1;
 
 const PATCH: u32 = 0;
 
@@ -162,6 +164,19 @@ pub extern "C" fn reel_replies(
     put_tally(part.tally, tally);
     *used = part.used;
     part.at
+}
+
+// Forecasts a call file on the tables, with no store: 0, or 5 for broken tables and bytes that hold none, and the
+// figures. Any other number of them than 34 is left alone.
+#[no_mangle]
+pub extern "C" fn reel_forecast(tables: &[u8], file: &[u8], figures: &mut [u32]) -> u8
+    ensures { λ r. ⌜ ForecastPromised (now (tables .entry)) (now (file .entry)) (now (figures .entry))
+        (now (figures .exit)) r ⌝ }
+{
+    let t = tables_of(tables);
+    let f = forecast(t, file);
+    put_figures(f, figures);
+    f.number
 }
 
 // Writes the message of a call to the front of the buffer: its number and 256 times the length of the message, in one.

@@ -3,5 +3,6 @@ pub mod ReaderLaws
 pub mod ReplyLaws
 pub mod TurnLaws
 pub mod RunLaws
+pub mod ForecastLaws
 pub mod PartLaws
 pub mod JoinLaws

@@ -6,7 +6,9 @@ use mathlib.Core.Bool.{Bool, true, false, _||_, cond}
 use mathlib.Core.List.{List, [], _∷_, _++_}
 use lib.ListN.{length, drop}
 use lib.Dec.{ltb, eqb}
+use Rattle.tables.specs.declared.Tables.{Tables}
 use Rattle.tables.specs.Numbers.{accepted, cutShort, shortBuffer}
+use Rattle.tables.specs.Rules.{framesHeld, sound}
 use Rattle.steps.specs.declared.Decision.{Decision}
 use Rattle.steps.specs.Stores.{part, splice}
 use Rattle.steps.specs.Steps.{Outcome}
@@ -96,6 +98,13 @@ repliedWith d bs l =
       slow = carried d bs (dataPart l) .slow;
       out = heading (d .number) (d .laid) (d .len) ++ (carried d bs (dataPart l) .out ++ drop 70 (l .out));
     }
+
+-- ---- the forecast
+
+-- tables that keep the rules, and how many of their frames are held
+pub record ForecastStart (t : Tables) (held : ℕ) : Type 0 where
+  pub keeps : sound t ≡ true
+  pub counted : held ≡ framesHeld t
 
 -- ---- message after message
 

@@ -28,8 +28,12 @@ abbrev pub replyIn : ℕ → Outcome Result → List ℕ
 replyIn room o = cond (ltb room 70) [] (reply o)
 
 -- "each number stops at 4294967295"
+abbrev pub stopped : ℕ → ℕ
+stopped n = min n 4294967295
+
+-- y more than x
 unfoldable pub upTo : ℕ → ℕ → ℕ
-upTo x y = min (x + y) 4294967295
+upTo x y = stopped (x + y)
 
 -- "A tally (messages, refusals, bytes laid) is brought up to date in place after each message"
 abbrev pub counted : Tally → Bool → ℕ → Tally
@@ -39,6 +43,9 @@ counted t refused laid =
       refusals = upTo (t .refusals) (cond refused 1 0);
       laid = upTo (t .laid) laid;
     }
+
+abbrev pub zeroTally : Tally
+zeroTally = record { messages = 0; refusals = 0; laid = 0 }
 
 abbrev pub isRefusal : Outcome Result → Bool
 isRefusal (refuse n) = true

@@ -1,11 +1,13 @@
 // The message layer of document 01: messages and the reader over a call file, replies, the tally, one
-// message and the run. Of the tables it knows the type alone.
+// message, the run and its forecast. Of the tables it knows the type alone.
+mod forecasts;
 mod parse;
 mod reading;
 mod replies;
 mod tallies;
 mod turns;
 
+pub use forecasts::forecast;
 pub use reading::message_at;
 pub use reading::next_at;
 pub use reading::next_message;
@@ -29,6 +31,9 @@ pub const WRONG_LENGTH: u8 = 4;
 
 // The number of a message whose reply buffer is below 70 bytes.
 pub const SHORT_BUFFER: u8 = 18;
+
+// How many numbers a forecast counts messages under: 0 to 31, of which the papers name 0 to 27.
+pub const NUMBERS: usize = 32;
 
 // What a message's own bytes come to: a number that turns it back, 1 to 4, or a call.
 pub enum Parsed {
@@ -59,6 +64,16 @@ pub struct Tally {
     pub messages: u32,
     pub refusals: u32,
     pub laid: u32,
+}
+
+// What is forecast of a call file: 0, or 5 for broken tables; the most frames held at the start or after any message;
+// the bytes laid in all; and for each number how many messages get it. The bytes laid and each count stop at
+// 4294967295; the most frames held is never above 254.
+pub struct Figures {
+    pub number: u8,
+    pub most: u8,
+    pub laid: u32,
+    pub counts: [u32; NUMBERS],
 }
 
 // What a message comes to: its number, the length of its reply, the bytes laid, the tables, and whether it moved them;

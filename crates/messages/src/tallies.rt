@@ -5,7 +5,7 @@ ghost use mathlib.Core.Bool.{cond};
 ghost use Rattle.messages.specs.Replies.{upTo, counted};
 
 // The sum of two numbers, or 4294967295 where it is more.
-fn up_to(x: u32, y: u32) -> u32
+pub(crate) fn up_to(x: u32, y: u32) -> u32
     ensures { λ r. ⌜ r ≡ upTo x y ⌝ }
 {
     if y < 4294967295 - x {

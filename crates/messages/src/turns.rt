@@ -49,7 +49,7 @@ fn early(parsed: Parsed, known: u8, room: usize) -> Parsed
 }
 
 // The bytes after the length of the message that the reader yields; none where it is cut short.
-fn bytes_in(file: &[u8], next: Next) -> &[u8]
+pub(crate) fn bytes_in(file: &[u8], next: Next) -> &[u8]
     requires { ⌜ FoundIn (now file) next ⌝ }
     ensures { λ r. ⌜ now r ≡ messageBytes (now (file .entry)) next ⌝ }
 {
@@ -61,7 +61,7 @@ fn bytes_in(file: &[u8], next: Next) -> &[u8]
 }
 
 // What it asks for: no bytes at all count as cut short.
-fn asked_in(next: Next, m: &[u8]) -> Parsed
+pub(crate) fn asked_in(next: Next, m: &[u8]) -> Parsed
     ensures { λ r. ⌜ r ≡ askedAt next (now (m .entry)) ⌝ }
 {
     match next {
@@ -140,7 +140,7 @@ fn due_at(file: &[u8], at: usize, full: bool) -> Next
     message_at(file, at)
 }
 
-fn is_end(next: Next) -> bool
+pub(crate) fn is_end(next: Next) -> bool
     ensures { λ r. ⌜ r ≡ isEnd next ⌝ }
 {
     match next {
@@ -151,7 +151,7 @@ fn is_end(next: Next) -> bool
 }
 
 // The place past a message; one cut short ends the file.
-fn past(next: Next, end: usize) -> usize
+pub(crate) fn past(next: Next, end: usize) -> usize
     ensures { λ r. ⌜ r ≡ pastOf end next ⌝ }
 {
     match next {

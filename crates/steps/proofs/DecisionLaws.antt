@@ -61,7 +61,7 @@ ruled-is t fl sl c size d h = go (rulesNumber t fl sl)
 -- ---- what a caller has of it
 
 module _ (t : Tables) (c : Call) where
-  decides : (o : Outcome Plan) → (numberOf o ≡ accepted → sound t ≡ true) → DecisionTold t c o (decisionOf t c o)
+  pub decides : (o : Outcome Plan) → (numberOf o ≡ accepted → sound t ≡ true) → DecisionTold t c o (decisionOf t c o)
   unfolding leavesRecord
   decides (refuse n) q =
       record { number-told = refl; moved-told = refl; laid-told = refl; len-told = refl; work-told = refl; tables-told = refl; before-told = refl }

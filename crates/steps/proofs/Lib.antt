@@ -16,3 +16,4 @@ pub mod DecideLaws
 pub mod PlanLaws
 pub mod StepLaws
 pub mod PlaceLaws
+pub mod HeldLaws

@@ -126,11 +126,20 @@ pub record Result : Type 0 where
   pub laid : ℕ
   pub data-out : List ℕ
 
+-- the tables after an accepted call: no store has a part in them
+abbrev pub tablesAfter : Tables → Call → Plan → Tables
+tablesAfter t c plan = after t (edited t (pageFor c) (plan .edit) (plan .retires))
+
+-- the tables after a call that comes to o
+abbrev pub tablesLeft : Tables → Call → Outcome Plan → Tables
+tablesLeft t c (refuse n) = t
+tablesLeft t c (accept plan) = tablesAfter t c plan
+
 abbrev pub carriedOut : State → Call → List ℕ → Plan → Result
 carriedOut s c bs plan =
     record {
       state = record {
-        tables = after (s .tables) (edited (s .tables) (pageFor c) (plan .edit) (plan .retires));
+        tables = tablesAfter (s .tables) c plan;
         fast = take (length (s .fast)) (stored (pageAt (s .tables) (pageFor c)) (plan .work) bs (joined s));
         slow = drop (length (s .fast)) (stored (pageAt (s .tables) (pageFor c)) (plan .work) bs (joined s));
       };

@@ -15,7 +15,6 @@ use Rattle.tables.specs.declared.Edit.{Edit}
 use Rattle.tables.specs.declared.Edit.the-variants.{Kept}
 use Rattle.tables.specs.Model.{nullFrame, inUse, zeroCopy, pageAt}
 use Rattle.tables.specs.Rules.{isRecent, isCurrent}
-use Rattle.tables.specs.Changes.{edited, after}
 use Rattle.steps.specs.declared.Kind.{Kind}
 use Rattle.steps.specs.declared.Call.{Call}
 use Rattle.steps.specs.declared.Which.{Which}
@@ -26,7 +25,7 @@ use Rattle.steps.specs.declared.Decision.{Decision}
 use Rattle.steps.specs.declared.Place.{Place}
 use Rattle.steps.specs.Steps.{Outcome, refuse, accept, Plan, noWork, isPlaced, copyAt, currents, firstCurrent, decideOn, pageFor, viewing, numberOf}
 use Rattle.steps.specs.Stores.{layFrame}
-use Rattle.steps.specs.Effects.{moves}
+use Rattle.steps.specs.Effects.{moves, tablesLeft}
 use Rattle.steps.specs.Promises.{laidOf, lenOf, workOf, editOf, retiresOf, decisionOn, settled}
 
 -- ---- kinds
@@ -106,11 +105,6 @@ abbrev pub ruled : ℕ → Decision → Decision
 ruled number d = cond (eqb number 0) d (decisionOn (d .change .page) (d .before) (refuse number))
 
 -- ---- what a caller has of a decision
-
--- the tables after a call that comes to o
-abbrev pub tablesLeft : Tables → Call → Outcome Plan → Tables
-tablesLeft t c (refuse n) = t
-tablesLeft t c (accept plan) = after t (edited t (pageFor c) (plan .edit) (plan .retires))
 
 -- of a decision d of a call c on tables t that comes to o
 pub record DecisionTold (t : Tables) (c : Call) (o : Outcome Plan) (d : Decision) : Type 0 where

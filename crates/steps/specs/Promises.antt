@@ -1,5 +1,5 @@
 -- What the functions that this layer exports promise.
-use Prim.Native.Nat.{ℕ, _+_, _/_, _%_}
+use Prim.Native.Nat.{ℕ, _+_, _-_, _/_, _%_}
 use mathlib.Core.Path.{_≡_}
 use mathlib.Core.Bool.{Bool, true, not, _&&_, _||_, cond}
 use mathlib.Core.List.{List, [], _∷_, _++_}
@@ -12,7 +12,8 @@ use Rattle.tables.specs.declared.Edit.{Edit}
 use Rattle.tables.specs.declared.Edit.the-variants.{Kept}
 use Rattle.tables.specs.Lists.{all}
 use Rattle.tables.specs.Model.{nullFrame, inUse, pageAt}
-use Rattle.tables.specs.Rules.{isCurrent}
+use Rattle.tables.specs.Numbers.{accepted, brokenTables}
+use Rattle.tables.specs.Rules.{isCurrent, framesHeld, sound, frameTotal}
 use Rattle.tables.specs.Changes.{changed, changeTo, after}
 use Rattle.steps.specs.declared.Call.{Call}
 use Rattle.steps.specs.declared.Form.{Form}
@@ -23,6 +24,7 @@ use Rattle.steps.specs.declared.Show.the-variants as Show
 use Rattle.steps.specs.declared.Work.{Work}
 use Rattle.steps.specs.declared.Work.the-variants.{Shows, Lays}
 use Rattle.steps.specs.declared.Decision.{Decision}
+use Rattle.steps.specs.declared.Held.{Held}
 use Rattle.steps.specs.declared.Done.{Done}
 use Rattle.steps.specs.declared.Place.{Place}
 use Rattle.steps.specs.Kinds.{kindOf, tells, leastLength, mostLength, callOf}
@@ -95,6 +97,17 @@ decisionOf t c o = decisionOn (pageFor c) (pageAt t (pageFor c)) o
 -- the tables after a decision: with its change put into them, where they move
 abbrev pub settled : Tables → Decision → Tables
 settled t d = cond (d .moved) (after t (d .change)) t
+
+-- what a forecast begins with: 5 for broken tables; else 0, and how many frames are held
+abbrev pub heldIn : Tables → Held
+heldIn t =
+    record { number = cond (sound t) accepted brokenTables; held = cond (sound t) (framesHeld t) 0 }
+
+-- How many frames are held after a decision, where so many were before: the frames of the page's copies before the
+-- decision go, and those of its copies after the decision come. On sound tables that have so many frames held, and that
+-- the decision moves, that is `framesHeld` of the tables after the decision (`held-settled`).
+abbrev pub heldAfter : ℕ → Decision → ℕ
+heldAfter held d = held - frameTotal (d .before) + frameTotal (d .change .becomes)
 
 -- ---- what was decided, carried out
 

@@ -3,6 +3,7 @@ use crate::ACCEPTED;
 use crate::BROKEN_TABLES;
 use crate::Call;
 use crate::Decision;
+use crate::Held;
 use crate::Kind;
 use crate::Lay;
 use crate::MISFIT_STORE;
@@ -31,13 +32,13 @@ use tables::Page;
 use tables::Shared;
 use tables::Tables;
 ghost use mathlib.Core.Path.{_≡_};
-ghost use Prim.Native.Nat.{_≤_, _<_};
+ghost use Prim.Native.Nat.{_-_, _≤_, _<_};
 ghost use Rattle.tables.specs.Model.{frameCount, pageAt};
 ghost use Rattle.tables.specs.Changes.{changed};
 ghost use Rattle.tables.specs.Keep.{leavesRecord};
 ghost use Rattle.steps.specs.declared.Kind.the-variants.{Write};
 ghost use Rattle.steps.specs.Steps.{refuse, noWork, editing, retiring, showing, laying, clearing, perform, decideOn, pageFor, decide, rulesNumber, decideAny};
-ghost use Rattle.steps.specs.Promises.{decisionWith, decisionOf, settled};
+ghost use Rattle.steps.specs.Promises.{decisionWith, decisionOf, heldIn, settled, heldAfter};
 ghost use Rattle.steps.specs.Private.{verdictWith, verdictOf, decisionFor, ruled};
 
 // A call that comes to a number, and to the rest where that is 0.
@@ -318,6 +319,24 @@ pub fn rules(tables: Tables, fast_len: usize, slow_len: usize) -> u8
     ACCEPTED
 }
 
+// 5 for tables that break a rule; else 0, and how many frames are held. The test is `rules` with stores that fit: with a
+// second call of `sound` in the library the compiler no longer puts it into `rules`, and each answer copies the tables
+// once more.
+pub fn held_in(tables: Tables) -> Held
+    ensures { λ r. ⌜ r ≡ heldIn tables ⌝ }
+{
+    let p = tables.shared.p as usize;
+    let s = tables.shared.s as usize;
+    let number = rules(tables, 64 * p, 64 * s);
+    if number != ACCEPTED {
+        return Held { number, held: 0 };
+    }
+    Held {
+        number,
+        held: tables.held() as u8,
+    }
+}
+
 // Decides a call on any tables and for stores of any lengths: 5 and 6 first.
 pub fn decide_any(
     tables: Tables,
@@ -343,4 +362,21 @@ pub fn settle(tables: Tables, d: Decision) -> Tables
         return tables.after(change);
     }
     tables
+}
+
+// The difference of two numbers, or 0 where the second is larger.
+fn less(x: u8, y: u8) -> u8
+    ensures { λ r. ⌜ r ≡ x - y ⌝ }
+{
+    if y < x { x - y } else { 0 }
+}
+
+// How many frames are held once what was decided is put into the tables, where so many were before: the frames of the
+// page's copies before the decision go, and those of its copies after the decision come.
+pub fn held_after(held: u8, d: Decision) -> u16
+    ensures { λ r. ⌜ r ≡ heldAfter held d ⌝ }
+{
+    let before = d.before;
+    let becomes = d.change.becomes;
+    less(held, before.frame_total()) as u16 + becomes.frame_total() as u16
 }

@@ -14,6 +14,8 @@ mod stores;
 
 pub use decisions::decide;
 pub use decisions::decide_any;
+pub use decisions::held_after;
+pub use decisions::held_in;
 pub use decisions::rules;
 pub use decisions::settle;
 pub use effects::carry;
@@ -187,6 +189,12 @@ pub struct Decision {
     pub work: Work,
     pub change: Change,
     pub before: Page,
+}
+
+// 5 for tables that break a rule; else 0, and how many frames are held.
+pub struct Held {
+    pub number: u8,
+    pub held: u8,
 }
 
 // A part of the fast store or of the slow one: so many bytes of it from `start` on.

@@ -14,6 +14,7 @@ pub mod Filling
 pub mod PassLaws
 pub mod RegisterLaws
 pub mod SumLaws
+pub mod HeldLaws
 pub mod ScanLaws
 pub mod KeepLaws
 pub mod BothWays

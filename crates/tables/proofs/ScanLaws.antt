@@ -15,9 +15,9 @@ use Rattle.tables.specs.declared.Holder.{Holder}
 use Rattle.tables.specs.Lists.{all, count, allBelow}
 use Rattle.tables.specs.Model.{freeEntry, retiredEntry, isRetiredEntry, onFrame, inUse, zeroPage}
 use Rattle.tables.specs.Search.{inCopies, inPages}
-use Rattle.tables.specs.Rules.{uses, pageRule}
+use Rattle.tables.specs.Rules.{uses, pageRule, frameTotals}
 use Rattle.tables.specs.Register.{entryFor, entryOf, entryRule, registerRule}
-use Rattle.tables.specs.PrivatePass.{entryIs, entriesAre, scanPages, frameTotals, namesCopy, namingEntries, notRetired, entriesOf, othersOk}
+use Rattle.tables.specs.PrivatePass.{entryIs, entriesAre, scanPages, namesCopy, namingEntries, notRetired, entriesOf, othersOk}
 use Rattle.tables.proofs.ListLaws.{and-left, and-right, and-intro, not-so, iff-eq, all-at, all-of, all-drop, all-first, all-rest, count-at, below-at, below-of}
 use Rattle.tables.proofs.RuleLaws.{eight, Once, RegisterOk, register-of, of-register, right-held, right-out, entry-held, out-low, out-idle, few-uses}
 use Rattle.tables.proofs.HolderLaws.{skip, nobody, free-pages}

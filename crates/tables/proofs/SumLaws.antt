@@ -15,8 +15,8 @@ use Rattle.tables.specs.declared.Copy.{Copy}
 use Rattle.tables.specs.declared.Page.{Page}
 use Rattle.tables.specs.Lists.{all, count}
 use Rattle.tables.specs.Model.{freeEntry, onFrame, isNull, inUse, absent, zeroCopy}
-use Rattle.tables.specs.Rules.{uses, pageRule}
-use Rattle.tables.specs.PrivatePass.{frameTotal, frameTotals, namesCopy, namingEntries}
+use Rattle.tables.specs.Rules.{uses, pageRule, frameTotal, frameTotals}
+use Rattle.tables.specs.PrivatePass.{namesCopy, namingEntries}
 use Rattle.tables.proofs.ListLaws.{all-first, all-rest, count-none, count-all}
 use Rattle.tables.proofs.RuleLaws.{StandingPage, standing, length-in-use, copy-at}
 use Rattle.tables.proofs.PageChanges.{none-null}

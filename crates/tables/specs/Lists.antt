@@ -1,5 +1,5 @@
 -- Tests over a list, and what is so of all of it.
-use Prim.Native.Nat.{ℕ, zero, suc, _+_}
+use Prim.Native.Nat.{ℕ, zero, suc, _+_, max}
 use mathlib.Core.Bool.{Bool, true, false, _&&_, _||_, cond}
 use mathlib.Core.List.{List, [], _∷_}
 use lib.Dec.{eqb}
@@ -23,6 +23,15 @@ allBelow (suc n) f = f n && allBelow n f
 unfoldable pub countBelow : ℕ → (ℕ → Bool) → ℕ
 countBelow zero f = 0
 countBelow (suc n) f = cond (f n) 1 0 + countBelow n f
+
+-- the sum of numbers, and the largest of them; 0 where there are none
+abbrev pub sum : List ℕ → ℕ
+sum [] = 0
+sum (n ∷ ns) = n + sum ns
+
+abbrev pub maximum : List ℕ → ℕ
+maximum [] = 0
+maximum (n ∷ ns) = max n (maximum ns)
 
 -- whether n is one of the numbers
 abbrev pub listed : ℕ → List ℕ → Bool

@@ -9,7 +9,7 @@ use lib.Dec.{ltb, eqb}
 use Rattle.tables.specs.declared.Copy.{Copy}
 use Rattle.tables.specs.declared.Page.{Page}
 use Rattle.tables.specs.Lists.{all, count}
-use Rattle.tables.specs.Model.{freeEntry, retiredEntry, isRetiredEntry, isNull, inUse, zeroCopy}
+use Rattle.tables.specs.Model.{freeEntry, retiredEntry, isRetiredEntry, inUse}
 use Rattle.tables.specs.Rules.{copyRule, pageRule}
 use Rattle.tables.specs.Register.{entryFor}
 
@@ -36,14 +36,6 @@ scanPage limit r p g = pageRule limit g && entriesAre r p 0 (inUse g)
 unfoldable pub scanPages : ℕ → List ℕ → ℕ → List Page → Bool
 scanPages limit r p [] = true
 scanPages limit r p (g ∷ gs) = scanPage limit r p g && scanPages limit r (p + 1) gs
-
--- on how many frames the copies of a page are, where it keeps its rule: a null copy is alone
-abbrev pub frameTotal : Page → ℕ
-frameTotal g = cond (isNull (getD (g .copies) 0 zeroCopy)) 0 (g .n)
-
-unfoldable pub frameTotals : List Page → ℕ
-frameTotals [] = 0
-frameTotals (g ∷ gs) = frameTotal g + frameTotals gs
 
 -- an entry that names a copy
 abbrev pub namesCopy : ℕ → Bool

@@ -1,15 +1,15 @@
 -- Document 01, "Table rules", as tests, for any tables whatever.
 use Prim.Native.Nat.{ℕ, _+_}
 use mathlib.Core.Bool.{Bool, not, _&&_, _||_, cond}
-use mathlib.Core.List.{List, [], _∷_}
-use lib.ListN.{length, drop}
+use mathlib.Core.List.{List, [], _∷_, map}
+use lib.ListN.{length, drop, getD}
 use lib.Dec.{leb, ltb, eqb}
 use Rattle.tables.specs.declared.Copy.{Copy}
 use Rattle.tables.specs.declared.Page.{Page}
 use Rattle.tables.specs.declared.Shared.{Shared}
 use Rattle.tables.specs.declared.Tables.{Tables}
-use Rattle.tables.specs.Lists.{all, count, allBelow}
-use Rattle.tables.specs.Model.{frames, isNull, retiredAt, inUse, absent, onFrame}
+use Rattle.tables.specs.Lists.{all, count, allBelow, countBelow, sum}
+use Rattle.tables.specs.Model.{frames, isNull, retiredAt, inUse, absent, onFrame, zeroCopy}
 use Rattle.tables.specs.Register.{registerRule}
 
 -- how many copies of some pages are on frame f
@@ -25,6 +25,14 @@ holders t f = uses f (t .pages)
 -- from P+S to 254 counts as free too, and 255 where no null copy stands; 7 comes before either is asked for.
 unfoldable pub free : Tables → ℕ → Bool
 free t f = not (retiredAt t f) && eqb (holders t f) 0
+
+-- a copy has frame f
+abbrev pub isHeld : Tables → ℕ → Bool
+isHeld t f = not (eqb (holders t f) 0)
+
+-- how many of the P+S frames are held
+abbrev pub framesHeld : Tables → ℕ
+framesHeld t = countBelow (frames t) (isHeld t)
 
 -- "unused entries .. are as in fresh tables"
 abbrev pub isFresh : Copy → Bool
@@ -82,3 +90,11 @@ unfoldable pub sound : Tables → Bool
 sound t =
     sizesRule (t .shared) && (pagesRule (frames t) (t .pages) && (noneShared (frames t) (holders t)
     && registerRule (frames t) (t .pages) (t .register)))
+
+-- on how many frames the copies of a page are, where the page keeps its rule: a null copy is alone
+abbrev pub frameTotal : Page → ℕ
+frameTotal g = cond (isNull (getD (g .copies) 0 zeroCopy)) 0 (g .n)
+
+-- the same of some pages; of those of sound tables `framesHeld` (`held-total`)
+unfoldable pub frameTotals : List Page → ℕ
+frameTotals gs = sum (map frameTotal gs)

@@ -11,6 +11,7 @@ ghost use lib.ListN.{length, set, getD};
 ghost use Rattle.tables.specs.Lists.{all};
 ghost use Rattle.tables.specs.Model.{freshCopy, freshPage, zeroCopy, inUse};
 ghost use Rattle.tables.specs.Changes.{created, staleCopy, newCopy, withCopy, withCopies, closeGap, withCurrent, changed};
+ghost use Rattle.tables.specs.Rules.{frameTotal};
 ghost use Rattle.tables.specs.Keep.{leavesRecord, staysRecent, currentIs};
 
 fn fresh_copy() -> Copy
@@ -139,6 +140,16 @@ impl Page {
     {
         let n = self.n;
         if n < 8 { n as usize } else { 8 }
+    }
+
+    // On how many frames the copies of a page are, where the page keeps its rule: a null copy is alone.
+    pub fn frame_total(self) -> u8
+        ensures { λ r. ⌜ r ≡ frameTotal self ⌝ }
+    {
+        if self.copies[0].frame == NULL_FRAME {
+            return 0;
+        }
+        self.n
     }
 
     fn staled(mut self) -> Page

@@ -12,8 +12,8 @@ ghost use Prim.Native.Nat.{_≤_};
 ghost use lib.ListN.{length, take, drop};
 ghost use Rattle.tables.specs.Lists.{all};
 ghost use Rattle.tables.specs.Model.{inUse};
-ghost use Rattle.tables.specs.Rules.{isFresh, copyRule, atMost, absentRule, standingRule, sound};
-ghost use Rattle.tables.specs.PrivatePass.{entryIs, entriesAre, scanCopies, scanPage, frameTotal, entriesOf, notRetired, othersOk};
+ghost use Rattle.tables.specs.Rules.{isFresh, copyRule, atMost, absentRule, standingRule, sound, frameTotals};
+ghost use Rattle.tables.specs.PrivatePass.{entryIs, entriesAre, scanCopies, scanPage, entriesOf, notRetired, othersOk};
 
 fn is_fresh(c: Copy) -> bool
     ensures { λ r. ⌜ r ≡ isFresh c ⌝ }
@@ -141,16 +141,6 @@ fn page_ok(register: &[u16; 254], p: u8, g: Page, limit: u8) -> bool
     standing_ok(register, p, g, limit)
 }
 
-// On how many frames the copies of a page are that keeps its rule.
-fn frame_total(g: Page) -> usize
-    ensures { λ r. ⌜ (r ≡ frameTotal g) × (r ≤ 255) ⌝ }
-{
-    if g.copies[0].frame == NULL_FRAME {
-        return 0;
-    }
-    g.n as usize
-}
-
 // How many entries of the register are this one; vector comparisons in the compiled code.
 fn entries_of(register: &[u16; 254], entry: u16) -> u16
     requires { ⌜ length (now register) ≡ 254 ⌝ }
@@ -220,9 +210,22 @@ impl Tables {
             if !page_ok(&self.register, i as u8, g, limit) {
                 return false;
             }
-            held += frame_total(g);
+            held += g.frame_total() as usize;
             i += 1;
         }
         others_ok(&self.register, held, limit)
+    }
+
+    // On how many frames the copies of the pages are, where each page keeps its rule.
+    pub fn held(self) -> usize
+        ensures { λ r. ⌜ (r ≡ frameTotals (self .pages)) × (r ≤ 16320) ⌝ }
+    {
+        let mut held: usize = 0;
+        let mut i: usize = 0;
+        while i < 64 {
+            held += self.pages[i].frame_total() as usize;
+            i += 1;
+        }
+        held
     }
 }

@@ -11,7 +11,7 @@ use lib.Dec.{eqb}
 use borrow.Author.Tests.{eqb-true, not-false}
 use Rattle.tables.specs.declared.Shared.{Shared}
 use Rattle.tables.specs.Model.{frames, freshTables, pageAt}
-use Rattle.tables.specs.Rules.{holders}
+use Rattle.tables.specs.Rules.{holders, isHeld}
 use Rattle.tables.specs.Changes.{changed, edited, after}
 use Rattle.tables.proofs.ListLaws.{or-left}
 use Rattle.tables.proofs.RuleLaws.{sound-of}
@@ -26,7 +26,7 @@ use Rattle.steps.proofs.DecideLaws.{IfAccepted, if-accepted}
 use Rattle.steps.proofs.DecisionLaws.{page-near}
 use Rattle.steps.proofs.StepLaws.{joined-long, Sure, sure}
 use Rattle.messages.specs.Run.{Sent, leftBy, turnsOf, endOf, messagesOf}
-use Rattle.theorems.specs.Clean.{isHeld, everHeld, Blank, NoneHeld, Clean}
+use Rattle.theorems.specs.Clean.{everHeld, Blank, NoneHeld, Clean}
 use Rattle.theorems.proofs.Frames.{by-message, left-frames, end-frames, end-long}
 
 -- ---- one message

@@ -30,7 +30,7 @@ use Rattle.messages.specs.declared.Parsed.{Parsed}
 use Rattle.messages.specs.declared.Parsed.the-variants.{Refused, Asked}
 use Rattle.messages.specs.declared.Tally.{Tally}
 use Rattle.messages.specs.Messages.{parse, lengthAt}
-use Rattle.messages.specs.Replies.{reply, replyIn, counted, isRefusal}
+use Rattle.messages.specs.Replies.{reply, replyIn, counted, zeroTally, isRefusal}
 use Rattle.messages.specs.Run.{Sent, cut, whole, asked, bytesOf, respond, answer, Turn, turnOf, leftBy}
 use Rattle.messages.specs.Run.{messagesOf, turnsOf, endOf, Run, buffer, tally, joinedReplies}
 use Rattle.messages.specs.Run.{full, served, passed, placeAfter, stateAfter, turnsFrom}
@@ -117,10 +117,10 @@ passed-covered end at (whole m) = by (sendsWrite m)
 
 -- so two that are the same when covered do
 module _ (x x′ : Sent) (same : messageCovered x ≡ messageCovered x′) where
-  same-asked : asked x ≡ asked x′
+  pub same-asked : asked x ≡ asked x′
   same-asked = sym (asked-covered x) ∙ ap asked same ∙ asked-covered x′
 
-  same-carried : length (bytesOf x) ≡ length (bytesOf x′)
+  pub same-carried : length (bytesOf x) ≡ length (bytesOf x′)
   same-carried = sym (carried-covered x) ∙ ap (λ (z : Sent). length (bytesOf z)) same ∙ carried-covered x′
 
   same-passed : (end at : ℕ) → passed end at x ≡ passed end at x′
@@ -408,21 +408,18 @@ taken-are (x ∷ xs) s =
     rw (take-at r more (2 + lengthAt (r ++ more) 0) long, drop-at r more (2 + lengthAt (r ++ more) 0) long)
     (ap (λ (l : List ℕ). dataCovered x r ++ l) (taken-are xs (leftBy 70 s x)))
 
-abbrev noTally : Tally
-noTally = record { messages = 0; refusals = 0; laid = 0 }
-
 module _ (xs xs′ : List Sent) (same : SameBut xs xs′) (s s′ : State) (w : Twins s s′) where
   others-alike : (room : ℕ) → otherReplies room (turnsOf room s xs) ≡ otherReplies room (turnsOf room s′ xs′)
   others-alike room =
       others-are room xs s ∙ ap₂ unmarked (same-reads xs xs′ same)
-      (messages-alike room noTally xs xs′ same s s′ w .replies)
+      (messages-alike room zeroTally xs xs′ same s s′ w .replies)
       ∙ sym (others-are room xs′ s′)
 
   -- where the bytes l and l′ are the joined replies
   pub taken-alike : (l l′ : List ℕ) → l ≡ joinedReplies 70 (turnsOf 70 s xs) → l′ ≡ joinedReplies 70 (turnsOf 70 s′ xs′)
       → takenCovered xs l ≡ takenCovered xs′ l′
   taken-alike l l′ q q′ =
-      ap (takenCovered xs) q ∙ taken-are xs s ∙ ap flatten (messages-alike 70 noTally xs xs′ same s s′ w .replies)
+      ap (takenCovered xs) q ∙ taken-are xs s ∙ ap flatten (messages-alike 70 zeroTally xs xs′ same s s′ w .replies)
       ∙ sym (ap (takenCovered xs′) q′ ∙ taken-are xs′ s′)
 
 -- replies laid one over the other, where none is a read's
@@ -515,7 +512,7 @@ never-five-in room [] s ok = refl
 never-five-in room (x ∷ xs) s ok =
     and-intro (not-five s ok room x) (never-five-in room xs (leftBy room s x) (message-sound room s x ok))
 
-made-sound : (p s : ℕ) → sound (made p s .tables) ≡ true
+pub made-sound : (p s : ℕ) → sound (made p s .tables) ≡ true
 made-sound p s = go (leb p 127) refl (leb s 127) refl
   where
     go : (a : Bool) → leb p 127 ≡ a → (b : Bool) → leb s 127 ≡ b

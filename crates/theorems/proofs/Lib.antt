@@ -20,3 +20,4 @@ pub mod Told
 pub mod Stations
 pub mod Closed
 pub mod Hidden
+pub mod Forecast

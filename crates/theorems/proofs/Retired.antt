@@ -12,7 +12,7 @@ use Rattle.tables.specs.declared.Shared.{Shared}
 use Rattle.tables.specs.declared.Tables.{Tables}
 use Rattle.tables.specs.Numbers.{shortBuffer}
 use Rattle.tables.specs.Model.{frames, retiredAt}
-use Rattle.tables.specs.Rules.{holders, free, sound}
+use Rattle.tables.specs.Rules.{holders, free, isHeld, sound}
 use Rattle.tables.specs.declared.Edit.the-variants.{Kept}
 use Rattle.tables.specs.Lists.{countBelow}
 use Rattle.tables.specs.Search.{isRetired}
@@ -39,7 +39,7 @@ use Rattle.steps.proofs.StepLaws.{rules-listed, Sure, sure}
 use Rattle.messages.specs.declared.Parsed.{Parsed}
 use Rattle.messages.specs.declared.Parsed.the-variants.{Refused, Asked}
 use Rattle.messages.specs.Run.{Sent, asked, bytesOf, respond, answer, leftBy, turnsOf, endOf, messagesOf}
-use Rattle.theorems.specs.Clean.{isHeld, everHeld}
+use Rattle.theorems.specs.Clean.{everHeld}
 use Rattle.theorems.specs.Retired.{threeNumbers, retiresFrame, everRetired, NeverAgain, onlyRetired, RetiredFrames}
 use Rattle.theorems.proofs.Frames.{left-frames, end-frames}
 use Rattle.theorems.proofs.Sound.{message-sound, messages-sound}

@@ -2,20 +2,15 @@
 -- the frames that no copy has at its end.
 use Prim.Native.Nat.{ℕ, _*_, _≤_, _<_}
 use mathlib.Core.Path.{_≡_}
-use mathlib.Core.Bool.{Bool, false, not, _||_, cond}
+use mathlib.Core.Bool.{Bool, false, _||_, cond}
 use mathlib.Core.List.{List, [], _∷_}
 use lib.ListN.{length, replicate}
-use lib.Dec.{eqb}
 use Rattle.tables.specs.declared.Tables.{Tables}
 use Rattle.tables.specs.Model.{frames, freshTables}
-use Rattle.tables.specs.Rules.{holders}
+use Rattle.tables.specs.Rules.{isHeld}
 use Rattle.steps.specs.Stores.{block, zeros}
 use Rattle.steps.specs.Effects.{State, joined}
 use Rattle.messages.specs.Run.{Turn, Run, run}
-
--- a copy has frame f
-abbrev pub isHeld : Tables → ℕ → Bool
-isHeld t f = not (eqb (holders t f) 0)
 
 -- held in a state that one of the turns found
 abbrev pub everHeld : List Turn → ℕ → Bool

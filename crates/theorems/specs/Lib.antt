@@ -12,6 +12,7 @@ pub mod Retired
 pub mod Stations
 pub mod Closed
 pub mod Hidden
+pub mod Forecast
 pub mod Cases
 pub mod Borders
 pub mod StationCases
@@ -26,3 +27,4 @@ pub mod WitnessCaller
 pub mod WitnessSteps
 pub mod WitnessClosed
 pub mod WitnessHidden
+pub mod WitnessForecast

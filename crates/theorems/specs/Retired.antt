@@ -8,7 +8,7 @@ use lib.Dec.{eqb}
 use Rattle.tables.specs.declared.Tables.{Tables}
 use Rattle.tables.specs.Lists.{countBelow}
 use Rattle.tables.specs.Model.{frames, retiredAt}
-use Rattle.tables.specs.Rules.{free, sound}
+use Rattle.tables.specs.Rules.{free, isHeld, framesHeld, sound}
 use Rattle.tables.specs.Changes.{withRetired}
 use Rattle.steps.specs.declared.Call.{Call}
 use Rattle.steps.specs.Kinds.{isRetire}
@@ -18,11 +18,11 @@ use Rattle.steps.specs.Effects.{bit, State, Result, joined, step}
 use Rattle.messages.specs.declared.Parsed.{Parsed}
 use Rattle.messages.specs.declared.Parsed.the-variants.{Refused, Asked}
 use Rattle.messages.specs.Run.{asked, Turn, Run, run}
-use Rattle.theorems.specs.Clean.{isHeld, everHeld}
+use Rattle.theorems.specs.Clean.{everHeld}
 
 -- how many frames are free, held and retired, together
 abbrev pub threeNumbers : Tables → ℕ
-threeNumbers t = countBelow (frames t) (free t) + countBelow (frames t) (isHeld t) + countBelow (frames t) (retiredAt t)
+threeNumbers t = countBelow (frames t) (free t) + framesHeld t + countBelow (frames t) (retiredAt t)
 
 -- "Kind 12, retire (frame)": a message that asks for it, and was accepted
 abbrev pub retiresFrame : Parsed → Outcome Result → ℕ → Bool

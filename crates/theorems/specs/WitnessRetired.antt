@@ -11,7 +11,7 @@ use lib.Dec.{eqb}
 use Rattle.tables.specs.declared.Tables.{Tables}
 use Rattle.tables.specs.Lists.{all, count, allBelow, countBelow}
 use Rattle.tables.specs.Model.{freshPage, freshTables, retiredAt}
-use Rattle.tables.specs.Rules.{uses, holders, free, standingRule, absentRule, pageRule, noneShared, sizesRule, pagesRule, sound}
+use Rattle.tables.specs.Rules.{uses, holders, free, standingRule, absentRule, pageRule, noneShared, sizesRule, pagesRule, isHeld, sound}
 use Rattle.tables.specs.Search.{inCopies, inPages}
 use Rattle.tables.specs.Register.{registerRule, vacated, occupied}
 use Rattle.tables.specs.Changes.{created, withCopies, newCopy, changeTo, withRetired, after}
@@ -23,7 +23,6 @@ use Rattle.steps.specs.Steps.{refuse, accept}
 use Rattle.steps.specs.Effects.{bit, State, Result, step}
 use Rattle.messages.specs.Messages.{parse}
 use Rattle.messages.specs.Run.{whole, Turn, Run, run}
-use Rattle.theorems.specs.Clean.{isHeld}
 use Rattle.theorems.specs.Retired.{threeNumbers, everRetired, NeverAgain, onlyRetired, KeepsRetired, RetiredFrames}
 use Rattle.theorems.specs.Witness3.{But, file₃, fastBytes, slowBytes, broken}
 

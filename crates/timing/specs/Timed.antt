@@ -11,12 +11,10 @@ use Rattle.tables.specs.Rules.{sound}
 use Rattle.steps.specs.Effects.{State}
 use Rattle.steps.specs.Promises.{Lent, lent}
 use Rattle.messages.specs.declared.Tally.{Tally}
+use Rattle.messages.specs.Replies.{zeroTally}
 use Rattle.messages.specs.Run.{Run, buffer, tally}
 use Rattle.embed.specs.Exports.{withTables}
 use Rattle.timing.specs.declared.Left.{Left}
-
-abbrev pub zeroTally : Tally
-zeroTally = record { messages = 0; refusals = 0; laid = 0 }
 
 -- what `answers` leaves of a run w, with a tally n and a reply buffer: the state s′, the buffer and the tally
 pub record AnswersEnded (w : Run) (n : Tally) (out : List ℕ) (s′ : State) (out′ : List ℕ) (r : Left) : Type 0 where

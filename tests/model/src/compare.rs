@@ -3,6 +3,7 @@
 use crate::clean::Clean;
 use crate::exchange::Turns;
 use crate::flat::Demand3;
+use crate::forecast::{self, Course, Forecast, FIGURES};
 use crate::frames::Frames;
 use crate::gen::{self, Moves, Rng, BUFFERS, DAMAGES, SHORT_BUFFERS};
 use crate::history::{self, History};
@@ -77,6 +78,7 @@ pub struct Counts {
     pub runs_from_sound: u64,
     /// Calls that keep the replies of a part of a file.
     pub parts: u64,
+    pub forecasts: forecast::Counts,
     /// Messages written again, and replies read back.
     pub turns: Turns,
 }
@@ -86,7 +88,8 @@ impl Counts {
     pub fn reached(&self) -> impl Iterator<Item = (&'static str, u64)> + '_ {
         let depths = DEPTHS.into_iter().zip(self.depths);
         let reached = depths.chain(RIGHTS.into_iter().zip(self.rights));
-        reached.chain(history::EVENTS.into_iter().zip(self.histories))
+        let reached = reached.chain(history::EVENTS.into_iter().zip(self.histories));
+        reached.chain(self.forecasts.reached())
     }
 
     /// The numbers, states and events that came up too seldom.
@@ -218,7 +221,7 @@ impl Compare<'_> {
         ))
     }
 
-    /// A whole file given to kernel and model; what the kernel left.
+    /// A whole file given to kernel and model, to be run and forecast; what the kernel's run left.
     fn run(&mut self, lent: &Lent, file: &[u8]) -> Result<Lent, String> {
         let tally = gen::tally(&mut self.rng);
         let (mut kernels, mut models) = (tally.clone(), tally.clone());
@@ -230,9 +233,45 @@ impl Compare<'_> {
         let mut difference = difference(&by_kernel, &by_model);
         difference += &tally_difference(BESIDE, &tally, [&kernels, &models]);
         if difference.is_empty() {
+            self.forecast(lent, file)?;
             return Ok(by_kernel);
         }
         Err(format!("run of {}{difference}", file_in_words(lent, file)))
+    }
+
+    /// The forecast of a file by kernel and model, and where it can be run on the stores lent the tally
+    /// that the kernel's run leaves from zeros.
+    fn forecast_into(&mut self, room: Vec<u32>, lent: &Lent, file: &[u8]) -> Result<(), String> {
+        let course = Course::from_tables(&lent.tables, file);
+        let forecast = course.as_ref().map(Forecast::of);
+        self.counts.forecasts.count(course.as_ref(), room.len());
+        let (mut given, mut due) = (room.clone(), room);
+        let number = self.kernel.forecast(&lent.tables, file, &mut given);
+        let due_number = forecast::tell(forecast.clone(), &mut due);
+        let mut difference = String::new();
+        if (number, &given) != (due_number, &due) {
+            difference =
+                format!("\n  forecast: kernel {number} {given:?}\n  model {due_number} {due:?}");
+        }
+        let is_run = Modelled.rules(lent) == 0 && lent.out.len() >= LEAST_BUFFER;
+        if let Some(forecast) = forecast.filter(|_| is_run) {
+            let mut tally = [0; 3];
+            self.kernel.run(&mut lent.clone(), file, &mut tally);
+            difference += &tally_difference(FORETOLD, &[0; 3], [&tally, &forecast.tally()]);
+        }
+        match difference.is_empty() {
+            true => Ok(()),
+            false => Err(format!(
+                "forecast of {}{difference}",
+                file_in_words(lent, file)
+            )),
+        }
+    }
+
+    /// The same with figures of any length.
+    fn forecast(&mut self, lent: &Lent, file: &[u8]) -> Result<(), String> {
+        let room = gen::figures(&mut self.rng);
+        self.forecast_into(room, lent, file)
     }
 
     /// A file from a place on given to kernel and model, its replies kept: where they came to.
@@ -381,7 +420,7 @@ impl Compare<'_> {
     // ---- Trials ----
 
     /// Files that come to every depth and every number, as often as these must come up: no floor hangs
-    /// on the seed.
+    /// on the seed. At last a long one is forecast.
     fn deep_files(&mut self) -> Result<(), String> {
         for _ in 0..LEAST {
             let start = gen::roomy(&mut self.rng);
@@ -392,8 +431,27 @@ impl Compare<'_> {
             let mut trial = Trial::from_fresh(start);
             self.turns(&mut trial, &file)?;
             self.whole_run(&trial)?;
+            self.forecasts(&trial)?;
         }
-        Ok(())
+        let start = gen::roomy(&mut self.rng);
+        let file = gen::long_file(&mut self.rng);
+        self.forecast_into(vec![0; FIGURES], &start, &file)
+    }
+
+    /// Forecasts from the states that a trial begins and ends with: of no message, of its file cut short
+    /// and on broken tables; of copies and deletes, and of deletes alone.
+    fn forecasts(&mut self, trial: &Trial) -> Result<(), String> {
+        let [_, broken, _] = gen::hindered(&mut self.rng, &trial.start);
+        self.forecast(&broken, &trial.file)?;
+        self.forecast(&broken, &[])?;
+        self.forecast(&trial.start, &[])?;
+        let cut = self.rng.below(trial.file.len());
+        self.forecast(&trial.start, &trial.file[..cut])?;
+        let [copies, deletes] = gen::copies_and_deletes(&mut self.rng, &trial.lent);
+        self.forecast(&trial.lent, &copies)?;
+        self.forecast(&trial.lent, &[&copies[..], &deletes].concat())?;
+        let copied = self.run(&trial.lent, &copies)?;
+        self.forecast(&copied, &deletes)
     }
 
     /// One whole file, message by message and then at once.
@@ -642,8 +700,7 @@ impl Trial {
             let held = frame_bytes(before, &lent.fast, &lent.slow, frame);
             held.iter().all(|&byte| byte == 0)
         };
-        let held = before.copies().filter(|(_, _, copy)| copy.frame.is_some());
-        let held = held.count();
+        let held = before.held();
         let retired = before.retired_frames().count();
         let (retires, looks_at, copies_to) = match call {
             Ok(Call::Retire { frame }) => (Some(frame), None, None),
@@ -816,6 +873,7 @@ pub(crate) fn deleted(before: &Tables, call: &Call) -> Vec<PageCopy> {
 pub(crate) type Sides = [&'static str; 2];
 
 const BESIDE: Sides = ["kernel", "model"];
+const FORETOLD: Sides = ["run", "forecast"];
 
 fn difference(kernel: &Lent, model: &Lent) -> String {
     let parts = [

@@ -1,5 +1,6 @@
 //! Generators of messages, call files, tables and stores, all from one seed.
 
+use crate::forecast::FIGURES;
 use crate::model::{
     frame_bytes, message, Call, Lent, Page, PageCopy, Tables, ENTRIES, FRAME, FREE_ENTRY, KINDS,
     LEAST_BUFFER, MOST_FRAMES, NO_FRAME, PAGES, RAW, RECORD, REGISTER, REGISTERED, RETIRED,
@@ -107,6 +108,19 @@ pub fn tally(rng: &mut Rng) -> Vec<u32> {
         2 => (0..3).map(|_| rng.below(1 << 32) as u32).collect(),
         _ => vec![0; 3],
     }
+}
+
+/// Room for figures that holds any numbers, now and then for too few or too many.
+pub fn figures(rng: &mut Rng) -> Vec<u32> {
+    let length = match rng.below(8) {
+        0 => rng.pick(&[0, 1, 2, FIGURES - 1, FIGURES + 1, 2 * FIGURES]),
+        _ => FIGURES,
+    };
+    let bytes = rng.bytes(4 * length);
+    let numbers = bytes.chunks_exact(4);
+    numbers
+        .map(|bytes| u32::from_le_bytes(bytes.try_into().expect("four bytes")))
+        .collect()
 }
 
 pub fn fresh(rng: &mut Rng) -> Lent {
@@ -1251,6 +1265,55 @@ pub fn deep_file(rng: &mut Rng, fast: u8, slow: u8) -> Vec<u8> {
     let broken = [&[0, 2, 2, 1][..], &[0, 2, 1, 13], &[0, 3, 1, 1, 0], &[0]];
     let calls: Vec<Vec<u8>> = calls.iter().map(Call::encode).collect();
     [calls.concat(), broken.concat()].concat()
+}
+
+/// A file for `roomy` tables that has more messages of one number, and lays more bytes, than 16 bits
+/// can count.
+pub fn long_file(rng: &mut Rng) -> Vec<u8> {
+    let (page, station) = (
+        rng.within(0, PAGES as u8 - 1),
+        rng.within(0, STATIONS as u8 - 1),
+    );
+    let write = Call::Write {
+        station,
+        page,
+        offset: 0,
+        bytes: rng.bytes(FRAME),
+    };
+    let (frames, more) = (rng.shuffled(ENTRIES as u8), rng.below(1000));
+    let mut calls = vec![Call::Create { station, page }];
+    calls.extend(frames.into_iter().map(|frame| Call::MakeCopy {
+        page,
+        copy: 0,
+        frame,
+    }));
+    calls.extend((0..ENTRIES as u8).map(|copy| Call::SetCurrent { page, copy }));
+    let calls = calls.iter().flat_map(Call::encode);
+    let writes = write.encode().repeat((1 << 16) / (FRAME * ENTRIES) + more);
+    let broken = vec![0; 2 * ((1 << 16) + more)];
+    calls.chain(writes).chain(broken).collect()
+}
+
+/// For tables with a free frame and an absent page: a file that creates the page and copies it to the
+/// frame, and one that then deletes it.
+pub fn copies_and_deletes(rng: &mut Rng, lent: &Lent) -> [Vec<u8>; 2] {
+    let tables = tables_of(lent);
+    let frames = rng.shuffled(tables.frames() as u8);
+    let frame = frames.into_iter().find(|&frame| tables.is_free(frame));
+    let absent = tables.pages.iter().position(Option::is_none);
+    let (frame, page) = (
+        frame.expect("a free frame"),
+        absent.expect("an absent page") as u8,
+    );
+    let station = rng.within(0, STATIONS as u8 - 1);
+    let copy = Call::MakeCopy {
+        page,
+        copy: 0,
+        frame,
+    };
+    let create = Call::Create { station, page };
+    let delete = Call::DeletePage { station, page };
+    [[create.encode(), copy.encode()].concat(), delete.encode()]
 }
 
 /// A page that is closed as soon as it is created, then read by its owner and in vain by a guest,

@@ -11,6 +11,7 @@ use crate::compare::{
     add, answer_difference, deleted, file_in_words, first_difference, fresh_start, lent_in_words,
     tally_difference, too_seldom, Sides, LEAST,
 };
+use crate::forecast::FIGURES;
 use crate::gen::{self, Moves, Rng};
 use crate::kernel::Kernel;
 use crate::model::{
@@ -177,9 +178,10 @@ impl Twins<'_> {
         Ok(())
     }
 
-    /// The files so far, run at once and part by part.
+    /// The files so far, run at once, part by part and forecast.
     fn whole(&self, rng: &mut Rng) -> Result<(), String> {
         self.run(&gen::tally(rng))?;
+        self.forecast()?;
         let room = rng.pick(&[69, 70, 71, 140, 210, 1000]);
         self.parts(rng, room)
     }
@@ -201,6 +203,27 @@ impl Twins<'_> {
         let number = last.and_then(|_| lents[0].out.get(3).copied());
         self.judge(&difference, number.as_slice(), || {
             format!("run of {}", self.in_words())
+        })
+    }
+
+    /// The forecasts of the two files, from the tables alone.
+    fn forecast(&self) -> Result<(), String> {
+        let [one, other] = [0, 1].map(|run| {
+            let mut figures = [0; FIGURES];
+            let (tables, file) = (&self.starts[run].tables, &self.files[run]);
+            (self.kernel.forecast(tables, file, &mut figures), figures)
+        });
+        let (number, figures) = one;
+        let mut difference = String::new();
+        if one != other {
+            let [name, other_name] = RUNS;
+            difference = format!("\n  forecasts: {name} {one:?}, {other_name} {other:?}");
+        }
+        let five = Refusal::BrokenTables.number();
+        let counted = figures[2 + usize::from(five)] > 0;
+        let numbers = [number, if counted { five } else { 0 }];
+        self.judge(&difference, &numbers, || {
+            format!("forecast of {}", self.in_words())
         })
     }
 
@@ -250,7 +273,7 @@ impl Twins<'_> {
 }
 
 /// Checks two files of the same messages from two starts with the same sound tables: message by
-/// message, run at once and part by part.
+/// message, run at once, part by part and forecast.
 pub fn check_files(
     kernel: &dyn Kernel,
     starts: [Lent; 2],
@@ -261,6 +284,7 @@ pub fn check_files(
         twins.turn([one, other])?;
     }
     twins.run(&[0; 3])?;
+    twins.forecast()?;
     let mut rooms = [69, 70, 1000].into_iter();
     rooms.try_for_each(|room| twins.parts(&mut Rng::new(1), room))
 }

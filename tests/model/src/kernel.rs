@@ -1,6 +1,7 @@
 //! What can be compared with the model: the kernel of `libembed.a`, and the model itself, on which
 //! the tests of the comparison build.
 
+use crate::forecast::{self, Course, Forecast};
 use crate::model::{self, Answer, Lent, Part, Reached, Refusal, RAW};
 use crate::stations::{self, Sent, Told};
 
@@ -28,6 +29,8 @@ pub trait Kernel: Stations {
     /// The place of a read: its length + 256 * (0 fast, 1 slow) + 65536 * (its offset in the
     /// store); 0 where the read would be refused. The arguments are those of the message.
     fn read(&self, lent: &Lent, arguments: [u8; 4]) -> u32;
+    /// Forecasts a call file on tables: 0, or 5 for broken ones, and lays out the figures.
+    fn forecast(&self, tables: &[u8], file: &[u8], figures: &mut [u32]) -> u8;
 }
 
 /// An answer as `reel_answer` packs it.
@@ -75,6 +78,11 @@ impl Kernel for Modelled {
 
     fn read(&self, lent: &Lent, [station, page, offset, count]: [u8; 4]) -> u32 {
         placed(model::read(lent, station, page, offset, count))
+    }
+
+    fn forecast(&self, tables: &[u8], file: &[u8], figures: &mut [u32]) -> u8 {
+        let course = Course::from_tables(tables, file);
+        forecast::tell(course.as_ref().map(Forecast::of), figures)
     }
 }
 
@@ -150,5 +158,9 @@ impl Kernel for Embedded {
 
     fn read(&self, lent: &Lent, arguments: [u8; 4]) -> u32 {
         kernel::read(&lent.tables, lent.fast.len(), lent.slow.len(), arguments)
+    }
+
+    fn forecast(&self, tables: &[u8], file: &[u8], figures: &mut [u32]) -> u8 {
+        kernel::forecast(tables, file, figures)
     }
 }

@@ -1,5 +1,5 @@
 //! An independent model of the reel page kernel, written from document 01 and requests [2], [4],
-//! [5] and [6] of document 02 alone, and the comparison of the kernel with it; the histories of
+//! [5], [6] and [8] of document 02 alone, and the comparison of the kernel with it; the histories of
 //! pages, by the messages and by which of them were accepted; and the promise of request [7], for
 //! which the kernel is compared with itself.
 
@@ -8,6 +8,7 @@ pub mod clean;
 pub mod compare;
 pub mod exchange;
 pub mod flat;
+pub mod forecast;
 pub mod frames;
 pub mod gen;
 pub mod hidden;

@@ -54,8 +54,12 @@ fn main() -> ExitCode {
     println!(
         "{} whole files run, demand 3, the clean cards and the histories of pages checked on {} of them \
          from fresh tables, free, held and retired frames on {} from sound ones; {} parts of files with \
-         their replies kept",
-        counts.runs, counts.runs_from_fresh, counts.runs_from_sound, counts.parts
+         their replies kept; {} forecasts",
+        counts.runs,
+        counts.runs_from_fresh,
+        counts.runs_from_sound,
+        counts.parts,
+        counts.forecasts.forecasts
     );
     for (word, count) in exchange.rows() {
         println!("     {word:33} {count:9}");

@@ -99,6 +99,12 @@ impl Tables {
         })
     }
 
+    /// How many frames are held: on sound tables no two copies are on one.
+    pub fn held(&self) -> usize {
+        let held = self.copies().filter(|(_, _, copy)| copy.frame.is_some());
+        held.count()
+    }
+
     /// A frame is held if a copy has it.
     pub fn is_held(&self, frame: u8) -> bool {
         self.holder(frame).is_some()

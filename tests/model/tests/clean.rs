@@ -68,8 +68,7 @@ fn every_page_deleted_leaves_no_byte_of_any() {
             let start = gen::fresh(rng);
             let (mut lent, clean) = shift(kernel, rng, start);
             let tables = tables_of(&lent);
-            let held = tables.copies().filter(|(_, _, copy)| copy.frame.is_some());
-            let due = 64 * held.count();
+            let due = 64 * tables.held();
             assert_eq!(delete_all(kernel, &mut lent), due, "seed {seed}");
             let fresh = Tables::fresh(tables.fast, tables.slow);
             let retired = tables.retired;

@@ -8,6 +8,7 @@ use ::model::cases::{
 use ::model::clean::Clean;
 use ::model::compare::compare;
 use ::model::flat::Demand3;
+use ::model::forecast::{self, Course, Forecast, State, Turn as Counted, FIGURES};
 use ::model::frames::Frames;
 use ::model::gen::{self, Moves, Rng};
 use ::model::hidden::{self, carried};
@@ -52,6 +53,15 @@ enum Flaw {
     Rules(fn(u8) -> u8),
     /// Gives another place of a read.
     Read(fn(&Lent, u32) -> u32),
+    /// Takes another figure from each state of a run for the frames held.
+    Held(fn(State) -> usize),
+    /// Takes the most frames held from the states at the start and after each message in its own way.
+    Most(fn(&[usize]) -> usize),
+    /// Counts a message in its own way.
+    Foresees(fn(&mut Forecast, &Counted)),
+    /// Spoils the number and the figures of a forecast, by the bytes of the tables, the file and the
+    /// figures as lent.
+    Forecast(fn(&mut u8, &mut [u32], &[u8], &[u8], &[u32])),
 }
 
 struct Mutant(Flaw);
@@ -111,9 +121,39 @@ impl Kernel for Mutant {
             _ => place,
         }
     }
+
+    fn forecast(&self, tables: &[u8], file: &[u8], figures: &mut [u32]) -> u8 {
+        let lent = figures.to_vec();
+        let course = Course::from_tables(tables, file);
+        let mut number = forecast::tell(course.map(|course| self.foresee(&course)), figures);
+        if let Flaw::Forecast(spoil) = self.0 {
+            spoil(&mut number, figures, tables, file, &lent);
+        }
+        number
+    }
 }
 
 impl Mutant {
+    fn foresee(&self, course: &Course) -> Forecast {
+        let mut forecast = Forecast::of(course);
+        let by = |held: fn(State) -> usize| course.states().map(held).collect::<Vec<usize>>();
+        match self.0 {
+            Flaw::Held(held) => forecast.most = by(held).into_iter().max().unwrap_or(0),
+            Flaw::Most(most) => forecast.most = most(&by(|state| state.held)),
+            Flaw::Foresees(count) => {
+                let most = forecast.most;
+                forecast = Forecast::default();
+                course
+                    .turns
+                    .iter()
+                    .for_each(|turn| count(&mut forecast, turn));
+                forecast.most = most;
+            }
+            _ => {}
+        }
+        forecast
+    }
+
     fn taken<'a>(&self, file: &'a [u8]) -> &'a [u8] {
         match self.0 {
             Flaw::File(taken) => &file[..taken(file)],
@@ -2261,8 +2301,7 @@ const FIVES: [(&str, Flaw); 6] = [
         Flaw::Answer(|turn| {
             if turn.answer.number == 13 {
                 let tables = turn.tables_before();
-                let held = tables.copies().filter(|(_, _, copy)| copy.frame.is_some());
-                if held.count() == tables.frames() {
+                if tables.held() == tables.frames() {
                     turn.refuse(5);
                 }
             }
@@ -2298,11 +2337,174 @@ const FIVES: [(&str, Flaw); 6] = [
     ),
 ];
 
+/// Wrong forecasts; the answers, the run and its parts are right.
+const WRONG_FORECASTS: [(&str, Flaw); 21] = [
+    (
+        "the most frames after messages, not at the start",
+        Flaw::Most(|held| held[1..].iter().copied().max().unwrap_or(0)),
+    ),
+    (
+        "the most frames at the end alone",
+        Flaw::Most(|held| *held.last().expect("a start")),
+    ),
+    (
+        "the most frames at the start alone",
+        Flaw::Most(|held| held[0]),
+    ),
+    (
+        "the most frames before the last message",
+        Flaw::Most(|held| {
+            let before = &held[..(held.len() - 1).max(1)];
+            before.iter().copied().max().expect("a start")
+        }),
+    ),
+    (
+        "null copies counted as frames held",
+        Flaw::Held(|state| state.held + state.null),
+    ),
+    (
+        "retired frames counted as held",
+        Flaw::Held(|state| state.held + state.retired),
+    ),
+    (
+        "refused messages left out of a forecast",
+        Flaw::Foresees(|forecast, turn| {
+            if turn.answer.number == 0 {
+                forecast.lay(turn.answer.laid);
+                forecast.count(0);
+            }
+        }),
+    ),
+    (
+        "a cut end counted twice",
+        Flaw::Foresees(|forecast, turn| {
+            forecast.lay(turn.answer.laid);
+            forecast.count(turn.answer.number);
+            if turn.answer.number == 1 {
+                forecast.count(1);
+            }
+        }),
+    ),
+    (
+        "a cut end not counted",
+        Flaw::Foresees(|forecast, turn| {
+            forecast.lay(turn.answer.laid);
+            if turn.answer.number != 1 {
+                forecast.count(turn.answer.number);
+            }
+        }),
+    ),
+    (
+        "a broken message counted under 2",
+        Flaw::Foresees(|forecast, turn| {
+            forecast.lay(turn.answer.laid);
+            let number = turn.answer.number;
+            forecast.count(if number == 3 { 2 } else { number });
+        }),
+    ),
+    (
+        "bytes laid of refused writes",
+        Flaw::Foresees(|forecast, turn| {
+            forecast.lay(match turn.answer.number {
+                0 => turn.answer.laid,
+                _ => carried(turn.message).len(),
+            });
+            forecast.count(turn.answer.number);
+        }),
+    ),
+    (
+        "bytes laid of writes once, not for each copy",
+        Flaw::Foresees(|forecast, turn| {
+            let is_write = !carried(turn.message).is_empty();
+            forecast.lay(match (turn.answer.number, is_write) {
+                (0, true) => carried(turn.message).len(),
+                _ => turn.answer.laid,
+            });
+            forecast.count(turn.answer.number);
+        }),
+    ),
+    (
+        "bytes laid of deletes left out of a forecast",
+        Flaw::Foresees(|forecast, turn| {
+            let is_delete = matches!(turn.message, [_, _, _, 2 | 7, ..]);
+            forecast.lay(if is_delete { 0 } else { turn.answer.laid });
+            forecast.count(turn.answer.number);
+        }),
+    ),
+    (
+        "bytes laid of zeros left out of a forecast",
+        Flaw::Foresees(|forecast, turn| {
+            let is_zeros = carried(turn.message).starts_with(&[0]);
+            forecast.lay(if is_zeros { 0 } else { turn.answer.laid });
+            forecast.count(turn.answer.number);
+        }),
+    ),
+    (
+        "a count of 16 bits that wraps",
+        Flaw::Forecast(|_, figures, _, _, lent| {
+            if lent.len() == FIGURES {
+                figures[2..].iter_mut().for_each(|count| *count %= 65536);
+            }
+        }),
+    ),
+    (
+        "bytes laid of 16 bits that wrap",
+        Flaw::Forecast(|_, figures, _, _, lent| {
+            if lent.len() == FIGURES {
+                figures[1] %= 65536;
+            }
+        }),
+    ),
+    (
+        "the count under 5 set to 1 for broken tables",
+        Flaw::Forecast(|number, figures, _, _, lent| {
+            if *number == 5 && lent.len() == FIGURES {
+                figures[2 + 5] = 1;
+            }
+        }),
+    ),
+    (
+        "the figures left alone for broken tables",
+        Flaw::Forecast(|number, figures, _, _, lent| {
+            if *number == 5 {
+                figures.copy_from_slice(lent);
+            }
+        }),
+    ),
+    (
+        "0 for an empty file on broken tables",
+        Flaw::Forecast(|number, _, _, file, _| {
+            if file.is_empty() {
+                *number = 0;
+            }
+        }),
+    ),
+    (
+        "the frames that the register of broken tables has",
+        Flaw::Forecast(|number, figures, tables, _, lent| {
+            if *number == 5 && tables.len() == RAW && lent.len() == FIGURES {
+                let entries = tables[REGISTER..].chunks(2);
+                let held = entries.filter(|entry| entry[1] < 2);
+                figures[0] = held.count() as u32;
+            }
+        }),
+    ),
+    (
+        "figures of another length written",
+        Flaw::Forecast(|_, figures, _, _, lent| {
+            if lent.len() != FIGURES {
+                figures.fill(0);
+            }
+        }),
+    ),
+];
+
 fn mutants() -> impl Iterator<Item = (&'static str, Flaw)> {
     let of_document_2 = WRONG_PAIRS.into_iter().chain(WRONG_CREATES);
     let of_document_2 = of_document_2.chain(WRONG_DELETES).chain(WRONG_RETIRES);
     let of_document_2 = of_document_2.chain(WRONG_STATES);
     let of_document_2 = of_document_2.chain(LEAKS).chain(FIVES);
+    let of_document_2 = of_document_2.chain(WRONG_FORECASTS);
     MUTANTS.into_iter().chain(of_document_2)
 }
 
@@ -2727,10 +2929,11 @@ fn pairs_of_files_pass() {
     }
 }
 
-/// Two wrong kernels of other requests show contents too.
-const OTHER_LEAKS: [&str; 2] = [
+/// Three wrong kernels of other requests show contents too.
+const OTHER_LEAKS: [&str; 3] = [
     "stale marks spared when equal bytes are written",
     "a frame that was all zeros not counted",
+    "bytes laid of zeros left out of a forecast",
 ];
 
 /// Pairs of files find every leak without the model; `every_mutant_is_caught` has the same kernels

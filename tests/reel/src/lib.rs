@@ -159,6 +159,12 @@ impl Turn {
     }
 }
 
+/// How many frames are held after a message.
+pub fn held(turn: &Turn) -> usize {
+    let is_held = |on: &&OnFrame| matches!(on, OnFrame::Copy { .. });
+    turn.frames.iter().filter(is_held).count()
+}
+
 /// What is on a frame, by the model's tables.
 fn on_frame(tables: &Tables, pages: &[Vec<PageCopy>], frame: u8) -> OnFrame {
     let copies = pages.iter().zip(0..).flat_map(|(copies, page)| {

@@ -7,8 +7,9 @@ use reel::looks::{Mark, OnFrame};
 use reel_tests::browser::{Browser, SHIFT};
 use reel_tests::drawn::{clear_places, frameless, is_close, named, random_view, view_with, Drawn};
 use reel_tests::{
-    frame_due, frame_since, kept, modelled_from, random_file_from, so_since, Scratch, Turn,
+    frame_due, frame_since, held, kept, modelled_from, random_file_from, so_since, Scratch, Turn,
 };
+use std::path::PathBuf;
 
 /// The number of a message's kind; 0 for a broken one.
 fn kind(turn: &Turn) -> u8 {
@@ -163,7 +164,7 @@ fn figures(browser: &mut Browser, drawn: &Drawn, first: usize, last: usize) {
     let refused = turns.iter().filter(|turn| turn.reply.number > 0).count();
     let laid: usize = turns.iter().map(|turn| usize::from(turn.reply.laid)).sum();
     let bytes = if laid == 1 { "byte" } else { "bytes" };
-    let (count, held) = (turns.len(), held(turns));
+    let (count, held) = (turns.len(), held_in_words(turns));
     let due = format!("{count}, {refused} refused, {laid} {bytes} laid, {held} of 21 frames held.");
     let given = browser.text("#figures-words");
     let (ends, rest) = given.split_once(": ").expect("a sentence");
@@ -190,13 +191,8 @@ fn figures(browser: &mut Browser, drawn: &Drawn, first: usize, last: usize) {
 }
 
 /// How many frames are held after each of these messages, from the fewest to the most.
-fn held(turns: &[Turn]) -> String {
-    let is_held = |on: &&OnFrame| matches!(on, OnFrame::Copy { .. });
-    let held = || {
-        turns
-            .iter()
-            .map(|turn| turn.frames.iter().filter(is_held).count())
-    };
+fn held_in_words(turns: &[Turn]) -> String {
+    let held = || turns.iter().map(held);
     let (least, most) = (
         held().min().expect("a message"),
         held().max().expect("a message"),
@@ -359,23 +355,28 @@ fn pages_without_a_frame_have_a_row() {
     assert!(seen > 3, "only {seen} pages stood without a frame");
 }
 
+/// The page of a random file from kept tables, behind so many messages of it and up to message 280.
+fn part(scratch: &Scratch, seed: u64, before: usize) -> (PathBuf, Drawn) {
+    let rng = &mut Rng::new(seed);
+    let mut lent = lawful(rng);
+    let bytes = random_file_from(rng, lent.clone(), 300);
+    let first = (before + 1).to_string();
+    let start = kept(scratch, &lent);
+    let start = start.iter().map(String::as_str);
+    let words: Vec<&str> = start.chain(["--from", &first, "--to", "280"]).collect();
+    let page = view_with(scratch, &scratch.file("calls", &bytes), &words);
+    let mut turns = modelled_from(&mut lent, &bytes);
+    turns.truncate(281);
+    (page, Drawn::of(turns, before))
+}
+
 #[test]
 fn a_start_that_was_kept_and_a_part_of_a_file() {
     let scratch = Scratch::new("parts");
     let mut browser = Browser::start("parts");
     browser.size(1200, 900, 1);
     for (seed, before) in [(41, 0), (42, 0), (43, 120)] {
-        let rng = &mut Rng::new(seed);
-        let mut lent = lawful(rng);
-        let bytes = random_file_from(rng, lent.clone(), 300);
-        let first = (before + 1).to_string();
-        let start = kept(&scratch, &lent);
-        let start = start.iter().map(String::as_str);
-        let words: Vec<&str> = start.chain(["--from", &first, "--to", "280"]).collect();
-        let page = view_with(&scratch, &scratch.file("calls", &bytes), &words);
-        let mut turns = modelled_from(&mut lent, &bytes);
-        turns.truncate(281);
-        let mut drawn = Drawn::of(turns, before);
+        let (page, mut drawn) = part(&scratch, seed, before);
         browser.open(&page, "");
         drawn.place(&mut browser);
         assert!(browser.text("#place h2").ends_with(" of 280"));
@@ -409,6 +410,59 @@ fn in_part(drawn: &Drawn, turn: usize, frame: u8, before: usize) -> String {
     };
     let (state, _) = due.split_once(when).expect("when");
     format!("{state} since before message {}", before + 1)
+}
+
+#[test]
+fn the_most_frames_held_are_marked() {
+    let scratch = Scratch::new("most");
+    let mut browser = Browser::start("most");
+    browser.size(1300, 850, 1);
+    let mut seen = [0; 2];
+    for seed in 51..57 {
+        let (page, mut drawn) = match seed % 3 {
+            0 => part(&scratch, seed, 0),
+            1 => part(&scratch, seed, 120),
+            _ => random_view(&scratch, seed, (9, 12), 200),
+        };
+        let before = drawn.before;
+        browser.open(&page, "");
+        drawn.place(&mut browser);
+        let most = drawn.turns[before..].iter().map(held).max();
+        let mut turns = drawn.turns[before..].iter();
+        let first = turns.position(|turn| Some(held(turn)) == most);
+        let first = first.expect("a turn with the most");
+        let when = match (first, before) {
+            (0, 0) => "at the start".into(),
+            (0, _) => format!("before message {}", before + 1),
+            _ => format!("first after message {}", before + first),
+        };
+        let (most, frames) = (most.unwrap_or(0), drawn.frames());
+        let due = format!("Most frames held: {most} of {frames}, {when}.");
+        assert_eq!(browser.text("#most"), due, "seed {seed}");
+        seen[usize::from(first > 0)] += 1;
+        if first > 0 {
+            marked(&mut browser, &drawn, before + first);
+        }
+    }
+    assert!(seen[0] > 1 && seen[1] > 1, "{seen:?}");
+    browser.assert_sound();
+}
+
+/// A line in the lane of the frames held stands at a message, and the words lead there.
+fn marked(browser: &mut Browser, drawn: &Drawn, turn: usize) {
+    let (_, top, _, _) = browser.place_of("#lanes");
+    let places = [125.0, 145.0, 160.0].map(|down| (drawn.x(turn), top + down));
+    let accent = "getComputedStyle(document.documentElement).getPropertyValue('--accent').trim()";
+    let accent = browser.eval(accent).text().to_string();
+    assert_eq!(
+        browser.pixels(&places, 1),
+        [&accent[..]; 3],
+        "message {turn}"
+    );
+    browser.click_on("#most button");
+    assert_eq!(at(browser), turn);
+    let words = "frames held, the most, for the first time.";
+    assert!(browser.text("#place").contains(words), "message {turn}");
 }
 
 #[test]

@@ -10,7 +10,9 @@ use reel::looks::OnFrame;
 use reel::rules::broken;
 use reel::words;
 use reel_tests::json::Json;
-use reel_tests::{fresh, kept, modelled, modelled_from, printed, random_file, reel, Scratch, Turn};
+use reel_tests::{
+    fresh, held, kept, modelled, modelled_from, printed, random_file, reel, Scratch, Turn,
+};
 use std::collections::BTreeMap;
 use std::path::PathBuf;
 
@@ -216,11 +218,7 @@ fn the_summary_has_what_is_left_at_the_end() {
             .iter()
             .filter(|&&on| on == OnFrame::Retired)
             .count();
-        let held = end
-            .frames
-            .iter()
-            .filter(|on| matches!(on, OnFrame::Copy { .. }))
-            .count();
+        let held = held(end);
         let told =
             ["pages", "frames", "held", "retired"].map(|name| sum["end"][name].number() as usize);
         assert_eq!(told, [pages, 21, held, retired]);

@@ -2,14 +2,19 @@
 
 use crate::failure::Failure;
 use crate::filter::{Filter, Span};
+use crate::forecast::{Foretold, Most};
 use crate::history::{FrameHistory, History};
 use crate::looks::Watched;
-use crate::options::{help, Command, Form, Shift};
+use crate::options::{help, Command, Form, Plan, Shift};
 use crate::output::{create, put, to_standard, Out};
 use crate::record::Record;
-use crate::run::{each_message, name_of, open, tell, Answered, Outcome, Pass, Run};
+use crate::run::{
+    each_message, name_of, names_frame_outside, open, tell, Answered, Outcome, Pass, Run,
+};
+use crate::start::tables;
 use crate::summary::Summary;
 use crate::{diff, json, lines, view, words};
+use kernel::layout;
 use std::ffi::OsStr;
 use std::fs;
 use std::io::{BufRead, BufReader};
@@ -17,7 +22,8 @@ use std::io::{BufRead, BufReader};
 /// How a command ended that was carried out.
 pub enum Status {
     Done,
-    /// A message was refused, and the caller asked to fail on that; or two runs part.
+    /// A message was refused, and the caller asked to fail on that; or two runs part; or a file does not
+    /// fit.
     Otherwise,
 }
 
@@ -57,6 +63,7 @@ pub fn run(command: Command) -> Result<Status, Failure> {
         } => frame_at(&shift, frame, at),
         Command::View { shift, span, out } => picture(&shift, span, &out),
         Command::Diff { shift, other } => differ(&shift, &other),
+        Command::Forecast(plan) => forecast(&plan),
     }
 }
 
@@ -254,12 +261,14 @@ fn picture(shift: &Shift, span: Span, path: &OsStr) -> Result<Status, Failure> {
     if before > 0 {
         run.has_message("--from", span.from)?;
     }
+    let most = Most::of(&record.tables, &record.file);
     let mut out = create(path, &shift.file)?;
     let written = view::write(
         &mut out,
         &name_of(&shift.file),
         run.watched.frames(),
         &record,
+        &most,
     );
     written.map_err(|error| Failure::at(path.display(), error))?;
     end(&run)
@@ -295,6 +304,32 @@ fn differ(shift: &Shift, other: &OsStr) -> Result<Status, Failure> {
         lines.iter().try_for_each(|line| out.line(line))
     })?;
     Ok(match lines.is_empty() {
+        true => Status::Done,
+        false => Status::Otherwise,
+    })
+}
+
+fn forecast(plan: &Plan) -> Result<Status, Failure> {
+    let tables = tables(&plan.start)?;
+    let frames = (tables[layout::P], tables[layout::S]);
+    let (mut file, mut outside) = (Vec::new(), 0);
+    let mut outcome = each_message(&plan.file, Pass::whole(), |_, message| {
+        outside += u64::from(names_frame_outside(frames, message));
+        file.extend(message);
+        Ok(())
+    })?;
+    let foretold = Foretold::of(&tables, &file, plan.frames);
+    to_standard(|out| match plan.json {
+        true => out.line(foretold.json()),
+        false => {
+            let mut lines = foretold.lines().into_iter();
+            lines.try_for_each(|line| out.line(line))
+        }
+    })?;
+    outcome.note_size(&plan.start, outside);
+    outcome.tell_notes(&plan.file);
+    let is_refused = plan.strict && foretold.refused() > 0;
+    Ok(match foretold.fits() && !is_refused {
         true => Status::Done,
         false => Status::Otherwise,
     })

@@ -7,6 +7,7 @@ pub mod commands;
 mod diff;
 pub mod failure;
 pub mod filter;
+pub mod forecast;
 pub mod history;
 pub mod json;
 pub mod kinds;

@@ -25,6 +25,9 @@ reel: call files of the reel page kernel, seen through the kernel's own replies
   reel frame FILE FRAME --at K   what is on it after message K, and since when
   reel view FILE -o OUT.html     the whole file as a picture for a browser, with no network
   reel diff FILE OTHER           where the runs of two files part
+  reel forecast FILE             what the file comes to, from tables alone: the most frames held, and
+                                 after which message first; the bytes laid; how many messages get
+                                 each number
   reel --version                 the versions of reel and of its kernel
 
 show, page, frame, view and diff take
@@ -48,10 +51,16 @@ and prints, in the place of sentences, with
 ";
 
 const REST: &str = "
+forecast takes --fast and --slow, or --tables without stores, and
+  --frames N                     whether the file fits: exit status 1 if more than N frames are held
+  --strict                       exit status 1 if a message would be refused
+  --json                         one line of JSON, with every number
+
 Messages are numbered from 1. `-` stands for standard input or output.
 
-Exit status: 0 done; 1 with --strict, the file was read and a message was refused, or for diff the
-runs part; 2 bad usage, or a file that cannot be read or written.
+Exit status: 0 done; 1 with --strict, the file was read and a message was refused, or for forecast
+would be, or for diff the runs part, or for forecast the file does not fit; 2 bad usage, a file that
+cannot be read or written, or tables or stores that the kernel refuses.
 
 A line of words is one of these, with decimal numbers 0 to 255; BYTES are hexadecimal, two digits
 each. What follows a `#` is a comment. A call that the kernel's writer refuses, as one with a number
@@ -90,16 +99,16 @@ pub struct Files {
     pub stores: OsString,
 }
 
-/// What a shift starts from.
+/// What a shift starts from, or with the tables' file alone what a forecast does.
 #[derive(Debug, PartialEq, Eq)]
-pub enum Start {
+pub enum Start<Kept = Files> {
     Fresh {
         fast: u8,
         slow: u8,
         /// Whether a size was given.
         is_sized: bool,
     },
-    Kept(Files),
+    Kept(Kept),
 }
 
 /// A call file, what it starts from, and what is kept at its end.
@@ -109,6 +118,17 @@ pub struct Shift {
     pub start: Start,
     pub keep: Option<Files>,
     pub strict: bool,
+}
+
+/// A call file to be forecast.
+#[derive(Debug, PartialEq, Eq)]
+pub struct Plan {
+    pub file: OsString,
+    pub start: Start<OsString>,
+    /// So many frames may be held.
+    pub frames: Option<u8>,
+    pub strict: bool,
+    pub json: bool,
 }
 
 /// How `reel show` tells what it shows.
@@ -153,6 +173,7 @@ pub enum Command {
         shift: Shift,
         other: OsString,
     },
+    Forecast(Plan),
 }
 
 /// Standard input or output.
@@ -162,6 +183,7 @@ const DEFAULT_FRAMES: u8 = 4;
 
 /// Options that stand alone; a value follows each of the others.
 const FLAGS: [&str; 4] = ["--strict", "--refused", "--summary", "--json"];
+const SIZE: &[&str] = &["--fast", "--slow"];
 const START: &[&str] = &["--fast", "--slow", "--tables", "--stores"];
 const SHIFT: &[&str] = &["--strict", "--keep-tables", "--keep-stores"];
 const FILTER: &[&str] = &["--page", "--station", "--frame", "--refused"];
@@ -192,6 +214,10 @@ pub fn parse(words: impl IntoIterator<Item = OsString>) -> Result<Command, Failu
         Some("frame") => frame(given(&[START, SHIFT, &["--at"]])?),
         Some("view") => view(given(&[START, SHIFT, SPAN, &["-o"]])?),
         Some("diff") => diff(given(&[START])?),
+        Some("forecast") => forecast(given(&[
+            SIZE,
+            &["--tables", "--frames", "--strict", "--json"],
+        ])?),
         _ => Err(unknown("command", name)),
     }
 }
@@ -273,6 +299,17 @@ fn diff(given: Given) -> Result<Command, Failure> {
     Ok(Command::Diff { shift, other })
 }
 
+fn forecast(given: Given) -> Result<Command, Failure> {
+    let [file] = given.operands("forecast takes FILE")?;
+    Ok(Command::Forecast(Plan {
+        file,
+        start: given.start(given.path("--tables"))?,
+        frames: given.number("--frames", MOST_FRAMES_OF_BOTH)?,
+        strict: given.has("--strict"),
+        json: given.has("--json"),
+    }))
+}
+
 /// The words after a command's name.
 #[derive(Default)]
 struct Given {
@@ -350,28 +387,30 @@ impl Given {
         }
     }
 
-    fn shift(self, file: OsString) -> Result<Shift, Failure> {
+    /// What was kept, or else fresh tables.
+    fn start<Kept>(&self, kept: Option<Kept>) -> Result<Start<Kept>, Failure> {
         let (fast, slow) = (
             self.number("--fast", MOST_FRAMES)?,
             self.number("--slow", MOST_FRAMES)?,
         );
         let is_sized = fast.is_some() || slow.is_some();
-        let start = match self.files("--tables", "--stores")? {
-            Some(_) if is_sized => {
-                return Err(Failure::line(
-                    "--tables has the size: no --fast and no --slow beside it",
-                ));
-            }
-            Some(files) => Start::Kept(files),
-            None => Start::Fresh {
+        match kept {
+            Some(_) if is_sized => Err(Failure::line(
+                "--tables has the size: no --fast and no --slow beside it",
+            )),
+            Some(kept) => Ok(Start::Kept(kept)),
+            None => Ok(Start::Fresh {
                 fast: fast.unwrap_or(DEFAULT_FRAMES),
                 slow: slow.unwrap_or(DEFAULT_FRAMES),
                 is_sized,
-            },
-        };
+            }),
+        }
+    }
+
+    fn shift(self, file: OsString) -> Result<Shift, Failure> {
         Ok(Shift {
             file,
-            start,
+            start: self.start(self.files("--tables", "--stores")?)?,
             keep: self.files("--keep-tables", "--keep-stores")?,
             strict: self.has("--strict"),
         })
@@ -392,7 +431,7 @@ where
 
 #[cfg(test)]
 mod tests {
-    use super::{parse, Command, Files, Form, Shift, Start};
+    use super::{parse, Command, Files, Form, Plan, Shift, Start};
     use crate::failure::Failure;
     use crate::filter::{Filter, Span};
 
@@ -456,6 +495,19 @@ mod tests {
     }
 
     #[test]
+    fn a_forecast_from_tables_alone() {
+        let due = Plan {
+            file: "calls".into(),
+            start: Start::Kept("t".into()),
+            frames: Some(254),
+            strict: true,
+            json: false,
+        };
+        let line = "forecast calls --tables t --frames 254 --strict";
+        assert_eq!(parsed(line).unwrap(), Command::Forecast(due));
+    }
+
+    #[test]
     fn bad_usage() {
         for line in [
             "",
@@ -484,6 +536,12 @@ mod tests {
             "diff calls",
             "diff - -",
             "diff a b --strict",
+            "forecast",
+            "forecast a b",
+            "forecast calls --frames 255",
+            "forecast calls --tables t --stores s",
+            "forecast calls --tables t --slow 4",
+            "forecast calls --keep-tables t",
             "write a b",
             "words calls -o x",
         ] {

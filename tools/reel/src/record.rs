@@ -7,6 +7,8 @@ use std::io::{self, Write};
 
 #[derive(Default)]
 pub struct Record {
+    /// The tables before the first of these messages, as the kernel has their bytes.
+    pub tables: Vec<u8>,
     /// The messages as they stand in the call file.
     pub file: Vec<u8>,
     /// For each message the number; if that is 0 also the bytes laid and the length of the data,
@@ -29,6 +31,7 @@ impl Record {
     /// Pages and frames as they are before the first message that is recorded.
     pub fn start(&mut self, before: u64, watched: &Watched) {
         self.before = before;
+        self.tables.clone_from(&watched.unit().tables);
         for page in 0..PAGES as u8 {
             if !watched.copies(page).is_empty() {
                 self.change(page, watched.copies(page));

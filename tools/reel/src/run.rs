@@ -58,6 +58,24 @@ impl Outcome {
         }
     }
 
+    /// Notes that so many messages, each of which is refused, name frames beyond tables whose size was not given.
+    pub fn note_size<Kept>(&mut self, start: &Start<Kept>, outside: u64) {
+        let Start::Fresh {
+            fast,
+            slow,
+            is_sized: false,
+        } = start
+        else {
+            return;
+        };
+        if outside > 0 {
+            let messages = counted(outside, "message names", "messages name");
+            self.notes.push(format!(
+                "{messages} frames beyond {fast} fast and {slow} slow ones; --fast and --slow set the size"
+            ));
+        }
+    }
+
     /// Tells the notes about this file.
     pub fn tell_notes(&self, path: &OsStr) {
         tell(path, &self.notes);
@@ -199,7 +217,7 @@ impl<'a> Run<'a> {
             let reply = &watched.feed(message);
             if reply.number != 0 {
                 *refused += 1;
-                outside += u64::from(names_frame_outside(watched, message));
+                outside += u64::from(names_frame_outside(watched.frames(), message));
             }
             let watched = &*watched;
             visit(Answered {
@@ -209,26 +227,8 @@ impl<'a> Run<'a> {
                 watched,
             })
         })?;
-        self.note_size(outside);
+        self.outcome.note_size(&self.shift.start, outside);
         Ok(())
-    }
-
-    /// Notes that so many refused messages name frames beyond tables whose size was not given.
-    fn note_size(&mut self, outside: u64) {
-        let Start::Fresh {
-            fast,
-            slow,
-            is_sized: false,
-        } = self.shift.start
-        else {
-            return;
-        };
-        if outside > 0 {
-            let messages = counted(outside, "message names", "messages name");
-            self.outcome.notes.push(format!(
-                "{messages} frames beyond {fast} fast and {slow} slow ones; --fast and --slow set the size"
-            ));
-        }
     }
 
     /// An error if the file has no message of this number, which an option named.
@@ -262,8 +262,8 @@ impl<'a> Run<'a> {
     }
 }
 
-fn names_frame_outside(watched: &Watched, message: &[u8]) -> bool {
+/// Whether a message names a frame beyond so many fast and slow ones.
+pub fn names_frame_outside((fast, slow): (u8, u8), message: &[u8]) -> bool {
     let frame = Call::parse(message).and_then(|call| call.argument(Argument::Frame));
-    let (fast, slow) = watched.frames();
     frame.is_some_and(|frame| u16::from(frame) >= u16::from(fast) + u16::from(slow))
 }

@@ -5,8 +5,8 @@ use crate::options::{Files, Shift, Start};
 use crate::output::{is_same_file, put_whole};
 use crate::run::{name_of, open};
 use crate::{rules, words};
-use kernel::{layout, Unit, FRAME, TABLES};
-use std::ffi::OsStr;
+use kernel::{layout, Forecast, Unit, FRAME, TABLES};
+use std::ffi::{OsStr, OsString};
 use std::io::Read;
 
 /// The kernel's refusal of tables that break a rule, and of stores that do not fit them.
@@ -18,14 +18,32 @@ const MOST_STORES: usize = 2 * FRAME * kernel::MOST_FRAMES as usize;
 /// The unit that a shift starts from.
 pub fn unit(start: &Start) -> Result<Unit, Failure> {
     match start {
-        Start::Fresh { fast, slow, .. } => Unit::fresh(*fast, *slow).map_err(|number| {
-            let refused = refused(number);
-            Failure::line(format!(
-                "tables of {fast} fast and {slow} slow frames: {refused}"
-            ))
-        }),
+        Start::Fresh { fast, slow, .. } => fresh(*fast, *slow),
         Start::Kept(files) => kept(files),
     }
+}
+
+/// The tables that a forecast starts from.
+pub fn tables(start: &Start<OsString>) -> Result<Vec<u8>, Failure> {
+    match start {
+        Start::Fresh { fast, slow, .. } => fresh(*fast, *slow).map(|unit| unit.tables),
+        Start::Kept(path) => {
+            let tables = bytes_of(path, TABLES)?;
+            match Forecast::of(&tables, &[]) {
+                Ok(_) => Ok(tables),
+                Err(number) => Err(broken(number, path, &tables)),
+            }
+        }
+    }
+}
+
+fn fresh(fast: u8, slow: u8) -> Result<Unit, Failure> {
+    Unit::fresh(fast, slow).map_err(|number| {
+        let refused = refused(number);
+        Failure::line(format!(
+            "tables of {fast} fast and {slow} slow frames: {refused}"
+        ))
+    })
 }
 
 fn refused(number: u8) -> String {
@@ -40,12 +58,7 @@ fn kept(files: &Files) -> Result<Unit, Failure> {
     let length = stores.len();
     let (fast, slow) = stores.split_at(fast_size.min(length));
     Unit::kept(tables.clone(), fast.to_vec(), slow.to_vec()).map_err(|number| match number {
-        BROKEN_TABLES => {
-            let rule = rules::broken(&tables);
-            let rule = rule.unwrap_or("a table rule fails that reel does not know".into());
-            let name = name_of(&files.tables);
-            Failure::line(format!("{name}: {}: {rule}", refused(number)))
-        }
+        BROKEN_TABLES => broken(number, &files.tables, &tables),
         MISFIT_STORE => {
             let (name, due) = (name_of(&files.stores), fast_size + slow_size);
             let frames = format!(
@@ -60,6 +73,14 @@ fn kept(files: &Files) -> Result<Unit, Failure> {
         }
         _ => Failure::line(refused(number)),
     })
+}
+
+/// The refusal of broken tables, with the rule that they break.
+fn broken(number: u8, path: &OsStr, tables: &[u8]) -> Failure {
+    let rule = rules::broken(tables);
+    let rule = rule.unwrap_or("a table rule fails that reel does not know".into());
+    let name = name_of(path);
+    Failure::line(format!("{name}: {}: {rule}", refused(number)))
 }
 
 /// The bytes of a file, and no more of them than tell that it is too long.

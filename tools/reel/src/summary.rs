@@ -71,6 +71,28 @@ impl Left {
     }
 }
 
+/// Numbers with how often they were given, a line each below a head; no line where there are none.
+pub fn number_lines(given: impl Iterator<Item = (u8, u64)>) -> Vec<String> {
+    let mut lines: Vec<String> = given
+        .map(|(number, count)| format!("{count:10}  {number} {}", word(number)))
+        .collect();
+    if !lines.is_empty() {
+        lines.insert(0, "     times  number".into());
+    }
+    lines
+}
+
+/// The same as a list in JSON.
+pub fn numbers_json(given: impl Iterator<Item = (u8, u64)>) -> String {
+    list(given.map(|(number, count)| {
+        let object = Object::default().with("number", number);
+        object
+            .with_text("word", word(number))
+            .with("count", count)
+            .end()
+    }))
+}
+
 impl Summary {
     pub fn count(&mut self, answered: &Answered) {
         let (reply, call) = (answered.reply, Call::parse(answered.message));
@@ -110,12 +132,7 @@ impl Summary {
         for (word, accepted, refused) in self.kinds() {
             lines.push(format!("{accepted:10}{refused:10}  {word}"));
         }
-        if self.messages > 0 {
-            lines.push("     times  number".into());
-        }
-        for (number, count) in self.numbers() {
-            lines.push(format!("{count:10}  {number} {}", word(number)));
-        }
+        lines.extend(number_lines(self.numbers()));
         lines.push(Left::by(watched).line());
         lines
     }
@@ -127,18 +144,11 @@ impl Summary {
                 .with("refused", refused)
                 .end()
         });
-        let numbers = self.numbers().map(|(number, count)| {
-            let object = Object::default().with("number", number);
-            object
-                .with_text("word", word(number))
-                .with("count", count)
-                .end()
-        });
         let object = Object::default().with("messages", self.messages);
         let object = object.with("refused", self.refused).with("laid", self.laid);
         let object = object
             .with("kinds", list(kinds))
-            .with("numbers", list(numbers));
+            .with("numbers", numbers_json(self.numbers()));
         object.with("end", Left::by(watched).json()).end()
     }
 }

@@ -1,5 +1,6 @@
 //! The page of `reel view`: one HTML file with its data, style and script inside.
 
+use crate::forecast::Most;
 use crate::json::{list, string, Object};
 use crate::kinds::{Kind, Tells, KINDS};
 use crate::record::{write_base64, Record};
@@ -23,9 +24,16 @@ const SCRIPTS: [&str; 9] = [
 /// A page has room for so many messages: more than any screen can show, and few enough for a browser.
 pub const MOST_MESSAGES: u64 = 1_000_000;
 
-/// Writes the page for a file of this name, run on so many fast and slow frames.
-pub fn write(out: &mut dyn Write, name: &str, frames: (u8, u8), record: &Record) -> io::Result<()> {
-    let (facts, scripts) = (facts(name, frames, record), SCRIPTS.concat());
+/// Writes the page for a file of this name, run on so many fast and slow frames; the most of them that
+/// are held are marked.
+pub fn write(
+    out: &mut dyn Write,
+    name: &str,
+    frames: (u8, u8),
+    record: &Record,
+    most: &Most,
+) -> io::Result<()> {
+    let (facts, scripts) = (facts(name, frames, record, most), SCRIPTS.concat());
     let title = escaped(name);
     let parts = [
         ("{{title}}", Part::Text(&title)),
@@ -66,12 +74,15 @@ fn escaped(text: &str) -> String {
 }
 
 /// What the script has to know beside the packed bytes, as JSON.
-fn facts(name: &str, (fast, slow): (u8, u8), record: &Record) -> String {
+fn facts(name: &str, (fast, slow): (u8, u8), record: &Record, most: &Most) -> String {
     let object = Object::default().with_text("name", name);
     let object = object.with("fast", fast).with("slow", slow);
     let object = object
         .with("before", record.before)
         .with("messages", record.messages);
+    let object = object
+        .with("most", most.frames)
+        .with("mostAt", most.first.number);
     let object = object.with("kinds", list(KINDS.iter().map(kind)));
     object
         .with("words", list(WORDS.iter().map(|word| string(word))))
@@ -101,13 +112,18 @@ fn kind(kind: &Kind) -> String {
 
 #[cfg(test)]
 mod tests {
-    use super::{write, Record};
+    use super::{write, Most, Record};
+    use crate::history::Turn;
 
     #[test]
     fn a_name_that_looks_like_markup() {
         let name = "</script><b>\"\\{{file}}";
         let mut page = Vec::new();
-        write(&mut page, name, (4, 4), &Record::default()).unwrap();
+        let most = Most {
+            frames: 0,
+            first: Turn::start(),
+        };
+        write(&mut page, name, (4, 4), &Record::default(), &most).unwrap();
         let page = String::from_utf8(page).unwrap();
         assert!(!page.contains("</script><b>"));
         assert!(page.contains("\"name\":\"\\u003C/script>\\u003Cb>\\u0022\\u005C{{file}}\""));

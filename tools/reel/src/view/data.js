@@ -64,7 +64,7 @@ function lastUpTo(list, limit) {
 }
 
 // Messages have the numbers 1 to `messages` here; arrays by message have a place for 0, the start. In the file `before`
-// messages come first.
+// messages come first. `most` frames are held at the most, first after message `mostAt`, as the kernel forecasts it.
 class Shift {
   constructor() {
     Object.assign(this, JSON.parse(element('facts').textContent));

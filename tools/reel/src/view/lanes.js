@@ -132,7 +132,24 @@ function drawHeld(picture, context) {
   context.globalAlpha = 1;
   drawFloor(picture, context, floor);
   drawFloor(picture, context, top);
+  drawMost(picture, context);
   drawLaneName(picture, context, LANES.held, 'held of', `${shift.frames}`);
+}
+
+// A line at the message after which the most frames are held first, or at the left edge where that is the start.
+function drawMost(picture, context) {
+  const { shift, palette } = picture;
+  const [top, height] = LANES.held;
+  const x = shift.mostAt > 0 ? picture.x(shift.mostAt) + picture.cell() / 2 : picture.x(1);
+  if (x < GUTTER || x > GUTTER + picture.width) return;
+  context.strokeStyle = palette.accent;
+  context.lineWidth = 2;
+  context.beginPath();
+  context.moveTo(x, top);
+  context.lineTo(x, top + height);
+  context.stroke();
+  const [beside, align] = x < GUTTER + picture.width / 2 ? [x + 5, 'left'] : [x - 5, 'right'];
+  picture.text(context, `most: ${shift.most}`, beside, top + 8, palette.accent, align);
 }
 
 // Bytes laid as a line, refusals dashed, each from its value at the left to that at the right.

@@ -8,6 +8,7 @@ class View {
     this.writeHead();
     this.picture = new Picture(shift, this.choice);
     this.panel = new Panel(this.picture, { goTo: turn => this.goTo(turn), visit: turn => this.visit(turn) });
+    this.panel.drawMost();
     this.isDue = false;
     this.readAddress();
     this.choose({});

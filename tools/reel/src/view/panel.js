@@ -80,7 +80,9 @@ class Panel {
     const laid = counted(shift.laid[turn], 'byte', 'bytes');
     const pages = shift.frameless(turn);
     const frameless = pages.length > 0 ? ` Without a frame: page ${pages.join(', ')}.` : '';
-    return `So far ${grouped(shift.refused[turn])} refused, ${laid} laid; ${fast}, ${slow} frames held.${frameless}`;
+    const most = turn === shift.mostAt ? ', the most, for the first time' : '';
+    const held = `${fast}, ${slow} frames held${most}`;
+    return `So far ${grouped(shift.refused[turn])} refused, ${laid} laid; ${held}.${frameless}`;
   }
 
   holding({ page, mark, since }, isFrame) {
@@ -140,6 +142,14 @@ class Panel {
     return button;
   }
 
+  // The most frames held, and the way to the message after which they are first.
+  drawMost() {
+    const { shift } = this;
+    const start = shift.before > 0 ? `before message ${shift.named(1)}` : 'at the start';
+    const where = shift.mostAt > 0 ? ['first after message ', this.jump(shift.mostAt)] : [start];
+    element('most').replaceChildren(`Most frames held: ${shift.most} of ${shift.frames}, `, ...where, '.');
+  }
+
   // ---- Legend
 
   drawLegend() {
@@ -167,7 +177,7 @@ class Panel {
       'Below the frames stand the pages that have no frame.',
       'A column shows the state after its message; zoomed out, after the last of its messages.',
       'Close up, an arrow is a copy being made, and \u271516 a message refused with number 16.',
-      'Of the frames held, fast ones are full, slow ones hatched.',
+      'Of the frames held, fast ones are full, slow ones hatched; a line marks the first message with the most.',
     ];
     element('legend').replaceChildren(...items, ...notes.map(text => made('li', text)));
   }

@@ -9,8 +9,8 @@ use lib.ListN.{length, length-map, drop}
 use borrow.Author.Tests.{not-true, not-false, eq-eqb, le-leb, lt-leb}
 use borrow.Author.Needs.{needs}
 use Rattle.tables.specs.Model.{zeroPage}
-use Rattle.tables.specs.Rules.{holders, noneShared, sizesRule, pagesRule, sound}
-use Rattle.tables.specs.PrivatePass.{scanPages, frameTotals}
+use Rattle.tables.specs.Rules.{holders, noneShared, sizesRule, pagesRule, sound, frameTotals}
+use Rattle.tables.specs.PrivatePass.{scanPages}
 use Rattle.tables.proofs.Loops.{drop-more, drop-end}
 use Rattle.tables.proofs.ScanLaws.{scan-rules}
 use Rattle.tables.proofs.Tables.sound.Statement.{statement}
@@ -80,6 +80,9 @@ returns-3 c =
 frame-total-requires : tie.Need-frame-total-requires Inv-loop μ-loop
 frame-total-requires c κs = search needs
 
+cast-held : tie.Need-cast-held Inv-loop μ-loop
+cast-held c = search needs
+
 add-held : tie.Need-add-held Inv-loop μ-loop
 add-held c = search needs
 
@@ -103,7 +106,7 @@ loop-again c =
       v .inv .2,
       omega arith,
       v .inv .4 ∙ rw (m, e),
-      v .inv .5 ∙ rw (m, c .frame-total .ensures .0) (sym (add-assoc _ _ _)),
+      v .inv .5 ∙ rw (m, c .frame-total .ensures) (sym (add-assoc _ _ _)),
     )
 
 others-ok-requires : tie.Need-others-ok-requires Inv-loop μ-loop
@@ -141,6 +144,7 @@ sound-spec =
     page-ok-requires
     returns-3
     frame-total-requires
+    cast-held
     add-held
     add-i
     loop-less
