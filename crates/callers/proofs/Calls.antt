@@ -9,9 +9,6 @@ use lib.ListN.{length, take}
 use lib.Seq.{take-at}
 use lib.Dec.{ltb}
 use borrow.Author.Tests.{ltb-true, ltb-false, lt-ltb}
-use Rattle.tables.specs.Lists.{all}
-use Rattle.tables.specs.Numbers.{accepted, messageNumbers}
-use Rattle.tables.proofs.ListLaws.{all-listed}
 use Rattle.steps.specs.Stores.{over}
 use Rattle.steps.specs.Steps.{Outcome, numberOf}
 use Rattle.steps.specs.Effects.{State, Result, left, laidBy}
@@ -22,7 +19,7 @@ use Rattle.messages.specs.Run.{stateAfter, partFrom}
 use Rattle.messages.specs.Promises.{sentAlone}
 use Rattle.messages.proofs.TurnLaws.{reply-short}
 use Rattle.messages.proofs.JoinLaws.{same-turns, short-joined, end-is}
-use Rattle.theorems.proofs.Refusals.{answer-allowed}
+use Rattle.theorems.proofs.Refusals.{number-low}
 use Rattle.embed.specs.Bytes.{tablesBytes}
 use Rattle.embed.specs.Exports.{packed, Kept, stateIn}
 use Rattle.callers.specs.Calls.{RepliesCall, Called, answered, replied, ran, Meets, outLent, outLeft, room}
@@ -37,17 +34,11 @@ use Rattle.callers.proofs.Kept.{Sane, same-kept, leaves, put-kept, left
 module _ (size : ℕ) (s : State) (x : Sent) (r : ℕ)
     (e : r ≡ packed (numberOf (answer size s x)) (length (replyIn size (answer size s x)))
     (laidBy (answer size s x))) where
-  number-low : numberOf (answer size s x) < 256
-  unfolding all
-  number-low =
-      let n : ℕ = numberOf (answer size s x) in
-      ltb-true n 256 (all-listed (λ (m : ℕ). ltb m 256) (accepted ∷ messageNumbers) n refl (answer-allowed size s x))
-
   pub told-number : r % 256 ≡ numberOf (answer size s x)
-  told-number = omega (arith, e, number-low)
+  told-number = omega (arith, e, number-low size s x)
 
   pub told-length : r / 256 % 256 ≡ length (replyIn size (answer size s x))
-  told-length = omega (arith, e, number-low, reply-short size s x)
+  told-length = omega (arith, e, number-low size s x, reply-short size s x)
 
 -- the turns of a call of `reel_replies` are those of the part of a run that it promises
 pub part-turns : (k : Kept) (c : RepliesCall) → Meets k (replied c)

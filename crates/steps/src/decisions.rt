@@ -320,8 +320,8 @@ pub fn rules(tables: Tables, fast_len: usize, slow_len: usize) -> u8
 }
 
 // 5 for tables that break a rule; else 0, and how many frames are held. The test is `rules` with stores that fit: with
-// a second call of `sound` in the library the compiler no longer puts it into `rules`, and each answer copies the tables
-// once more.
+// a second call of `sound` in the library the compiler no longer puts it into `rules`, and each answer copies the
+// tables once more.
 pub fn held_in(tables: Tables) -> Held
     ensures { λ r. ⌜ r ≡ heldIn tables ⌝ }
 {

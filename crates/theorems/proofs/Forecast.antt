@@ -12,10 +12,10 @@ use native.Mathlib.Omega.{arith}
 use lib.ListN.{length, getD, drop, replicate, length-set, length-replicate}
 use lib.Seq.{getD-set-same, getD-set-other}
 use lib.Dec.{ltb, eqb}
-use borrow.Author.Tests.{le-ltb, ltb-true, eq-eqb, ne-eqb}
+use borrow.Author.Tests.{le-ltb, eq-eqb, ne-eqb}
 use Rattle.tables.specs.declared.Tables.{Tables}
 use Rattle.tables.specs.Lists.{all, count, sum, maximum, listed}
-use Rattle.tables.specs.Numbers.{accepted, brokenTables, misfitStore, shortBuffer, tooManyFrames, messageNumbers, allNumbers}
+use Rattle.tables.specs.Numbers.{accepted, brokenTables, misfitStore, shortBuffer, tooManyFrames, allNumbers}
 use Rattle.tables.specs.Model.{made}
 use Rattle.tables.specs.Rules.{framesHeld, sound}
 use Rattle.tables.proofs.ListLaws.{all-listed}
@@ -41,13 +41,16 @@ use Rattle.theorems.specs.Demand3.{replyNumber}
 use Rattle.theorems.specs.Hidden.{messageCovered, SameBut}
 use Rattle.theorems.specs.Forecast.{laidInAll, howManyGet, tallyForecast, FiguresOf, Foretold}
 use Rattle.theorems.proofs.Frames.{by-message}
-use Rattle.theorems.proofs.Refusals.{answer-allowed}
+use Rattle.theorems.proofs.Refusals.{number-low}
 use Rattle.theorems.proofs.Hidden.{same-asked, same-carried, made-sound}
 
 -- ---- one message, on sound tables with fitting stores
 
 abbrev had : State → Outcome Result → Foreseen
 had s o = came (numberOf o) (laidBy o) (left s o .tables)
+
+left-good : (room : ℕ) (s : State) → Good s → (x : Sent) → Good (leftBy room s x)
+left-good room s i x = by-message s Good i (λ c bs. step-good s c bs i) room x
 
 module _ (room : ℕ) (roomy : 70 ≤ room) where
   message-had : (s : State) → Good s → (x : Sent) → had s (answer room s x) ≡ foreseen (s .tables) x
@@ -66,18 +69,7 @@ module _ (room : ℕ) (roomy : 70 ≤ room) where
           (decide-ruled (s .tables) _ _ c (length bs) (good-rules i))
           ∙ decided c bs (decide (s .tables) c (length bs))
 
-  left-good : (s : State) → Good s → (x : Sent) → Good (leftBy room s x)
-  left-good s i x = by-message s Good i (λ c bs. step-good s c bs i) room x
-
-  -- its number is below 32
-  number-low : (s : State) (x : Sent) → numberOf (answer room s x) < numbersCounted
-  unfolding all
-  number-low s x =
-      ltb-true (numberOf (answer room s x)) numbersCounted
-      (all-listed (λ (n : ℕ). ltb n numbersCounted) (accepted ∷ messageNumbers) (numberOf (answer room s x)) refl
-      (answer-allowed room s x))
-
-  -- and its reply carries that
+  -- its reply carries its number
   carried : (o : Outcome Result) (n : ℕ) → eqb (replyNumber (replyIn room o)) n ≡ eqb (numberOf o) n
   unfolding reply
   carried o n = rw (le-ltb room 70 roomy) (by o)
@@ -161,7 +153,7 @@ module _ (room : ℕ) (roomy : 70 ≤ room) where
         laid = a .laid ∙ more-then (f .laid) _ _;
         counts = λ n h. a .counts n h
             ∙ ap (λ (k : ℕ). upTo k (howManyGet room ts n))
-            (counted-at (f .counts) k n (rw (w .long) (number-low room roomy s x)))
+            (counted-at (f .counts) k n (rw (w .long) (number-low room s x)))
             ∙ by n (eqb k n)
             ∙ ap (λ (b : Bool). upTo (getD (f .counts) n 0) (cond b 1 0 + howManyGet room ts n))
             (sym (carried room roomy o n));
@@ -201,15 +193,15 @@ module _ (room : ℕ) (roomy : 70 ≤ room) where
       (λ (m′ : Foreseen). Adds room (withMessage f m) (turnsOf room (leftBy room s x) xs)
       (forecastOf (withMessage f m′) (m′ .tables) xs))
       (message-had room roomy s i x)
-      (adds xs (leftBy room s x) (left-good room roomy s i x) (withMessage f m)
-      (with-within f m w (number-low room roomy s x))))
+      (adds xs (leftBy room s x) (left-good room s i x) (withMessage f m)
+      (with-within f m w (number-low room s x))))
 
   -- no message gets another number
   none-other : (xs : List Sent) (s : State) (n : ℕ) → numbersCounted ≤ n → howManyGet room (turnsOf room s xs) n ≡ 0
   unfolding turnsOf count
   none-other [] s n h = refl
   none-other (x ∷ xs) s n h =
-      let low = number-low room roomy s x in
+      let low = number-low room s x in
       rw (carried room roomy (answer room s x) n, ne-eqb (numberOf (answer room s x)) n (λ e. omega arith))
       (let k = none-other xs (leftBy room s x) n h in omega arith)
 
@@ -240,7 +232,7 @@ module _ (room : ℕ) (roomy : 70 ≤ room) where
       counted (tallyForecast f) (isRefusal o) (laidBy o) ≡ tallyForecast (withMessage f (had s o))
   tallied-one s x f w =
       let o = answer room s x in
-      let low : numberOf o < length (f .counts) = rw (w .long) (number-low room roomy s x) in
+      let low : numberOf o < length (f .counts) = rw (w .long) (number-low room s x) in
       same-tally (sum-counted (f .counts) (numberOf o) low (w .count-low (numberOf o)))
       (ap (λ (b : Bool). upTo (stopped (sum (drop 1 (f .counts)))) (cond b 1 0)) (answer-told room s x)
       ∙ refusals-counted (f .counts) (numberOf o) low (w .count-low (numberOf o)))
@@ -253,8 +245,8 @@ module _ (room : ℕ) (roomy : 70 ≤ room) where
   tally-told (x ∷ xs) s i f w =
       let m = had s (answer room s x) in
       ap (tally (turnsOf room (leftBy room s x) xs)) (tallied-one s x f w)
-      ∙ tally-told xs (leftBy room s x) (left-good room roomy s i x) (withMessage f m)
-      (with-within f m w (number-low room roomy s x))
+      ∙ tally-told xs (leftBy room s x) (left-good room s i x) (withMessage f m)
+      (with-within f m w (number-low room s x))
       ∙ ap (λ (m′ : Foreseen). tallyForecast (forecastOf (withMessage f m′) (m′ .tables) xs))
       (message-had room roomy s i x)
 

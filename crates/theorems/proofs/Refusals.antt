@@ -8,9 +8,9 @@ use mathlib.Core.Logic.{_≢_}
 use native.Mathlib.Omega.{arith}
 use lib.ListN.{length}
 use lib.Dec.{ltb, eqb}
-use borrow.Author.Tests.{lt-ltb, ne-eqb}
+use borrow.Author.Tests.{ltb-true, lt-ltb, ne-eqb}
 use Rattle.tables.specs.Lists.{all, count}
-use Rattle.tables.specs.Numbers.{accepted, shortBuffer}
+use Rattle.tables.specs.Numbers.{accepted, shortBuffer, messageNumbers}
 use Rattle.tables.proofs.ListLaws.{all-listed}
 use Rattle.steps.specs.Stores.{over}
 use Rattle.steps.specs.Steps.{Outcome, refuse, accept, test, numberOf}
@@ -22,6 +22,7 @@ use Rattle.messages.specs.declared.Tally.{Tally}
 use Rattle.messages.specs.Promises.{sentAlone}
 use Rattle.messages.specs.Replies.{reply, replyIn, upTo, counted, isRefusal}
 use Rattle.messages.specs.Run.{Sent, asked, bytesOf, respond, answer, turnOf, leftBy, messagesOf, turnsOf, endOf, replies, tally}
+use Rattle.messages.specs.Forecast.{numbersCounted}
 use Rattle.messages.proofs.TurnLaws.{answer-told}
 use Rattle.messages.proofs.ParseLaws.{ownNumbers, Known, bad, good, asked-known}
 use Rattle.theorems.specs.Demand1.{allowed, refusalIn, refusedOnce, OneMessage, TurnObeys, next, TurnsObey}
@@ -42,6 +43,14 @@ module _ (room : ℕ) (s : State) (x : Sent) where
       behind : (b : Bool) (o : Outcome Result) → allowed (numberOf o) ≡ true → allowed (numberOf (test b shortBuffer o)) ≡ true
       behind true o h = refl
       behind false o h = h
+
+  -- so it is below 32, and a forecast has a count for it
+  pub number-low : numberOf (answer room s x) < numbersCounted
+  unfolding all
+  number-low =
+      ltb-true (numberOf (answer room s x)) numbersCounted
+      (all-listed (λ (n : ℕ). ltb n numbersCounted) (accepted ∷ messageNumbers) (numberOf (answer room s x)) refl
+      answer-allowed)
 
   answer-short : room < 70 → numberOf (answer room s x) ≡ shortBuffer
   unfolding answer
