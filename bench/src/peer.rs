@@ -302,7 +302,7 @@ fn station_step<const REGISTER: bool, const LAYS: bool>(
         }
         4 => {
             let (o, count) = (usize::from(m[4]), usize::from(m[5]));
-            test(o <= 63 && count != 0 && o + count <= 64, 22)?;
+            test(o <= 63 && count != 0 && o + count <= 64, 7)?;
             test(g.n != 0, 9)?;
             test(g.rights[s] >= 1, 10)?;
             let f = g.used().iter().find(|c| c.current).ok_or(11)?.frame;
@@ -313,7 +313,7 @@ fn station_step<const REGISTER: bool, const LAYS: bool>(
         }
         _ => {
             let (o, bytes) = (usize::from(m[4]), &m[5..]);
-            test(o <= 63 && o + bytes.len() <= 64, 22)?;
+            test(o <= 63 && o + bytes.len() <= 64, 7)?;
             test(g.n != 0, 9)?;
             test(g.rights[s] >= 2, 10)?;
             let used = &mut g.copies[..usize::from(g.n)];
@@ -344,7 +344,7 @@ fn placement_step<const REGISTER: bool, const LAYS: bool>(
     let kind = m[1];
     if kind == 11 {
         let f = m[2];
-        test(f < limit, 21)?;
+        test(f < limit, 7)?;
         let shown = match t.holder(f) {
             Some((page, copy)) => [1, page, copy],
             None if t.is_retired(f) => [2, 255, 255],
@@ -357,7 +357,7 @@ fn placement_step<const REGISTER: bool, const LAYS: bool>(
     }
     if kind == 12 {
         let f = m[2];
-        test(f < limit, 21)?;
+        test(f < limit, 7)?;
         test(t.holder(f).is_none(), 13)?;
         t.retired[usize::from(f)] = true;
         return Ok((0, 0));
@@ -378,7 +378,7 @@ fn placement_step<const REGISTER: bool, const LAYS: bool>(
     let number = m[3];
     if kind == 6 {
         let f = m[4];
-        test(f < limit, 21)?;
+        test(f < limit, 7)?;
         let g = &t.pages[page];
         test(g.n != 0, 9)?;
         test(number < g.n, 12)?;

@@ -35,7 +35,7 @@ use Rattle.steps.specs.Kinds.{station, page, names, kind_number, kinds, is_read,
 use Rattle.steps.specs.Steps.{Outcome, refuse, accept, guarded, mapped, Plan, plan_of, no_work, showing, may, copy_at, currents, first_current, perform, decide_on, page_for, view_of, decide, number_of}
 use Rattle.steps.specs.Effects.{State, Result, carried_out, step, left}
 use Rattle.steps.proofs.KindLaws.{kind_is}
-use Rattle.steps.proofs.RangeLaws.{outside-listed}
+use Rattle.steps.proofs.RangeLaws.{outside_listed}
 use Rattle.steps.proofs.StepLaws.{Good, page_stands_lem, good_rules, decide_ruled}
 use Rattle.messages.specs.declared.Parsed.{Parsed}
 use Rattle.messages.specs.declared.Parsed.TheVariants.{Refused, Asked}
@@ -144,7 +144,7 @@ read_number : (v : View) (c : Call) (size : ℕ) → c.kind ≡ Read → absent 
     → listed (number_of (decide_on v c size)) fine ≡ true
 unfolding decide_on perform
 read_number v c size is some cur =
-    outside-listed v.frames size c (λ (n : ℕ). listed (number_of (guarded n (perform v c size c.kind))) fine
+    outside_listed v.frames size c (λ (n : ℕ). listed (number_of (guarded n (perform v c size c.kind))) fine
     ≡ true)
     (rw (is, some, cur) (by (may v.page c.station Act.Read))) refl
   where

@@ -29,7 +29,7 @@ version_number major minor patch = 65536 * major + 256 * minor + patch
 
 -- 5.1.0
 abbrev pub version : ℕ
-version = version_number 6 0 0
+version = version_number 5 1 0
 
 -- ---- tables
 

@@ -1,5 +1,7 @@
 // The kernel for programs in C or Rust. The tables are lent as bytes, so a caller needs no type of
 // ours.
+#![tactic(auto)]
+
 mod image;
 mod lent;
 
@@ -23,9 +25,9 @@ use steps::{BROKEN_TABLES, read_place, rules};
 use tables::Tables;
 
 // The version of what C and Rust see: these functions, what they do, and the tables as bytes.
-const MAJOR: u32 = 6;
+const MAJOR: u32 = 5;
 
-const MINOR: u32 = 0;
+const MINOR: u32 = 1;
 
 const PATCH: u32 = 0;
 

@@ -1,5 +1,7 @@
 // The message layer of document 01: messages and the reader over a call file, replies, the tally, one
 // message, the run and its forecast. Of the tables it knows the type alone.
+#![tactic(auto)]
+
 mod forecasts;
 mod parse;
 mod reading;
@@ -30,7 +32,7 @@ pub const SHORT_BUFFER: u8 = 18;
 pub const NUMBERS: usize = 32;
 
 // What a message's own bytes come to: a number that turns it back, 1 to 4, or a call.
-#[derive(Drop)]
+#[derive(Clone, Copy)]
 pub enum Parsed {
     Refused { number: u8 },
     Asked { call: Call },
@@ -38,7 +40,7 @@ pub enum Parsed {
 
 // What the reader yields at a place of the file: a message, with the place of its first byte after
 // the length, its length and the place past it; a message that is cut short; or the end.
-#[derive(Drop)]
+#[derive(Clone, Copy)]
 pub enum Next {
     Message {
         start: usize,
@@ -57,7 +59,7 @@ pub struct Reader<'a> {
 }
 
 // Messages, refusals and bytes laid; each stops at 4294967295.
-#[derive(Drop)]
+#[derive(Clone, Copy)]
 pub struct Tally {
     pub messages: u32,
     pub refusals: u32,
@@ -67,7 +69,7 @@ pub struct Tally {
 // What is forecast of a call file: 0, or 5 for broken tables; the most frames held at the start or after any message;
 // the bytes laid in all; and for each number how many messages get it. The bytes laid and each count stop at
 // 4294967295; the most frames held is never above 254.
-#[derive(Drop)]
+#[derive(Clone, Copy)]
 pub struct Figures {
     pub number: u8,
     pub most: u8,
@@ -78,7 +80,7 @@ pub struct Figures {
 // What a message comes to: its number, the length of its reply, the bytes laid, the tables, and whether it moved them;
 // where it did not they are as they were. Here and below `tables` stands before `moved`: a byte before the tables would
 // be padded, at the price of one more copy of them.
-#[derive(Drop)]
+#[derive(Clone, Copy)]
 pub struct Answered {
     pub number: u8,
     pub len: usize,
@@ -88,7 +90,7 @@ pub struct Answered {
 }
 
 // What a run leaves: the tables, whether one of its messages moved them, and the tally.
-#[derive(Drop)]
+#[derive(Clone, Copy)]
 pub struct Ran {
     pub tables: Tables,
     pub moved: bool,
@@ -97,7 +99,7 @@ pub struct Ran {
 
 // What a part of a run leaves: the place of the file that it reached, the bytes of the reply buffer that it used, and
 // what a run leaves.
-#[derive(Drop)]
+#[derive(Clone, Copy)]
 pub struct Filled {
     pub at: usize,
     pub used: usize,

@@ -1,5 +1,7 @@
 // A tracking unit with four fast and four slow frames: a call file from standard input, the replies
 // to standard output. Everything that matters is in the proved libraries.
+#![tactic(auto)]
+
 ghost use Rattle.std.specs.Prelude.{◌≡◌, length, take};
 ghost use Rattle.io.specs.Counts.{IsPrefixLen};
 ghost use Rattle.program.specs.Served.{most, zero_store, output, Lends};

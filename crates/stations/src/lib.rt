@@ -1,5 +1,7 @@
 // For stations: a writer for calls and a reader for replies, of document 02, request [4]. It needs no tables and no
 // stores.
+#![tactic(auto)]
+
 mod reader;
 mod writer;
 
@@ -13,10 +15,10 @@ pub(crate) const MESSAGE_SIZE: usize = 71;
 pub(crate) const FRAME_NUMBERS: u16 = 254;
 
 // The last number of the papers' table; it has every number from 1 on.
-pub(crate) const LAST_NUMBER: u8 = 22;
+pub(crate) const LAST_NUMBER: u8 = 20;
 
 // What the writer gives: 0 and the length of the message, or the number of its refusal and 0.
-#[derive(Drop)]
+#[derive(Clone, Copy)]
 pub struct Written {
     pub number: u8,
     pub len: usize,
@@ -24,7 +26,7 @@ pub struct Written {
 
 // What the reader gives: its own refusal, or what a reply tells: the number that it carries, the bytes laid, and where
 // its data stand in the lent bytes.
-#[derive(Drop)]
+#[derive(Clone, Copy)]
 pub enum Reading {
     Refused {
         number: u8,

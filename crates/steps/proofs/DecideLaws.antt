@@ -16,7 +16,7 @@ use Rattle.tables.specs.declared.Tables.{Tables}
 use Rattle.tables.specs.declared.Edit.{Edit}
 use Rattle.tables.specs.declared.Edit.TheVariants.{Kept, Created, Deleted, Granted, Staled, Placed, Added, Removed, Marked}
 use Rattle.tables.specs.Lists.{all, count, listed}
-use Rattle.tables.specs.Numbers.{accepted, out_of_range, frame_outside, span_outside, page_stands, no_page, no_right, nothing_current, no_copy, frame_held, eight_copies, last_recent, stale, no_frame, retired, message_numbers}
+use Rattle.tables.specs.Numbers.{accepted, out_of_range, page_stands, no_page, no_right, nothing_current, no_copy, frame_held, eight_copies, last_recent, stale, no_frame, retired, message_numbers}
 use Rattle.tables.specs.Model.{frames, is_null, copies_in_use, absent, page_at}
 use Rattle.tables.specs.Rules.{free, is_current, copy_rule, sound}
 use Rattle.tables.specs.Search.{is_free, is_retired}
@@ -48,7 +48,7 @@ use Rattle.steps.specs.Steps.{Outcome, refuse, accept, test, guarded, Plan, plan
 use Rattle.steps.specs.Data.{copy_marks_valid, each_is, formed}
 use Rattle.steps.specs.Effects.{copies_shown, laid_frames, shown_of, bytes_laid, work_data}
 use Rattle.steps.specs.Promises.{frame_within, lay_within, show_within, work_within}
-use Rattle.steps.proofs.RangeLaws.{NamesNear, span_within, outside_by, ranged}
+use Rattle.steps.proofs.RangeLaws.{NamesNear, span_within, outside_listed, ranged}
 use Rattle.steps.proofs.DecisionLaws.{page_near}
 use Rattle.steps.proofs.StoreLaws.{length_part, length_frame_part}
 use Rattle.steps.proofs.Blocks.{frames_length}
@@ -66,18 +66,10 @@ pub data Comes (ns : List ℕ) {A : Type 0} (P : A → Type 0) : Outcome A → T
 abbrev pub IfAccepted : {A : Type 0} → (A → Type 0) → Outcome A → Type 0
 IfAccepted P o = Comes message_numbers P o
 
--- the numbers that the tests of its kind turn a call back with
-abbrev pub step_numbers : List ℕ
-step_numbers =
-    page_stands ∷ no_page ∷ no_right ∷ nothing_current ∷ no_copy ∷ frame_held ∷ eight_copies ∷ last_recent ∷ stale ∷ no_frame
-    ∷ retired ∷ []
-
-abbrev pub IfPerformed : (Plan → Type 0) → Outcome Plan → Type 0
-IfPerformed P o = Comes step_numbers P o
-
--- those that a call is turned back with on sound tables with fitting stores
+-- the numbers that a call is turned back with on sound tables with fitting stores
 abbrev pub call_numbers : List ℕ
-call_numbers = out_of_range ∷ frame_outside ∷ span_outside ∷ step_numbers
+call_numbers =
+    out_of_range ∷ page_stands ∷ no_page ∷ no_right ∷ nothing_current ∷ no_copy ∷ frame_held ∷ eight_copies ∷ last_recent ∷ stale ∷ no_frame ∷ retired ∷ []
 
 abbrev pub IfDecided : (Plan → Type 0) → Outcome Plan → Type 0
 IfDecided P o = Comes call_numbers P o
@@ -99,25 +91,25 @@ past_number {ns} {A} {P} {o} n row h = go (eqb n accepted) refl row
 
 -- behind 9 and 10
 module _ {P : Plan → Type 0} {o : Outcome Plan} (g : Page) where
-  pub past_nine : (b : Bool) → (absent g ≡ false → b ≡ true → IfPerformed P o) → IfPerformed P (guarded (cond (absent g) no_page (cond b accepted no_right)) o)
+  pub past_nine : (b : Bool) → (absent g ≡ false → b ≡ true → IfDecided P o) → IfDecided P (guarded (cond (absent g) no_page (cond b accepted no_right)) o)
   past_nine b h = go (absent g) b refl refl
     where
-      go : (a c : Bool) → absent g ≡ a → b ≡ c → IfPerformed P (guarded (cond a no_page (cond c accepted no_right)) o)
+      go : (a c : Bool) → absent g ≡ a → b ≡ c → IfDecided P (guarded (cond a no_page (cond c accepted no_right)) o)
       go true c e q = if_refused refl
       go false true e q = h e q
       go false false e q = if_refused refl
 
-  past_owner : (station : ℕ) → (absent g ≡ false → IfPerformed P o) → IfPerformed P (guarded (lacks_owner g station) o)
+  past_owner : (station : ℕ) → (absent g ≡ false → IfDecided P o) → IfDecided P (guarded (lacks_owner g station) o)
   past_owner station h = past_nine (owns g station) (λ some _. h some)
 
-  past_right : (station : ℕ) (act : Act) → (absent g ≡ false → IfPerformed P o) → IfPerformed P (guarded (lacks_right g station act) o)
+  past_right : (station : ℕ) (act : Act) → (absent g ≡ false → IfDecided P o) → IfDecided P (guarded (lacks_right g station act) o)
   past_right station act h = past_nine (may g station act) (λ some _. h some)
 
   -- behind 9 and 12
-  pub past_copy : (k : ℕ) → (absent g ≡ false → k < g.n → IfPerformed P o) → IfPerformed P (guarded (lacks_copy g k) o)
+  pub past_copy : (k : ℕ) → (absent g ≡ false → k < g.n → IfDecided P o) → IfDecided P (guarded (lacks_copy g k) o)
   past_copy k h = go (absent g) (leb g.n k) refl refl
     where
-      go : (a c : Bool) → absent g ≡ a → leb g.n k ≡ c → IfPerformed P (guarded (cond a no_page (cond c no_copy accepted)) o)
+      go : (a c : Bool) → absent g ≡ a → leb g.n k ≡ c → IfDecided P (guarded (cond a no_page (cond c no_copy accepted)) o)
       go true c e q = if_refused refl
       go false true e q = if_refused refl
       go false false e q = h e (leb-false g.n k q)
@@ -127,20 +119,11 @@ pub then_keeps : {ns : List ℕ} {A : Type 0} {P Q : A → Type 0} {o : Outcome 
 then_keeps h (if_refused row) = if_refused row
 then_keeps h (if_accepted k) = if_accepted (h _ k)
 
--- with a number of another list that has those of this one
-wider : {ns ms : List ℕ} {A : Type 0} {P : A → Type 0} {o : Outcome A} → all (λ (m : ℕ). listed m ms) ns ≡ true
-    → Comes ns P o → Comes ms P o
-wider {ns} {ms} e (if_refused {n} row) = if_refused (all_listed (λ (m : ℕ). listed m ms) ns n e row)
-wider e (if_accepted k) = if_accepted k
-
-pub as_decided : {P : Plan → Type 0} {o : Outcome Plan} → IfPerformed P o → IfDecided P o
-unfolding all
-as_decided k = wider refl k
-
 -- the numbers of a call are of the table
 pub as_listed : {P : Plan → Type 0} {o : Outcome Plan} → IfDecided P o → IfAccepted P o
 unfolding all
-as_listed k = wider refl k
+as_listed (if_refused {n} row) = if_refused (all_listed (λ (m : ℕ). listed m message_numbers) call_numbers n refl row)
+as_listed (if_accepted k) = if_accepted k
 
 -- ---- the copies of a page that stands
 
@@ -241,7 +224,7 @@ module _ (t : Tables) (c : Call) (size : ℕ) (rules : Sound t)
     lay_ok : tells kind ≡ Empty → (e : Edit) (x : ℕ) → Marks kind x → (laid : ℕ) (l : Lay) (f : ℕ) → Allowed t p e → MayRetire t p e x
         → laid ≤ 512 → Exact laid (Lays l f) → work_within g 0 (frames t) size (Lays l f) ≡ true
         → Frees (frames t) size g (changed g e) (Lays l f)
-        → IfPerformed (PlanOk t c size kind) (planned e x laid 0 (Lays l f))
+        → IfDecided (PlanOk t c size kind) (planned e x laid 0 (Lays l f))
     unfolding formed
     lay_ok is e x m laid l f a may few exact inside frees =
         if_accepted
@@ -264,13 +247,13 @@ module _ (t : Tables) (c : Call) (size : ℕ) (rules : Sound t)
     -- one that only changes the tables
     change_ok : tells kind ≡ Empty → (e : Edit) (x : ℕ) → Marks kind x → Allowed t p e → MayRetire t p e x
         → ((f : ℕ) → f < frames t → on f (changed g e) ≡ on f g)
-        → IfPerformed (PlanOk t c size kind) (planned e x 0 0 no_work)
+        → IfDecided (PlanOk t c size kind) (planned e x 0 0 no_work)
     unfolding laid_frames
     change_ok is e x m a may same =
         lay_ok is e x m 0 Nothing 255 a may zero-le (λ bs st _ l. refl) refl (kept_frees (frames t) size g (changed g e) no_work refl same)
 
     edit_ok : tells kind ≡ Empty → (e : Edit) → Marks kind 255 → Allowed t p e → ((f : ℕ) → f < frames t → on f (changed g e) ≡ on f g)
-        → IfPerformed (PlanOk t c size kind) (editing e)
+        → IfDecided (PlanOk t c size kind) (editing e)
     edit_ok is e m a same = change_ok is e 255 m a (retires_none t p e) same
 
     -- one that shows
@@ -279,7 +262,7 @@ module _ (t : Tables) (c : Call) (size : ℕ) (rules : Sound t)
         → ((st : List ℕ) → length st ≡ 64 * frames t → length (shown_of g s len st) ≡ len)
         → ((st : List ℕ) → length (shown_of g s len st) ≡ len → formed (tells kind) (shown_of g s len st) ≡ true)
         → (is_read kind ≡ false → (st st' : List ℕ) → shown_of g s len st ≡ shown_of g s len st')
-        → IfPerformed (PlanOk t c size kind) (showing len s)
+        → IfDecided (PlanOk t c size kind) (showing len s)
     unfolding changed
     show_ok other len s short paid inside shows form hides =
         let m : Marks kind 255 = rw other in
@@ -303,14 +286,14 @@ module _ (t : Tables) (c : Call) (size : ℕ) (rules : Sound t)
     -- one that lays, and fills no other frame
     only_ok : tells kind ≡ Empty → (e : Edit) → Marks kind 255 → (laid : ℕ) (l : Lay) → Allowed t p e → laid ≤ 512
         → Exact laid (Lays l 255) → lay_within g (frames t) size l ≡ true → Frees (frames t) size g (changed g e) (Lays l 255)
-        → IfPerformed (PlanOk t c size kind) (laying e laid l)
+        → IfDecided (PlanOk t c size kind) (laying e laid l)
     only_ok is e m laid l a few exact inside frees =
         lay_ok is e 255 m laid l 255 a (retires_none t p e) few exact (and_intro inside refl) frees
 
   -- ---- the walk
 
   copy_ok : (kind : Kind) → FrameNear t c kind → tells kind ≡ Empty → is_retire kind ≡ false → (k f : ℕ) → k < g.n → f < frames t → free t f ≡ true → absent g ≡ false
-      → g.n ≢ 8 → IfPerformed (PlanOk t c size kind) (copying (copy_at g k) f)
+      → g.n ≢ 8 → IfDecided (PlanOk t c size kind) (copying (copy_at g k) f)
   unfolding laid_frames
   copy_ok kind far is other k f less low spare some room =
       go (is_null (copy_at g k)) refl (copy_at_lem (stands some) k less).placed
@@ -319,7 +302,7 @@ module _ (t : Tables) (c : Call) (size : ℕ) (rules : Sound t)
       onto = record { in_range = low; unused = spare }
 
       go : (z : Bool) → is_null (copy_at g k) ≡ z → (z ≡ false → (copy_at g k).frame < frames t)
-          → IfPerformed (PlanOk t c size kind) (cond z (laying (Placed f) 64 (Zeros f))
+          → IfDecided (PlanOk t c size kind) (cond z (laying (Placed f) 64 (Zeros f))
           (laying (Added f (copy_at g k).recent) 64 (Duplicate (copy_at g k).frame f)))
       go true e at =
           only_ok kind far is (Placed f) (rw other) 64 (Zeros f) (record { onto = onto; stands = some }) (omega arith) (λ bs st _ l. refl)
@@ -339,7 +322,7 @@ module _ (t : Tables) (c : Call) (size : ℕ) (rules : Sound t)
 
   -- delete copy fills the frame that it frees
   remove_ok : FrameNear t c DeleteCopy → (k : ℕ) → absent g ≡ false → k < g.n → RemoveOk g k
-      → IfPerformed (PlanOk t c size DeleteCopy) (clearing (Removed k) (copy_at g k).frame)
+      → IfDecided (PlanOk t c size DeleteCopy) (clearing (Removed k) (copy_at g k).frame)
   unfolding laid_frames tells
   remove_ok far k some less ok =
       let placed_count = removed_placed (stands some) k ok in
@@ -351,7 +334,7 @@ module _ (t : Tables) (c : Call) (size : ℕ) (rules : Sound t)
 
   perform_ok : (k : Kind) → NamesNear c k → FrameNear t c k
       → (has offset k && bad_span c.offset (cond (has bytes k) size c.count)) ≡ false
-      → IfPerformed (PlanOk t c size k) (perform (view_of t c) c size k)
+      → IfDecided (PlanOk t c size k) (perform (view_of t c) c size k)
   unfolding perform shown_of laid_frames names tells code among formed
   perform_ok Create name far span =
       let low = ltb-false 15 c.station (or_left (ltb 15 c.station) _ (or_left (ltb 15 c.station || ltb 63 c.page) _ name)) in
@@ -427,7 +410,7 @@ module _ (t : Tables) (c : Call) (size : ℕ) (rules : Sound t)
       (λ st l. three_shown (registered t c.frame)) (λ st l. eq-eqb _ 3 l) (λ _ st st'. refl)
   perform_ok Retire name far span = by (is_retired (registered t c.frame)) refl
     where
-      by : (b : Bool) → is_retired (registered t c.frame) ≡ b → IfPerformed (PlanOk t c size Retire)
+      by : (b : Bool) → is_retired (registered t c.frame) ≡ b → IfDecided (PlanOk t c size Retire)
           (cond b (editing Kept) (test (not (is_free (registered t c.frame))) frame_held (retiring c.frame)))
       by true e = edit_ok Retire far refl Kept (rw e) tt (λ f _. kept_on g f)
       by false e =
@@ -438,17 +421,13 @@ module _ (t : Tables) (c : Call) (size : ℕ) (rules : Sound t)
 
 -- ---- a call on tables that keep the rules
 
--- 0, 7, 21 or 22 is 0 or a number of a call
+-- 0 or 7 is 0 or a number of a call
 pub range_listed : (frames size : ℕ) (c : Call) → listed (outside frames size c) (accepted ∷ call_numbers) ≡ true
-range_listed frames size c =
-    outside_by frames size c (λ (n : ℕ). listed n (accepted ∷ call_numbers) ≡ true) (λ _. refl) (λ _ _. refl)
-    (λ _ _ _. refl) (λ _. refl)
+range_listed frames size c = outside_listed frames size c (λ (n : ℕ). listed n (accepted ∷ call_numbers) ≡ true) refl refl
 
 pub decide_ok : (t : Tables) (c : Call) (size : ℕ) → sound t ≡ true → IfDecided (PlanOk t c size c.kind) (decide t c size)
 unfolding decide_on
 decide_ok t c size e =
     past_number (outside (frames t) size c) (range_listed (frames t) size c) (λ z.
     let r = ranged (frames t) size c z in
-    as_decided
-    (perform_ok t c size (sound_of t e) (λ f l. registered_free t f e l) c.kind r.names_in r.frame_in
-    r.span_in))
+    perform_ok t c size (sound_of t e) (λ f l. registered_free t f e l) c.kind r.names_in r.frame_in r.span_in)

@@ -24,7 +24,7 @@ use Rattle.steps.specs.declared.Work.TheVariants.{Shows, Lays}
 use Rattle.steps.specs.Calls.{outside}
 use Rattle.steps.specs.Steps.{test, Plan, plan_of, no_work, editing, retiring, laying, may, owns, copy_at, currents, recents, placed_count, first_current, copying, perform, decide_on}
 use Rattle.steps.proofs.RangeLaws.{Ranged, ranged}
-use Rattle.steps.proofs.DecideLaws.{IfAccepted, IfPerformed, if_accepted, past, past_number, past_nine, past_copy, then_keeps, as_decided, as_listed, range_listed}
+use Rattle.steps.proofs.DecideLaws.{IfAccepted, IfDecided, if_accepted, past, past_number, past_nine, past_copy, then_keeps, as_listed, range_listed}
 
 -- ---- what is known
 
@@ -82,11 +82,11 @@ module _ (v : View) (c : Call) (size : ℕ) where
   abbrev g : Page
   g = v.page
 
-  copy_does : Needs g c MakeCopy → IfPerformed (Does v c size MakeCopy) (copying (copy_at g c.copy) c.frame)
+  copy_does : Needs g c MakeCopy → IfDecided (Does v c size MakeCopy) (copying (copy_at g c.copy) c.frame)
   copy_does n = go (is_null (copy_at g c.copy)) refl
     where
       go : (z : Bool) → is_null (copy_at g c.copy) ≡ z
-          → IfPerformed (Does v c size MakeCopy) (cond z (laying (Placed c.frame) 64 (Zeros c.frame))
+          → IfDecided (Does v c size MakeCopy) (cond z (laying (Placed c.frame) 64 (Zeros c.frame))
           (laying (Added c.frame (copy_at g c.copy).recent) 64
           (Duplicate (copy_at g c.copy).frame c.frame)))
       go true z =
@@ -98,7 +98,7 @@ module _ (v : View) (c : Call) (size : ℕ) where
           record { plan_is = rw z; needs = n } in
           if_accepted d
 
-  pub perform_does : (k : Kind) → IfPerformed (Does v c size k) (perform v c size k)
+  perform_does : (k : Kind) → IfDecided (Does v c size k) (perform v c size k)
   unfolding perform
   perform_does Create =
       past (not (absent g)) _ refl (λ e. if_accepted (record { plan_is = refl; needs = not-false _ e }))
@@ -128,7 +128,7 @@ module _ (v : View) (c : Call) (size : ℕ) where
   perform_does LookFrame = if_accepted (record { plan_is = refl; needs = tt })
   perform_does Retire = by (is_retired v.holder) refl
     where
-      by : (b : Bool) → is_retired v.holder ≡ b → IfPerformed (Does v c size Retire)
+      by : (b : Bool) → is_retired v.holder ≡ b → IfDecided (Does v c size Retire)
           (cond b (editing Kept) (test (not (is_free v.holder)) frame_held (retiring c.frame)))
       by true e =
           let d : Does v c size Retire (plan_of Kept null_frame 0 0 no_work) = record { plan_is = rw e; needs = tt } in
@@ -143,7 +143,7 @@ module _ (v : View) (c : Call) (size : ℕ) where
   unfolding decide_on
   decide_does =
       as_listed (past_number (outside v.frames size c) (range_listed v.frames size c) (λ z.
-      as_decided (then_keeps (λ plan d. (d, ranged v.frames size c z)) (perform_does c.kind))))
+      then_keeps (λ plan d. (d, ranged v.frames size c z)) (perform_does c.kind)))
 
   -- an accepted read shows bytes of the lowest-numbered CURRENT copy
   pub read_shows : c.kind ≡ Read

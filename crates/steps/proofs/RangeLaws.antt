@@ -1,19 +1,18 @@
--- Numbers 7, 21 and 22: what the test of a call's range says of its bytes and of the step. In order: what a call names;
--- a span without the sum; tests of what is not named; a span within the page; the number that they give; a write's
--- bytes.
+-- Number 7: what the test of a call's range says of its bytes and of the step. In order: what a call names; a span
+-- without the sum; tests of what is not named; a span within the page; the three tests as a number; a write's bytes.
 use Prim.Native.Nat.{ℕ, ◌+◌, ◌-◌, ◌≤◌}
 use mathlib.Core.Path.{◌≡◌, refl, sym, ap, ◌∙◌}
-use mathlib.Core.Bool.{Bool, true, false, ◌&&◌, ◌||◌, cond}
+use mathlib.Core.Bool.{Bool, true, false, ◌&&◌, ◌||◌, cond, false≢true}
 use native.Mathlib.Omega.{arith}
 use lib.Dec.{ltb, eqb}
 use borrow.Author.Tests.{ltb-true, ltb-false, lt-ltb, le-ltb}
 use Rattle.tables.proofs.ListLaws.{or_right, iff_eq}
-use Rattle.tables.specs.Numbers.{accepted, out_of_range, frame_outside, span_outside}
+use Rattle.tables.specs.Numbers.{accepted, out_of_range}
 use Rattle.steps.specs.declared.Kind.{Kind}
 use Rattle.steps.specs.declared.Kind.TheVariants.{Write}
 use Rattle.steps.specs.declared.Call.{Call}
 use Rattle.steps.specs.Kinds.{station, page, other, right, names, among, code, has}
-use Rattle.steps.specs.Calls.{name_too_large, frame_not_below, bad_span, has_bad_span, outside}
+use Rattle.steps.specs.Calls.{name_outside, frame_outside, bad_span, span_outside, outside}
 
 -- what a call of kind k names is in range, but for its frame and its span
 abbrev pub NamesNear : Call → Kind → Type 0
@@ -49,34 +48,52 @@ or_frame x y = or_span x y ∙ ap (λ (b : Bool). (x || false) || b) (or_one y)
 pub span_within : (o n : ℕ) → bad_span o n ≡ false → o + n ≤ 64
 span_within o n e = ltb-false 64 (o + n) (or_right (eqb n 0) _ (or_right (ltb 63 o) _ e))
 
--- ---- the number that they give
+-- ---- the three tests as a number
 
 module _ (frames size : ℕ) (c : Call) where
-  -- what a call that is not turned back keeps to
+  -- what a call that passes them keeps to
   pub record Ranged : Type 0 where
-    pub names_in : name_too_large c ≡ false
-    pub frame_in : frame_not_below frames c ≡ false
-    pub span_in : has_bad_span size c ≡ false
+    pub names_in : name_outside c ≡ false
+    pub frame_in : frame_outside frames c ≡ false
+    pub span_in : span_outside size c ≡ false
 
-  -- what is so of 7, of 21 and of 22, each where the call is turned back with it, and of 0 where it is not
-  pub outside_by : (P : ℕ → Type 0) → (name_too_large c ≡ true → P out_of_range)
-      → (name_too_large c ≡ false → frame_not_below frames c ≡ true → P frame_outside)
-      → (name_too_large c ≡ false → frame_not_below frames c ≡ false → has_bad_span size c ≡ true → P span_outside)
-      → (Ranged → P accepted) → P (outside frames size c)
-  outside_by P seven frame span none =
-      go (name_too_large c) (frame_not_below frames c) (has_bad_span size c) refl refl refl
+  pub outside_any : (name_outside c || (frame_outside frames c || span_outside size c)) ≡ true → outside frames size c ≡ out_of_range
+  outside_any = go (name_outside c) (frame_outside frames c) (span_outside size c)
     where
-      go : (x y z : Bool) → name_too_large c ≡ x → frame_not_below frames c ≡ y → has_bad_span size c ≡ z
-          → P (cond x out_of_range (cond y frame_outside (cond z span_outside accepted)))
-      go true y z p q r = seven p
-      go false true z p q r = frame p q
-      go false false true p q r = span p q r
-      go false false false p q r = none (record { names_in = p; frame_in = q; span_in = r })
+      go : (x y z : Bool) → (x || (y || z)) ≡ true → cond x out_of_range (cond y out_of_range (cond z out_of_range accepted)) ≡ out_of_range
+      go true y z e = refl
+      go false true z e = refl
+      go false false true e = refl
+      go false false false e = absurd (false≢true e)
+
+  pub outside_none : (name_outside c || (frame_outside frames c || span_outside size c)) ≡ false → outside frames size c ≡ accepted
+  outside_none = go (name_outside c) (frame_outside frames c) (span_outside size c)
+    where
+      go : (x y z : Bool) → (x || (y || z)) ≡ false → cond x out_of_range (cond y out_of_range (cond z out_of_range accepted)) ≡ accepted
+      go true y z e = absurd (false≢true (sym e))
+      go false true z e = absurd (false≢true (sym e))
+      go false false true e = absurd (false≢true (sym e))
+      go false false false e = refl
+
+  -- 0 or 7
+  pub outside_listed : (P : ℕ → Type 0) → P accepted → P out_of_range → P (outside frames size c)
+  outside_listed P p q = go (name_outside c) (frame_outside frames c) (span_outside size c)
+    where
+      go : (x y z : Bool) → P (cond x out_of_range (cond y out_of_range (cond z out_of_range accepted)))
+      go true y z = q
+      go false true z = q
+      go false false true = q
+      go false false false = p
 
   pub ranged : outside frames size c ≡ accepted → Ranged
-  ranged =
-      outside_by (λ (n : ℕ). n ≡ accepted → Ranged) (λ _ e. absurd (omega arith)) (λ _ _ e. absurd (omega arith))
-      (λ _ _ _ e. absurd (omega arith)) (λ r _. r)
+  ranged e = go (name_outside c) (frame_outside frames c) (span_outside size c) refl refl refl e
+    where
+      go : (x y z : Bool) → name_outside c ≡ x → frame_outside frames c ≡ y → span_outside size c ≡ z
+          → cond x out_of_range (cond y out_of_range (cond z out_of_range accepted)) ≡ accepted → Ranged
+      go true y z p q r e = absurd (omega arith)
+      go false true z p q r e = absurd (omega arith)
+      go false false true p q r e = absurd (omega arith)
+      go false false false p q r e = record { names_in = p; frame_in = q; span_in = r }
 
   pub write_short : outside frames size c ≡ accepted → c.kind ≡ Write → size ≤ 64
   unfolding names among code

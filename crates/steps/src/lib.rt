@@ -1,5 +1,7 @@
 // The steps of document 01. `decide` decides a call from the tables alone; `carry` does on the two lent stores and the
 // reply what was decided, and `settle` puts the change into the tables.
+#![tactic(auto)]
+
 mod access;
 mod copies;
 mod decisions;
@@ -50,12 +52,8 @@ pub const NO_FRAME: u8 = 17;
 
 pub const RETIRED: u8 = 20;
 
-pub const FRAME_OUTSIDE: u8 = 21;
-
-pub const SPAN_OUTSIDE: u8 = 22;
-
 // The kinds of call, in the order of their numbers from 1 on.
-#[derive(Drop)]
+#[derive(Clone, Copy)]
 pub enum Kind {
     Create,
     DeletePage,
@@ -76,7 +74,7 @@ pub const KINDS: u8 = 12;
 
 // A step that is asked for, with its arguments; one that its kind does not name plays no part. The bytes of a write
 // come beside it.
-#[derive(Drop)]
+#[derive(Clone, Copy)]
 pub struct Call {
     pub kind: Kind,
     pub station: u8,
@@ -90,7 +88,7 @@ pub struct Call {
 }
 
 // What the data of an accepted reply are.
-#[derive(Drop)]
+#[derive(Clone, Copy)]
 pub enum Data {
     Empty,
     // Of a read: 1 to 64 bytes of a page.
@@ -103,7 +101,7 @@ pub enum Data {
 
 // The form of a kind's messages: the least and the most bytes after the length, what the data of its replies are, and
 // the call that a message asks for.
-#[derive(Drop)]
+#[derive(Clone, Copy)]
 pub struct Form {
     pub least: u8,
     pub most: u8,
@@ -112,7 +110,7 @@ pub struct Form {
 }
 
 // What a call looks at in the tables: how many frames there are, the record of its page, and the holder of its frame.
-#[derive(Drop)]
+#[derive(Clone, Copy)]
 pub struct View {
     pub frames: u16,
     pub page: Page,
@@ -120,14 +118,14 @@ pub struct View {
 }
 
 // What a right is asked for: to read a page, or to write it.
-#[derive(Drop)]
+#[derive(Clone, Copy)]
 pub enum Act {
     Read,
     Write,
 }
 
 // Which copies of a page a step is about.
-#[derive(Drop)]
+#[derive(Clone, Copy)]
 pub enum Which {
     Current,
     Recent,
@@ -136,7 +134,7 @@ pub enum Which {
 }
 
 // What a step lays into the stores.
-#[derive(Drop)]
+#[derive(Clone, Copy)]
 pub enum Lay {
     Nothing,
     // Zeros into a frame.
@@ -150,7 +148,7 @@ pub enum Lay {
 }
 
 // What a step shows in the reply.
-#[derive(Drop)]
+#[derive(Clone, Copy)]
 pub enum Show {
     // Bytes of a frame, as many as the data are long.
     Frame { frame: u8, offset: u8 },
@@ -161,7 +159,7 @@ pub enum Show {
 
 // What a step does besides its change of the tables: it shows something in the reply, or it lays bytes and fills the
 // frame that a delete copy frees, 255 for none.
-#[derive(Drop)]
+#[derive(Clone, Copy)]
 pub enum Work {
     Shows { show: Show },
     Lays { lay: Lay, clears: u8 },
@@ -169,7 +167,7 @@ pub enum Work {
 
 // What a call comes to on what it looks at: its number, the frame that it retires, 255 for none, the bytes laid, the
 // length of its data, its edit of the page's record, and what it shows or lays.
-#[derive(Drop)]
+#[derive(Clone, Copy)]
 pub struct Verdict {
     pub number: u8,
     pub retires: u8,
@@ -182,7 +180,7 @@ pub struct Verdict {
 // What a call comes to on the tables: its number, the bytes laid, the length of its data; whether the tables move, and
 // the change by which they do; what is to be shown or laid; and the page's record before the call, by which its copies
 // are found.
-#[derive(Drop)]
+#[derive(Clone, Copy)]
 pub struct Decision {
     pub number: u8,
     pub moved: bool,
@@ -194,14 +192,14 @@ pub struct Decision {
 }
 
 // 5 for tables that break a rule; else 0, and how many frames are held.
-#[derive(Drop)]
+#[derive(Clone, Copy)]
 pub struct Held {
     pub number: u8,
     pub held: u8,
 }
 
 // A part of the fast store or of the slow one: so many bytes of it from `start` on.
-#[derive(Drop)]
+#[derive(Clone, Copy)]
 pub struct Place {
     pub slow: bool,
     pub start: usize,
@@ -209,7 +207,7 @@ pub struct Place {
 }
 
 // What a call on tables and stores leaves.
-#[derive(Drop)]
+#[derive(Clone, Copy)]
 pub struct Done {
     pub number: u8,
     pub laid: u16,

@@ -1,9 +1,8 @@
-// Numbers 7, 21 and 22: whether a call names something that is too large, and what.
-ghost use Rattle.std.specs.Prelude.{◌≡◌, cond};
-ghost use Rattle.tables.specs.Numbers.{accepted, out_of_range, frame_outside, span_outside};
-ghost use Rattle.steps.specs.Calls.{bad_span, outside};
+// Number 7: whether a call names something that is too large.
+ghost use Rattle.std.specs.Prelude.{◌≡◌, ◌||◌};
+ghost use Rattle.steps.specs.Calls.{name_outside, frame_outside, bad_span, span_outside, outside};
 
-use crate::{ACCEPTED, Call, FRAME_OUTSIDE, Kind, OUT_OF_RANGE, SPAN_OUTSIDE};
+use crate::{ACCEPTED, Call, Kind, OUT_OF_RANGE};
 
 // Whether the offset is too large, the count is 0, or both together go past the page.
 fn bad_span(offset: u8, count: usize) -> bool
@@ -16,41 +15,34 @@ fn bad_span(offset: u8, count: usize) -> bool
     (count == 0) | (count > 64 - o)
 }
 
-// The number for a station, page or right too large, for a frame outside and for a bad span, the first that applies.
-fn first_of(name: bool, frame: bool, span: bool) -> u8
-    ensures { result ≡ cond name out_of_range (cond frame frame_outside (cond span span_outside accepted)) }
-{
-    if name {
-        return OUT_OF_RANGE;
-    }
-    if frame {
-        return FRAME_OUTSIDE;
-    }
-    if span {
-        return SPAN_OUTSIDE;
-    }
-    ACCEPTED
-}
-
-// 7, 21 or 22 where the call, on so many frames, names something too large, and else 0. What its kind does not name
-// plays no part.
-pub fn outside(call: Call, frames: u16, size: usize) -> u8
-    ensures { result ≡ outside frames size call }
+// Whether a call names something too large, of so many frames. What its kind does not name plays no part.
+fn is_outside(call: Call, frames: u16, size: usize) -> bool
+    ensures { result ≡ (name_outside call || (frame_outside frames call || span_outside size call)) }
 {
     let owned = (call.station > 15) | (call.page > 63);
     let kind = call.kind;
     match kind {
-        Kind::Create => first_of(owned, false, false),
-        Kind::DeletePage => first_of(owned, false, false),
-        Kind::Grant => first_of(owned | ((call.other > 15) | (call.right > 2)), false, false),
-        Kind::Read => first_of(owned, false, bad_span(call.offset, call.count as usize)),
-        Kind::Write => first_of(owned, false, bad_span(call.offset, size)),
-        Kind::MakeCopy => first_of(call.page > 63, call.frame as u16 >= frames, false),
-        Kind::DeleteCopy => first_of(call.page > 63, false, false),
-        Kind::SetCurrent => first_of(call.page > 63, false, false),
-        Kind::RemoveCurrent => first_of(call.page > 63, false, false),
-        Kind::LookPage => first_of(call.page > 63, false, false),
-        Kind::LookFrame => first_of(false, call.frame as u16 >= frames, false),
-        Kind::Retire => first_of(false, call.frame as u16 >= frames, false),
+        Kind::Create => owned,
+        Kind::DeletePage => owned,
+        Kind::Grant => owned | ((call.other > 15) | (call.right > 2)),
+        Kind::Read => owned | bad_span(call.offset, call.count as usize),
+        Kind::Write => owned | bad_span(call.offset, size),
+        Kind::MakeCopy => (call.page > 63) | (call.frame as u16 >= frames),
+        Kind::DeleteCopy => call.page > 63,
+        Kind::SetCurrent => call.page > 63,
+        Kind::RemoveCurrent => call.page > 63,
+        Kind::LookPage => call.page > 63,
+        Kind::LookFrame => call.frame as u16 >= frames,
+        Kind::Retire => call.frame as u16 >= frames,
     }
+}
+
+// 7 where the call names something too large, and else 0.
+pub fn outside(call: Call, frames: u16, size: usize) -> u8
+    ensures { result ≡ outside frames size call }
+{
+    if is_outside(call, frames, size) {
+        return OUT_OF_RANGE;
+    }
+    ACCEPTED
 }

@@ -18,5 +18,3 @@ pub mod HeldLaws
 pub mod ScanLaws
 pub mod KeepLaws
 pub mod BothWays
-pub mod ByRef
-pub mod Rows

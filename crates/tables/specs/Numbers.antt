@@ -29,7 +29,7 @@ broken_tables = 5
 abbrev pub misfit_store : ℕ
 misfit_store = 6
 
--- station, page or right too large; document 02, request [9]: "Number 7 now covers station, page and right only"
+-- station, page, right, frame or offset too large; count 0; offset + count above 64
 abbrev pub out_of_range : ℕ
 out_of_range = 7
 
@@ -85,20 +85,12 @@ too_many_frames = 19
 abbrev pub retired : ℕ
 retired = 20
 
--- document 02, request [9], "frame outside": frame not below P+S
-abbrev pub frame_outside : ℕ
-frame_outside = 21
-
--- the same, "span outside": bad offset or count
-abbrev pub span_outside : ℕ
-span_outside = 22
-
 -- The rows that a message can be turned back with, in the papers' order: 19 is for making tables alone.
 abbrev pub message_numbers : List ℕ
 message_numbers =
     cut_short ∷ foreign_version ∷ unknown_kind ∷ wrong_length ∷ broken_tables ∷ misfit_store ∷ out_of_range ∷ page_stands
     ∷ no_page ∷ no_right ∷ nothing_current ∷ no_copy ∷ frame_held ∷ eight_copies ∷ last_recent ∷ stale ∷ no_frame ∷ short_buffer
-    ∷ retired ∷ frame_outside ∷ span_outside ∷ []
+    ∷ retired ∷ []
 
 -- all rows
 abbrev pub all_numbers : List ℕ

@@ -39,7 +39,7 @@ use Rattle.steps.specs.Steps.{Outcome, Plan, test, guarded, editing, retiring, l
 use Rattle.steps.specs.Effects.{laid_frames, State, joined, carried_out}
 use Rattle.steps.proofs.Blocks.{block_lay_whole, block_lay_other}
 use Rattle.steps.proofs.ClearLaws.{on}
-use Rattle.steps.proofs.RangeLaws.{Ranged, outside-listed, ranged}
+use Rattle.steps.proofs.RangeLaws.{Ranged, outside_listed, ranged}
 use Rattle.steps.proofs.DecisionLaws.{page_near}
 use Rattle.steps.proofs.DecideLaws.{removed_placed}
 use Rattle.steps.proofs.StepLaws.{joined_long, page_stands_lem, length_held}
@@ -128,7 +128,7 @@ alone_range {P} {shows} {f} limit size c o h = go (eqb (outside limit size c) ac
     go : (b : Bool) → eqb (outside limit size c) accepted ≡ b → Agree P shows f false false (guarded (outside limit size c) o) silent
     go true e = rw e (h (ranged limit size c (eqb-true (outside limit size c) accepted e)))
     go false e =
-        rw e (turned_back (outside-listed limit size c (λ (n : ℕ). eqb n nothing_current ≡ false) refl refl))
+        rw e (turned_back (outside_listed limit size c (λ (n : ℕ). eqb n nothing_current ≡ false) refl refl))
 
 -- 9 and 12
 alone_copy : {P : Plan → Flat → Type 0} {shows : Plan → List ℕ} {f : Flat} {o : Outcome Plan} (g : Page) (k : ℕ)

@@ -21,7 +21,7 @@ use Rattle.steps.specs.declared.Kind.{Kind}
 use Rattle.steps.specs.declared.Kind.TheVariants.{Create, DeletePage, Grant, Read, Write, MakeCopy, DeleteCopy, SetCurrent, RemoveCurrent, LookPage, LookFrame, Retire}
 use Rattle.steps.specs.declared.Call.{Call}
 use Rattle.steps.specs.Kinds.{frame, names, code, among, has}
-use Rattle.steps.specs.Calls.{nameOutside, span_outside}
+use Rattle.steps.specs.Calls.{name_outside, span_outside}
 use Rattle.steps.specs.Stores.{fits}
 use Rattle.steps.specs.Steps.{Outcome, Plan, guarded, mapped, perform, decide_on, page_for, viewing, view_by, decide}
 use Rattle.steps.specs.Effects.{State, carried_out, step}
@@ -57,7 +57,7 @@ unless_far false true false span o o' j k = ap (guarded (cond span out_of_range 
 decide_searched : (t : Tables) (c : Call) (size : ℕ) → sound t ≡ true → decide t c size ≡ decide_on (view_by holder_of t c) c size
 unfolding decide_on
 decide_searched t c size ok =
-    unless_far (nameOutside c) (has frame c.kind) (leb (frames t) c.frame) (span_outside size c) _ _
+    unless_far (name_outside c) (has frame c.kind) (leb (frames t) c.frame) (span_outside size c) _ _
     (no_frame t.shared (page_at t (page_for c)) c size (registered t c.frame) (holder_of t c.frame) c.kind)
     (λ e. ap (λ (h : Holder). perform (viewing t.shared (page_at t (page_for c)) h) c size c.kind)
     (registered_is t c.frame ok (leb-false (frames t) c.frame e)))

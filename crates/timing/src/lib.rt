@@ -1,5 +1,7 @@
 // For the benchmark: work on tables that are taken from lent bytes once, so that what is measured is
 // the kernel and not the bytes. For the tests: a read as a part of a lent store.
+#![tactic(auto)]
+
 ghost use Rattle.std.specs.Prelude.{◌≡◌, [], ◌+◌, ◌*◌, ◌≤◌, length};
 ghost use Rattle.steps.specs.Effects.{step, data_of, read_call};
 ghost use Rattle.steps.specs.Promises.{state_of, lent};
@@ -14,7 +16,7 @@ use steps::read;
 use tables::Tables;
 
 // What is left after all messages of a file.
-#[derive(Drop)]
+#[derive(Clone, Copy)]
 struct Left {
     tables: Tables,
     tally: Tally,

@@ -1,0 +1,31 @@
+-- `page_ok` tests one page, with the entries of its frames.
+use Prim.Native.Nat.{ℕ}
+use mathlib.Core.Path.{◌≡◌, sym, ap}
+use mathlib.Core.Bool.{true}
+use lib.ListN.{length, take}
+use borrow.Author.Tests.{eq-eqb, ne_eqb}
+use borrow.Author.Rules.{rules}
+use Rattle.tables.specs.Model.{copies_in_use}
+use Rattle.tables.specs.Rules.{absent_rule, page_rule}
+use Rattle.tables.specs.PrivatePass.{entries_are}
+use Rattle.tables.proofs.ListLaws.{and-true}
+use Rattle.tables.proofs.rules.page_ok.Goals as goal
+
+pub returns-then-g-eq0 : goal.returns-then-g-eq0
+unfolding page_rule entries_are
+returns-then-g-eq0 c =
+    let a = c.args in
+    let g = a.g in
+    let l : length g.rights ≡ 16 = search rules in
+    let m : length g.copies ≡ 8 = search rules in
+    let z : entries_are a.register.now a.p 0 (copies_in_use g) ≡ true =
+    ap (λ (n : ℕ). entries_are a.register.now a.p 0 (take n g.copies)) c.if-g-eq0.true in
+    sym (rw (eq-eqb _ _ l, eq-eqb _ _ m, eq-eqb _ _ c.if-g-eq0.true, z, and-true (absent_rule g)) (sym c.absent_ok.ensures))
+
+pub returns : goal.returns
+unfolding page_rule
+returns c =
+    let g = c.args.g in
+    let l : length g.rights ≡ 16 = search rules in
+    let m : length g.copies ≡ 8 = search rules in
+    sym (rw (eq-eqb _ _ l, eq-eqb _ _ m, ne_eqb _ _ c.if-g-eq0.false) (sym c.standing_ok.ensures))
