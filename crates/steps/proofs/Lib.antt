@@ -4,7 +4,6 @@ pub mod RightLaws
 pub mod CountLaws
 pub mod GuardLaws
 pub mod DecisionLaws
-pub mod Rows
 pub mod StoreLaws
 pub mod CopyLaws
 pub mod DataLaws

@@ -1,0 +1,6 @@
+-- `refused`: the one verdict, with no work.
+use borrow.Author.Rules.{rules}
+use Rattle.steps.proofs.decisions.refused.Goals as goal
+
+pub returns : goal.returns
+returns c = rw (← c.no_work.ensures) c.verdict_of.ensures

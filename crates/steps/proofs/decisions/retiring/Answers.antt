@@ -1,0 +1,6 @@
+-- `retiring`: the one verdict, with no work.
+use borrow.Author.Rules.{rules}
+use Rattle.steps.proofs.decisions.retiring.Goals as goal
+
+pub returns : goal.returns
+returns c = rw (← c.no_work.ensures) c.verdict_of.ensures

@@ -1,0 +1,6 @@
+-- `show_within`, case by case.
+use borrow.Author.Rules.{rules}
+use Rattle.steps.proofs.effects.show_within.Goals as goal
+
+pub returns-in-Frame : goal.returns-in-Frame
+returns-in-Frame c = rw (c.in-Frame.is, ← c.span_within.ensures)

@@ -1,0 +1,6 @@
+-- `copy_frame`: what `load` reads, `lay_frame` lays.
+use borrow.Author.Rules.{rules}
+use Rattle.steps.proofs.stores.copy_frame.Goals as goal
+
+pub returns : goal.returns
+returns c = rw (← c.load-b.ensures) c.lay_frame.ensures
