@@ -122,7 +122,7 @@ unfolding served_all served turns_of
 part_served room end at used s out n m [] e h = none_served room end at used s out n m
 part_served room end at used s out n m (x ∷ xs) e h =
     by (full room used) refl
-    (λ long fit. part_served room end _ _ (left_by room s x) _ _ _ xs long fit)
+    (λ long fit. part_served room end (passed end at x) _ (left_by room s x) _ _ _ xs long fit)
   where
     by : (b : Bool) → full room used ≡ b
         → (let w = v room end at used s out n m x xs e in
