@@ -21,7 +21,7 @@ use Rattle.callers.specs.Hidden.{run_through}
 use Rattle.callers.specs.Claims.{OfCalls, ClaimsLent}
 use Rattle.callers.proofs.Calls.{through}
 use Rattle.callers.proofs.Lent.{k₀, fresh, start}
-use Rattle.callers.proofs.Hidden.{came_to}
+use Rattle.callers.proofs.HiddenLaws.{came_to}
 
 -- X of every run from fresh tables
 of_calls : (X : Run → Type 0)

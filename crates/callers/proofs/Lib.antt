@@ -3,7 +3,7 @@ pub mod Kept
 pub mod Calls
 pub mod Lent
 pub mod Read
-pub mod Hidden
+pub mod HiddenLaws
 pub mod Claims
 pub mod Forecast
 pub mod Witness

@@ -40,7 +40,7 @@ use Rattle.messages.specs.Replies.{be16, reply, reply_in, is_refusal}
 use Rattle.messages.specs.Run.{Sent, asked, bytes_of, respond, answer, turn_of, left_by, turns_of, end_of}
 use Rattle.theorems.specs.Flat.{Slot, gone, here}
 use Rattle.theorems.specs.Hidden.{run_over}
-use Rattle.theorems.proofs.Hidden.{hidden}
+use Rattle.theorems.proofs.HiddenLaws.{hidden}
 use Rattle.theorems.proofs.Whole.{start_inv}
 use Rattle.claims.specs.History.{PageWrite, PageHistory, absent_history, followed, is_of, followed_in, history_after}
 use Rattle.claims.specs.Latest.{next_history}

@@ -42,7 +42,7 @@ use Rattle.theorems.specs.Hidden.{message_covered, SameBut}
 use Rattle.theorems.specs.Forecast.{laid_in_all, how_many_get, tally_forecast, FiguresOf, Foretold}
 use Rattle.theorems.proofs.Frames.{by_message}
 use Rattle.theorems.proofs.Refusals.{number_low}
-use Rattle.theorems.proofs.Hidden.{same_asked, same_carried, made_sound}
+use Rattle.theorems.proofs.HiddenLaws.{same_asked, same_carried, made_sound}
 
 -- ---- one message, on sound tables with fitting stores
 

@@ -19,5 +19,5 @@ pub mod Written
 pub mod Told
 pub mod Stations
 pub mod Closed
-pub mod Hidden
+pub mod HiddenLaws
 pub mod Forecast

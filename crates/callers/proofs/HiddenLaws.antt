@@ -20,7 +20,7 @@ use Rattle.messages.specs.Promises.{sent_alone}
 use Rattle.messages.proofs.JoinLaws.{end_is}
 use Rattle.theorems.specs.Hidden.{SameBut, reply_covered, told, Alike, run_over}
 use Rattle.theorems.proofs.Sound.{message_sound, messages_sound}
-use Rattle.theorems.proofs.Hidden.{Twins, messages_alike, reply_long, taken_alike, never_five_told, never_five_in}
+use Rattle.theorems.proofs.HiddenLaws.{Twins, messages_alike, reply_long, taken_alike, never_five_told, never_five_in}
 use Rattle.embed.specs.Bytes.{tables_bytes}
 use Rattle.embed.specs.Exports.{tables_of, with_tables, tally_of, with_tally, left_in, Kept, state_in}
 use Rattle.callers.specs.Calls.{Called, answered, replied, ran, Meets, room}
