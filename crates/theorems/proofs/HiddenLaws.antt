@@ -199,6 +199,9 @@ reply_both : (room : ℕ) (reads : Bool) (o o' : Outcome Result) → Both reads 
     ≡ cond reads (covered 6 (reply_in room o')) (reply_in room o')
 unfolding covered reply
 reply_both room reads (refuse n) (refuse m) both_refused = refl
+reply_both room reads (refuse n) (accept r') b = elim b [ ]
+reply_both room false (accept r) (refuse m) b = elim b [ ]
+reply_both room true (accept r) (refuse m) b = elim b [ ]
 reply_both room true (accept r) (accept r') (both_accepted t m l d same) = by (ltb room 70)
   where
     by : (b : Bool) → covered 6 (cond b [] (reply (accept r))) ≡ covered 6 (cond b [] (reply (accept r')))
@@ -209,16 +212,22 @@ reply_both room false (accept r) (accept r') (both_accepted t m l d same) = rw (
 left_both : (reads : Bool) (s s' : State) (o o' : Outcome Result) → s.tables ≡ s'.tables → Both reads o o'
     → (left s o).tables ≡ (left s' o').tables
 left_both reads s s' (refuse n) (refuse m) e both_refused = e
+left_both reads s s' (refuse n) (accept r') e b = elim b [ ]
+left_both reads s s' (accept r) (refuse m) e b = elim b [ ]
 left_both reads s s' (accept r) (accept r') e (both_accepted t m l d same) = t
 
 told_both : (reads : Bool) (o o' : Outcome Result) → Both reads o o'
     → ◌≡◌ {A = ℕ × ℕ × Bool} (number_of o, laid_by o, moved_by o) (number_of o', laid_by o', moved_by o')
 told_both reads (refuse n) (refuse m) both_refused = refl
+told_both reads (refuse n) (accept r') b = elim b [ ]
+told_both reads (accept r) (refuse m) b = elim b [ ]
 told_both reads (accept r) (accept r') (both_accepted t m l d same) = rw (l, m)
 
 counted_both : (reads : Bool) (n : Tally) (o o' : Outcome Result) → Both reads o o'
     → counted n (is_refusal o) (laid_by o) ≡ counted n (is_refusal o') (laid_by o')
 counted_both reads n (refuse k) (refuse m) both_refused = refl
+counted_both reads n (refuse k) (accept r') b = elim b [ ]
+counted_both reads n (accept r) (refuse m) b = elim b [ ]
 counted_both reads n (accept r) (accept r') (both_accepted t m l d same) = rw l
 
 -- the state that it leaves
@@ -313,7 +322,7 @@ messages_alike room n (x ∷ xs) (x' ∷ xs') e s s' w =
     let first : message_covered x ≡ message_covered x' = cc in
     let rest : map message_covered xs ≡ map message_covered xs' = cc in
     more_alike room s s' w x x' first n _ _ _ _
-    (messages_alike room _ xs xs' rest (left_by room s x) (left_by room s' x') (twins_left room s s' w x x' first))
+    (messages_alike room (counted n (is_refusal (answer room s x)) (laid_by (answer room s x))) xs xs' rest (left_by room s x) (left_by room s' x') (twins_left room s s' w x x' first))
 
 -- those that a buffer takes, of which so many bytes are used
 part_alike : (room used end at : ℕ) (n : Tally) (xs xs' : List Sent) → SameBut xs xs' → (s s' : State) → Twins s s'
