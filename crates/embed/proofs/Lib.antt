@@ -3,3 +3,4 @@ pub mod Forms
 pub mod ImageLaws
 pub mod LentLaws
 pub mod PlaceLaws
+pub mod FigureLaws

@@ -7,7 +7,7 @@ use lib.Dec.{ltb}
 use borrow.Author.Tests.{ltb-true, leb-true}
 use Rattle.tables.specs.declared.Page.{Page}
 use Rattle.tables.specs.declared.Tables.{Tables}
-use Rattle.tables.specs.Model.{frames}
+use Rattle.tables.specs.Model.{frames, page_at}
 use Rattle.tables.specs.Rules.{sound}
 use Rattle.tables.proofs.ListLaws.{and_left, and_right}
 use Rattle.tables.proofs.RuleLaws.{sound_of, few_frames}
@@ -16,7 +16,7 @@ use Rattle.steps.specs.declared.Work.{Work}
 use Rattle.steps.specs.declared.Work.TheVariants.{Shows, Lays}
 use Rattle.steps.specs.declared.Show.{Show}
 use Rattle.steps.specs.declared.Show.TheVariants as Show
-use Rattle.steps.specs.Steps.{Outcome, refuse, accept, Plan, rules_number, decide_any}
+use Rattle.steps.specs.Steps.{page_for, Outcome, refuse, accept, Plan, rules_number, decide_any}
 use Rattle.steps.specs.Effects.{frame_place, no_place, shown_at, work_at, place_of, read_place}
 use Rattle.steps.specs.Promises.{show_within, work_within}
 use Rattle.steps.proofs.DecideLaws.{IfAccepted, if_accepted, past_number, then_keeps, as_listed, PlanOk, decide_ok}
@@ -63,4 +63,4 @@ module _ (t : Tables) (fast slow : ℕ) (c : Call) where
       go (refuse n) k = nowhere_small
       go (accept plan) (if_accepted u) =
           let s = sound_of t u.0 in
-          work_small t.shared.p (frames t) plan.len _ plan.work (omega (arith, few_frames s)) u.1.inside
+          work_small t.shared.p (frames t) plan.len (page_at t (page_for c)) plan.work (omega (arith, few_frames s)) u.1.inside

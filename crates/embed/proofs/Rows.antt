@@ -38,7 +38,7 @@ module _ {A : Type 0} where
   pub sets_then : (l : List A) (i : ℕ) (xs : List A) (k : ℕ) (ys : List A) → k ≡ i + length xs
       → sets (sets l i xs) k ys ≡ sets l i (xs ++ ys)
   sets_then l i [] k ys e = let z : k ≡ i = omega arith in rw z
-  sets_then l i (x ∷ xs) k ys e = sets_then _ (suc i) xs k ys (omega arith)
+  sets_then l i (x ∷ xs) k ys e = sets_then (set l i x) (suc i) xs k ys (omega arith)
 
   -- a list as long as what it is laid over
   pub sets_whole : (l vs : List A) → length vs ≡ length l → sets l 0 vs ≡ vs

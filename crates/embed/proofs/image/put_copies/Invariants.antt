@@ -1,0 +1,16 @@
+-- `put_copies`. The entries before i are laid.
+use Prim.Native.Nat.{◌≤◌, ◌-◌}
+use mathlib.Core.Path.{◌≡◌, refl}
+use native.Mathlib.Omega.{arith}
+use lib.ListN.{length}
+use borrow.Author.Rules.{rules}
+use Rattle.tables.specs.Model.{zero_copy}
+use Rattle.embed.specs.Bytes.{copy_bytes}
+use Rattle.embed.proofs.Rows.{Laid, laid_none, laid_more, laid_all, laid_far}
+use Rattle.embed.proofs.image.put_copies.Given as goal
+
+abbrev pub invariant-loop-i : goal.invariant-loop-i
+invariant-loop-i l = (l.i ≤ 8) × (length l.bytes ≡ length l.initial.bytes) × Laid 3 copy_bytes l.copies l.at l.initial.bytes l.bytes l.i
+
+abbrev pub decreases-loop-i : goal.decreases-loop-i
+decreases-loop-i l = 8 - l.i

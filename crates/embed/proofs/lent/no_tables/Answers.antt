@@ -1,0 +1,8 @@
+-- `no_tables`: fresh tables with another P.
+use borrow.Author.Rules.{rules}
+use Rattle.tables.specs.Model.{fresh_tables}
+use Rattle.embed.proofs.lent.no_tables.Goals as goal
+
+pub returns : goal.returns
+unfolding fresh_tables
+returns c = rw c.fresh-made.ensures
