@@ -266,11 +266,11 @@ module _ (room q : ℕ) (wide : 70 ≤ room) (near : q < 64) where
     one : was.n ≡ 1
     one = let d = page_stands_lem good q near some in (copy_at_lem d 0 d.some).lone null
 
-    is_free : is_free (registered s.tables f) ≡ true
-    is_free = sym (registered_free s.tables f good.tables_sound low) ∙ spare
+    frame_free : is_free (registered s.tables f) ≡ true
+    frame_free = sym (registered_free s.tables f good.tables_sound low) ∙ spare
 
     not_retired : is_retired (registered s.tables f) ≡ false
-    not_retired = ap (λ (n : ℕ). eqb n 2) (eqb-true (get_or (shown (registered s.tables f)) 0 0) 0 is_free)
+    not_retired = ap (λ (n : ℕ). eqb n 2) (eqb-true (get_or (shown (registered s.tables f)) 0 0) 0 frame_free)
 
     make_decided : (size : ℕ)
         → decide s.tables (call_of MakeCopy (q ∷ 0 ∷ f ∷ [])) size
@@ -286,7 +286,7 @@ module _ (room q : ℕ) (wide : 70 ≤ room) (near : q < 64) where
           lt-leb
               (frames s.tables) f low,
           not_retired,
-          is_free,
+          frame_free,
         )
 
     make_leaves : page_at (left_by room s (whole make_message)).tables q ≡ changed was (Placed f)

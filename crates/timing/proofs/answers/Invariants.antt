@@ -1,0 +1,18 @@
+-- `answers` meets its contract: the rest of the run gives what the whole run does. The measure is what is left of the
+-- file.
+use Prim.Native.Nat.{◌-◌}
+use mathlib.Core.Path.{refl, sym, ◌∙◌}
+use native.Mathlib.Omega.{arith}
+use lib.ListN.{length}
+use borrow.Author.Rules.{rules}
+use Rattle.steps.specs.Promises.{state_of}
+use Rattle.messages.proofs.ReaderLaws.{message_at}
+use Rattle.timing.proofs.RestLaws.{rest_all}
+use Rattle.timing.proofs.AnswerLaws.{Going, going_on, going_cut, going_none}
+use Rattle.timing.proofs.answers.Given as goal
+
+abbrev pub invariant-loop-next : goal.invariant-loop-next
+invariant-loop-next l = Going (state_of l.initial.tables l.initial.fast l.initial.slow) l.file l.initial.out l.initial.tally l.at (state_of l.tables l.fast l.slow) l.out l.tally
+
+abbrev pub decreases-loop-next : goal.decreases-loop-next
+decreases-loop-next l = length l.file - l.at
