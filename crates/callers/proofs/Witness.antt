@@ -16,7 +16,7 @@ use Rattle.steps.specs.Stores.{block, zeros}
 use Rattle.steps.specs.Effects.{State, joined}
 use Rattle.steps.specs.Promises.{state_of}
 use Rattle.messages.specs.Run.{Sent, whole, answer, Turn, turns_of, end_of, Run, replies}
-use Rattle.theorems.specs.Flat.{none, react_as, react_to}
+use Rattle.theorems.specs.Flat.{react_as, react_to}
 use Rattle.theorems.specs.Demand1.{TurnObeys, RunObeys}
 use Rattle.theorems.specs.Demand3.{flat_after, flat_end, flat_answers, run_answers, dues, AgreesOn}
 use Rattle.theorems.specs.Clean.{ever_held, Cleared}

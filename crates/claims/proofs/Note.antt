@@ -11,7 +11,6 @@ use lib.Dec.{leb, ltb, eqb}
 use borrow.Author.Tests.{eqb-true, eqb-false, eq-eqb, leb-true, ltb-true, ltb-false}
 use Rattle.tables.specs.declared.Copy.{Copy}
 use Rattle.tables.specs.declared.Page.{Page}
-use Rattle.tables.specs.Lists.{count}
 use Rattle.tables.specs.Model.{frames, is_null, copies_in_use, absent, zero_copy, page_at, fresh_tables}
 use Rattle.tables.specs.Numbers.{accepted, short_buffer}
 use Rattle.tables.specs.Rules.{is_current, is_recent, at_most}

@@ -1,11 +1,9 @@
 -- Figures laid into lent numbers: the two before the counts, and then a count a turn.
-use Prim.Native.Nat.{ℕ, suc, ◌+◌, ◌-◌, ◌≤◌, ◌<◌}
+use Prim.Native.Nat.{ℕ, suc, ◌+◌, ◌≤◌, ◌<◌}
 use mathlib.Core.List.{List, [], ◌∷◌}
 use mathlib.Core.Path.{◌≡◌, refl, sym, ap, ◌∙◌}
 use native.Mathlib.Omega.{arith}
 use lib.ListN.{length, get_or, set, take, length-set, take-append-drop}
-use borrow.Author.Tests.{eq-eqb, ne_eqb}
-use borrow.Author.Rules.{rules}
 use Rattle.tables.proofs.Filling.{filled, fill_start, fill_more, fill_end}
 use Rattle.messages.specs.declared.Figures.{Figures}
 use Rattle.embed.specs.Exports.{figures_size, figure_numbers}
@@ -53,6 +51,7 @@ module _ (f : Figures) (full : length f.counts ≡ 32) (l₀ : List ℕ) where
             (ap (λ (k : ℕ). get_or b k 0) at)
             ∙ ap (filled b l₀) next;
       }
+
   pub end : (l : List ℕ) (n : ℕ) → Going f l₀ l n → 32 ≤ n → l ≡ figure_numbers f
   end l n g h =
       let e : 2 + n ≡ figures_size = omega (arith, g.low) in

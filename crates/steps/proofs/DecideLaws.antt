@@ -34,12 +34,10 @@ use Rattle.steps.specs.declared.Kind.TheVariants.{Create, DeletePage, Grant, Rea
 use Rattle.steps.specs.declared.Data.{Data}
 use Rattle.steps.specs.declared.Data.TheVariants.{Empty}
 use Rattle.steps.specs.declared.Act.{Act}
-use Rattle.steps.specs.declared.Act.TheVariants as Act
 use Rattle.steps.specs.declared.Call.{Call}
 use Rattle.steps.specs.declared.Lay.{Lay}
 use Rattle.steps.specs.declared.Lay.TheVariants.{Nothing, Zeros, ZerosEach, Duplicate, Spread}
 use Rattle.steps.specs.declared.Show.{Show}
-use Rattle.steps.specs.declared.Show.TheVariants as Show
 use Rattle.steps.specs.declared.Work.{Work}
 use Rattle.steps.specs.declared.Work.TheVariants.{Shows, Lays}
 use Rattle.steps.specs.Kinds.{offset, bytes, frame, names, tells, is_read, is_retire, code, among, has, least_length}

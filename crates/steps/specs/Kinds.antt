@@ -4,7 +4,6 @@ use Rattle.std.specs.Prelude.{ℕ, ◌+◌, ◌-◌, Bool, false, ◌||◌, cond
 use Rattle.steps.specs.declared.Kind.{Kind}
 use Rattle.steps.specs.declared.Kind.TheVariants.{Create, DeletePage, Grant, Read, Write, MakeCopy, DeleteCopy, SetCurrent, RemoveCurrent, LookPage, LookFrame, Retire}
 use Rattle.steps.specs.declared.Data.{Data}
-use Rattle.steps.specs.declared.Data.TheVariants as Data
 use Rattle.steps.specs.declared.Call.{Call}
 
 -- what a call may name; `other` is the other station of a grant, and `bytes` are a write's

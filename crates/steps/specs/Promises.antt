@@ -15,7 +15,6 @@ use Rattle.steps.specs.declared.Form.{Form}
 use Rattle.steps.specs.declared.Lay.{Lay}
 use Rattle.steps.specs.declared.Lay.TheVariants.{Nothing, Zeros, ZerosEach, Duplicate, Spread}
 use Rattle.steps.specs.declared.Show.{Show}
-use Rattle.steps.specs.declared.Show.TheVariants as Show
 use Rattle.steps.specs.declared.Work.{Work}
 use Rattle.steps.specs.declared.Work.TheVariants.{Shows, Lays}
 use Rattle.steps.specs.declared.Decision.{Decision}

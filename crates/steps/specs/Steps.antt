@@ -17,13 +17,11 @@ use Rattle.tables.specs.Register.{registered}
 use Rattle.steps.specs.declared.Kind.{Kind}
 use Rattle.steps.specs.declared.Kind.TheVariants.{Create, DeletePage, Grant, Read, Write, MakeCopy, DeleteCopy, SetCurrent, RemoveCurrent, LookPage, LookFrame, Retire}
 use Rattle.steps.specs.declared.Act.{Act}
-use Rattle.steps.specs.declared.Act.TheVariants as Act
 use Rattle.steps.specs.declared.Call.{Call}
 use Rattle.steps.specs.declared.View.{View}
 use Rattle.steps.specs.declared.Lay.{Lay}
 use Rattle.steps.specs.declared.Lay.TheVariants.{Nothing, Zeros, ZerosEach, Duplicate, Spread}
 use Rattle.steps.specs.declared.Show.{Show}
-use Rattle.steps.specs.declared.Show.TheVariants as Show
 use Rattle.steps.specs.declared.Work.{Work}
 use Rattle.steps.specs.declared.Work.TheVariants.{Shows, Lays}
 use Rattle.steps.specs.Calls.{outside}

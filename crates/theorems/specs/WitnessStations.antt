@@ -16,7 +16,6 @@ use Rattle.messages.specs.Messages.{is_foreign, parse, write_bytes, next_at}
 use Rattle.messages.specs.Replies.{reply_in}
 use Rattle.messages.specs.Run.{cut, whole, answer}
 use Rattle.stations.specs.declared.Reading.{Reading}
-use Rattle.stations.specs.declared.Reading.TheVariants as Reading
 use Rattle.stations.specs.Writer.{message_of, canonical, written, written_as}
 use Rattle.stations.specs.Reader.{is_reply, read_reply}
 use Rattle.stations.specs.Promises.{Wrote}

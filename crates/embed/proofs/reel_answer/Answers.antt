@@ -2,7 +2,6 @@
 use mathlib.Core.Path.{sym, ap, ◌∙◌}
 use native.Mathlib.Omega.{arith}
 use lib.ListN.{length}
-use borrow.Author.Rules.{rules}
 use Rattle.tables.proofs.ListLaws.{and_left}
 use Rattle.steps.specs.Effects.{State}
 use Rattle.steps.specs.Promises.{state_of}

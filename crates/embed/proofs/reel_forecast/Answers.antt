@@ -1,6 +1,5 @@
 -- `reel_forecast` gives the number, and lays the figures, of the forecast on the tables in the lent bytes.
 use mathlib.Core.Path.{ap, ◌∙◌}
-use borrow.Author.Rules.{rules}
 use Rattle.messages.specs.declared.Figures.{Figures}
 use Rattle.embed.proofs.reel_forecast.Goals as goal
 

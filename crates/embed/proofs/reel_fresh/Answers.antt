@@ -1,7 +1,6 @@
 -- `reel_fresh` makes fresh tables and lays them.
 use mathlib.Core.Path.{◌∙◌}
 use borrow.Author.Tests.{eq-eqb, ne_eqb}
-use borrow.Author.Rules.{rules}
 use Rattle.embed.proofs.reel_fresh.Goals as goal
 
 pub returns-then-tables-ne-TABLES_SIZE : goal.returns-then-tables-ne-TABLES_SIZE

@@ -1,6 +1,5 @@
 -- `reel_read` finds the place of a read on the tables in the lent bytes; it goes into one number.
 use mathlib.Core.Path.{◌∙◌}
-use borrow.Author.Rules.{rules}
 use Rattle.steps.specs.Effects.{read_call}
 use Rattle.embed.proofs.PlaceLaws.{read_small}
 use Rattle.embed.proofs.reel_read.Goals as goal

@@ -9,7 +9,6 @@ use Rattle.stations.specs.Reader.{read_reply}
 use Rattle.stations.proofs.ReaderLaws.{read_within}
 use Rattle.embed.specs.Exports.{reading_number}
 use Rattle.embed.specs.Private.{Low}
-use borrow.Author.Rules.{rules}
 use Rattle.embed.proofs.reel_read_reply.Goals as goal
 
 low : (kind : ℕ) (l : List ℕ) (r : Reading) → read_reply kind l ≡ r → Low r

@@ -1,6 +1,5 @@
 -- `reel_rules` tests the tables in the lent bytes.
 use mathlib.Core.Path.{◌∙◌}
-use borrow.Author.Rules.{rules}
 use Rattle.embed.proofs.reel_rules.Goals as goal
 
 pub returns : goal.returns

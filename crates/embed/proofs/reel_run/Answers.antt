@@ -1,6 +1,5 @@
 -- `reel_run` runs on the tables in the lent bytes, and puts the tally back, and the tables where they moved.
 use mathlib.Core.Path.{sym, ap, ◌∙◌}
-use borrow.Author.Rules.{rules}
 use Rattle.tables.proofs.ListLaws.{and_left}
 use Rattle.steps.specs.Effects.{State}
 use Rattle.messages.proofs.PartLaws.{unmoved_end}

@@ -1,7 +1,6 @@
 -- `reel_write` meets its contract: a message has 71 bytes at the most.
 use native.Mathlib.Omega.{arith}
 use Rattle.stations.proofs.WriterLaws.{wrote_short}
-use borrow.Author.Rules.{rules}
 use Rattle.embed.proofs.reel_write.Goals as goal
 
 pub packed-requires : goal.packed-requires

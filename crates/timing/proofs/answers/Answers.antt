@@ -1,14 +1,10 @@
 -- `answers` meets its contract: the rest of the run gives what the whole run does. The measure is what is left of the
 -- file.
-use Prim.Native.Nat.{◌-◌}
 use mathlib.Core.Path.{refl, sym, ◌∙◌}
 use native.Mathlib.Omega.{arith}
-use lib.ListN.{length}
-use borrow.Author.Rules.{rules}
-use Rattle.steps.specs.Promises.{state_of}
 use Rattle.messages.proofs.ReaderLaws.{message_at}
 use Rattle.timing.proofs.RestLaws.{rest_all}
-use Rattle.timing.proofs.AnswerLaws.{Going, going_on, going_cut, going_none}
+use Rattle.timing.proofs.AnswerLaws.{going_on, going_cut, going_none}
 use Rattle.timing.proofs.answers.Goals as goal
 
 pub loop-next-init : goal.loop-next-init

@@ -1,6 +1,5 @@
 -- `reel_answers` answers on the tables in the lent bytes, and puts them back.
 use mathlib.Core.Path.{ap, ◌∙◌}
-use borrow.Author.Rules.{rules}
 use Rattle.steps.specs.Effects.{State}
 use Rattle.messages.specs.declared.Tally.{Tally}
 use Rattle.timing.proofs.reel_answers.Goals as goal

@@ -2,7 +2,6 @@
 use mathlib.Core.Path.{◌∙◌}
 use native.Mathlib.Omega.{arith}
 use lib.ListN.{length}
-use borrow.Author.Rules.{rules}
 use Rattle.steps.specs.Effects.{read_call}
 use Rattle.embed.proofs.PlaceLaws.{read_small}
 use Rattle.timing.proofs.reel_read_first.Goals as goal

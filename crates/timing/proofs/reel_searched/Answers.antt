@@ -1,6 +1,5 @@
 -- `reel_searched` shows what the search of the tables in the lent bytes finds.
 use mathlib.Core.Path.{ap, ◌∙◌}
-use borrow.Author.Rules.{rules}
 use Rattle.tables.specs.declared.Tables.{Tables}
 use Rattle.tables.specs.Search.{shown, holder_of}
 use Rattle.timing.specs.Timed.{shown_number}

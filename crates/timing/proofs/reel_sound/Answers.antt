@@ -1,10 +1,7 @@
 -- `reel_sound` counts the tests that hold.
-use Prim.Native.Nat.{◌-◌}
 use mathlib.Core.Path.{◌≡◌, ◌∙◌}
-use mathlib.Core.Logic.{⊎_elim}
 use native.Mathlib.Omega.{arith}
-use borrow.Author.Rules.{rules}
-use Rattle.timing.proofs.SoundLaws.{Tested, tested_none, tested_on}
+use Rattle.timing.proofs.SoundLaws.{tested_none, tested_on}
 use Rattle.timing.proofs.reel_sound.Goals as goal
 use Rattle.timing.proofs.reel_sound.Goals.{then-sound, else-sound}
 
@@ -15,7 +12,7 @@ pub loop-i-preserved : goal.loop-i-preserved
 loop-i-preserved c =
     tested_on c.loop-i.invariant _ _ (omega arith) c.sound.ensures
     (elim c.if-sound.branch [
-      then-sound w ↦ w.held-is ∙ rw w.if-sound.true
+      | then-sound w ↦ w.held-is ∙ rw w.if-sound.true
       | else-sound w ↦ w.held-is ∙ rw w.if-sound.false (omega arith)
     ])
 

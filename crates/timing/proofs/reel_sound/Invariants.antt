@@ -1,10 +1,6 @@
 -- `reel_sound` counts the tests that hold.
 use Prim.Native.Nat.{◌-◌}
-use mathlib.Core.Path.{◌≡◌, ◌∙◌}
-use mathlib.Core.Logic.{⊎_elim}
-use native.Mathlib.Omega.{arith}
-use borrow.Author.Rules.{rules}
-use Rattle.timing.proofs.SoundLaws.{Tested, tested_none, tested_on}
+use Rattle.timing.proofs.SoundLaws.{Tested}
 use Rattle.timing.proofs.reel_sound.Given as goal
 
 abbrev pub invariant-loop-i : goal.invariant-loop-i

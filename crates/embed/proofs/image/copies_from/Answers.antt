@@ -1,13 +1,9 @@
 -- `copies_from`. The entries before i are read.
-use Prim.Native.Nat.{◌-◌}
 use mathlib.Core.Path.{refl}
 use native.Mathlib.Omega.{arith}
-use lib.ListN.{drop}
 use lib.Seq.{drop-drop}
-use borrow.Author.Rules.{rules}
 use Rattle.tables.specs.Model.{zero_copy}
-use Rattle.embed.specs.Bytes.{copy_from}
-use Rattle.embed.proofs.Rows.{Read, read_none, read_more, read_all}
+use Rattle.embed.proofs.Rows.{read_none, read_more, read_all}
 use Rattle.embed.proofs.image.copies_from.Goals as goal
 
 pub loop-i-init : goal.loop-i-init

@@ -1,6 +1,5 @@
 -- `copy_marks_valid` tests the two marks of an entry.
 use lib.Seq.{get_or-drop}
-use borrow.Author.Rules.{rules}
 use Rattle.embed.proofs.image.copy_marks_valid.Goals as goal
 
 pub returns : goal.returns

@@ -1,13 +1,7 @@
 -- `marks_valid`. The pages from i on give the answer.
 use Prim.Native.Nat.{◌*◌, ◌-◌, ◌≤◌}
-use mathlib.Core.Bool.{true, false}
-use mathlib.Core.Path.{◌≡◌, refl, sym, ◌∙◌}
-use native.Mathlib.Omega.{arith}
+use mathlib.Core.Path.{◌≡◌}
 use lib.ListN.{drop}
-use lib.Seq.{drop-drop}
-use borrow.Author.Tests.{not-true, not-false}
-use borrow.Author.Rules.{rules}
-use Rattle.steps.proofs.DataLaws.{each_next}
 use Rattle.steps.specs.Data.{each_is}
 use Rattle.embed.specs.Bytes.{page_size, page_marks_valid, marks_valid}
 use Rattle.embed.proofs.image.marks_valid.Given as goal

@@ -1,13 +1,11 @@
 -- `numbers_from`. The numbers before i are read.
-use Prim.Native.Nat.{◌+◌, ◌-◌, ◌*◌}
-use mathlib.Core.Path.{◌≡◌, refl}
+use Prim.Native.Nat.{◌+◌, ◌*◌}
+use mathlib.Core.Path.{refl}
 use native.Mathlib.Nat.{add-zero}
 use native.Mathlib.Omega.{arith}
-use lib.ListN.{length, drop, length-set}
+use lib.ListN.{length-set}
 use lib.Seq.{drop-drop, get_or-drop}
-use borrow.Author.Rules.{rules}
-use Rattle.embed.specs.Bytes.{entry_from}
-use Rattle.embed.proofs.Rows.{Read, read_none, read_more, read_all}
+use Rattle.embed.proofs.Rows.{read_none, read_more, read_all}
 use Rattle.embed.proofs.image.numbers_from.Goals as goal
 
 pub loop-i-init : goal.loop-i-init

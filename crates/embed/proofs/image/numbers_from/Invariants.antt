@@ -1,13 +1,9 @@
 -- `numbers_from`. The numbers before i are read.
-use Prim.Native.Nat.{◌+◌, ◌-◌, ◌*◌}
-use mathlib.Core.Path.{◌≡◌, refl}
-use native.Mathlib.Nat.{add-zero}
-use native.Mathlib.Omega.{arith}
-use lib.ListN.{length, drop, length-set}
-use lib.Seq.{drop-drop, get_or-drop}
-use borrow.Author.Rules.{rules}
+use Prim.Native.Nat.{◌-◌}
+use mathlib.Core.Path.{◌≡◌}
+use lib.ListN.{length, drop}
 use Rattle.embed.specs.Bytes.{entry_from}
-use Rattle.embed.proofs.Rows.{Read, read_none, read_more, read_all}
+use Rattle.embed.proofs.Rows.{Read}
 use Rattle.embed.proofs.image.numbers_from.Given as goal
 
 abbrev pub invariant-loop-i : goal.invariant-loop-i

@@ -1,7 +1,6 @@
 -- `page_from` reads a page.
 use mathlib.Core.Path.{refl}
 use lib.Seq.{get_or-drop, drop-drop}
-use borrow.Author.Rules.{rules}
 use Rattle.embed.specs.Bytes.{page_from}
 use Rattle.embed.proofs.image.page_from.Goals as goal
 

@@ -1,6 +1,6 @@
 -- `page_marks_valid`. What is found so far and the entries from i on give the answer.
-use Prim.Native.Nat.{◌+◌, ◌*◌, ◌-◌, ◌≤◌}
-use mathlib.Core.Bool.{◌&&◌, and_assoc}
+use Prim.Native.Nat.{◌+◌, ◌*◌}
+use mathlib.Core.Bool.{and_assoc}
 use mathlib.Core.Path.{◌≡◌, sym, ◌∙◌}
 use native.Mathlib.Omega.{arith}
 use lib.ListN.{drop}

@@ -1,13 +1,8 @@
 -- `page_marks_valid`. What is found so far and the entries from i on give the answer.
 use Prim.Native.Nat.{◌+◌, ◌*◌, ◌-◌, ◌≤◌}
-use mathlib.Core.Bool.{◌&&◌, and_assoc}
-use mathlib.Core.Path.{◌≡◌, sym, ◌∙◌}
-use native.Mathlib.Omega.{arith}
+use mathlib.Core.Bool.{◌&&◌}
+use mathlib.Core.Path.{◌≡◌}
 use lib.ListN.{drop}
-use lib.Seq.{drop-drop}
-use borrow.Author.Rules.{rules}
-use Rattle.tables.proofs.ListLaws.{and-true}
-use Rattle.steps.proofs.DataLaws.{each_next}
 use Rattle.steps.specs.Data.{copy_marks_valid, each_is}
 use Rattle.embed.specs.Bytes.{page_marks_valid}
 use Rattle.embed.proofs.image.page_marks_valid.Given as goal

@@ -1,12 +1,10 @@
 -- `put_copies`. The entries before i are laid.
-use Prim.Native.Nat.{◌≤◌, ◌-◌}
 use mathlib.Core.Path.{◌≡◌, refl}
 use native.Mathlib.Omega.{arith}
 use lib.ListN.{length}
 use borrow.Author.Rules.{rules}
 use Rattle.tables.specs.Model.{zero_copy}
-use Rattle.embed.specs.Bytes.{copy_bytes}
-use Rattle.embed.proofs.Rows.{Laid, laid_none, laid_more, laid_all, laid_far}
+use Rattle.embed.proofs.Rows.{laid_none, laid_more, laid_all, laid_far}
 use Rattle.embed.proofs.image.put_copies.Goals as goal
 
 pub loop-i-init : goal.loop-i-init

@@ -4,7 +4,6 @@ use mathlib.Core.Path.{◌≡◌}
 use native.Mathlib.Numerals.{add-one}
 use native.Mathlib.Omega.{arith}
 use lib.ListN.{length-set}
-use borrow.Author.Rules.{rules}
 use Rattle.embed.proofs.image.put_copy.Goals as goal
 
 pub bounds-bytes-at-2 : goal.bounds-bytes-at-2

@@ -1,12 +1,11 @@
 -- `put_numbers`. The numbers before i are laid.
-use Prim.Native.Nat.{◌+◌, ◌-◌, ◌*◌, ◌/◌, ◌%◌}
+use Prim.Native.Nat.{◌+◌, ◌*◌, ◌/◌, ◌%◌}
 use mathlib.Core.Path.{◌≡◌, refl}
 use native.Mathlib.Numerals.{add-one}
 use native.Mathlib.Omega.{arith}
 use lib.ListN.{length, get_or, length-set}
 use borrow.Author.Rules.{rules}
-use Rattle.embed.specs.Bytes.{le16}
-use Rattle.embed.proofs.Rows.{Laid, laid_none, laid_more, laid_all, laid_far}
+use Rattle.embed.proofs.Rows.{laid_none, laid_more, laid_all, laid_far}
 use Rattle.embed.proofs.image.put_numbers.Goals as goal
 
 pub loop-i-init : goal.loop-i-init

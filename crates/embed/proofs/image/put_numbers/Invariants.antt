@@ -1,12 +1,9 @@
 -- `put_numbers`. The numbers before i are laid.
-use Prim.Native.Nat.{◌+◌, ◌-◌, ◌*◌, ◌/◌, ◌%◌}
-use mathlib.Core.Path.{◌≡◌, refl}
-use native.Mathlib.Numerals.{add-one}
-use native.Mathlib.Omega.{arith}
-use lib.ListN.{length, get_or, length-set}
-use borrow.Author.Rules.{rules}
+use Prim.Native.Nat.{◌-◌}
+use mathlib.Core.Path.{◌≡◌}
+use lib.ListN.{length}
 use Rattle.embed.specs.Bytes.{le16}
-use Rattle.embed.proofs.Rows.{Laid, laid_none, laid_more, laid_all, laid_far}
+use Rattle.embed.proofs.Rows.{Laid}
 use Rattle.embed.proofs.image.put_numbers.Given as goal
 
 abbrev pub invariant-loop-i : goal.invariant-loop-i

@@ -3,7 +3,7 @@ use Prim.Native.Nat.{ℕ, ◌+◌, suc}
 use mathlib.Core.List.{List, [], ◌∷◌, ◌++◌, flat_map}
 use mathlib.Core.Path.{◌≡◌, ◌∙◌}
 use native.Mathlib.Omega.{arith}
-use lib.ListN.{length, set, length-append, length-set}
+use lib.ListN.{length, set, length-append}
 use lib.Seq.{sets}
 use borrow.Author.Rules.{rules}
 use Rattle.embed.specs.Bytes.{copy_bytes, page_bytes}

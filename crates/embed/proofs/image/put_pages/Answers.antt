@@ -1,12 +1,10 @@
 -- `put_pages`. The pages before i are laid.
-use Prim.Native.Nat.{◌≤◌, ◌-◌}
 use mathlib.Core.Path.{◌≡◌, refl}
 use native.Mathlib.Omega.{arith}
 use lib.ListN.{length}
 use borrow.Author.Rules.{rules}
 use Rattle.tables.specs.Model.{zero_page}
-use Rattle.embed.specs.Bytes.{page_size, page_bytes}
-use Rattle.embed.proofs.Rows.{Laid, laid_none, laid_more, laid_all, laid_far}
+use Rattle.embed.proofs.Rows.{laid_none, laid_more, laid_all, laid_far}
 use Rattle.embed.proofs.image.put_pages.Goals as goal
 
 pub loop-i-init : goal.loop-i-init

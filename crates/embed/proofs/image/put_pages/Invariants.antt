@@ -1,12 +1,9 @@
 -- `put_pages`. The pages before i are laid.
 use Prim.Native.Nat.{◌≤◌, ◌-◌}
-use mathlib.Core.Path.{◌≡◌, refl}
-use native.Mathlib.Omega.{arith}
+use mathlib.Core.Path.{◌≡◌}
 use lib.ListN.{length}
-use borrow.Author.Rules.{rules}
-use Rattle.tables.specs.Model.{zero_page}
 use Rattle.embed.specs.Bytes.{page_size, page_bytes}
-use Rattle.embed.proofs.Rows.{Laid, laid_none, laid_more, laid_all, laid_far}
+use Rattle.embed.proofs.Rows.{Laid}
 use Rattle.embed.proofs.image.put_pages.Given as goal
 
 abbrev pub invariant-loop-i : goal.invariant-loop-i

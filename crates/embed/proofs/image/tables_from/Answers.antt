@@ -1,5 +1,4 @@
 -- `tables_from` reads the tables, part by part.
-use borrow.Author.Rules.{rules}
 use Rattle.embed.specs.Bytes.{tables_from}
 use Rattle.embed.proofs.image.tables_from.Goals as goal
 

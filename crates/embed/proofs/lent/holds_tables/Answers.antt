@@ -1,6 +1,5 @@
 -- `holds_tables` tests the length, and then the marks.
 use borrow.Author.Tests.{eq-eqb, ne_eqb}
-use borrow.Author.Rules.{rules}
 use Rattle.embed.proofs.lent.holds_tables.Goals as goal
 
 pub returns-then-bytes-eq-TABLES_SIZE : goal.returns-then-bytes-eq-TABLES_SIZE

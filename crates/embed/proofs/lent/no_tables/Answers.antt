@@ -1,5 +1,4 @@
 -- `no_tables`: fresh tables with another P.
-use borrow.Author.Rules.{rules}
 use Rattle.tables.specs.Model.{fresh_tables}
 use Rattle.embed.proofs.lent.no_tables.Goals as goal
 

@@ -1,6 +1,5 @@
 -- `place_number` puts a place into one number.
 use native.Mathlib.Omega.{arith}
-use borrow.Author.Rules.{rules}
 use Rattle.tables.proofs.ListLaws.{bit_le}
 use Rattle.embed.proofs.lent.place_number.Goals as goal
 

@@ -1,6 +1,5 @@
 -- `put_back` lays tables into lent bytes that hold tables.
 use mathlib.Core.Path.{sym, ◌∙◌}
-use borrow.Author.Rules.{rules}
 use Rattle.embed.proofs.ImageLaws.{in_sized}
 use Rattle.embed.proofs.lent.put_back.Goals as goal
 

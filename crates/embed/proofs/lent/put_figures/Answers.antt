@@ -1,14 +1,8 @@
 -- `put_figures` lays the figures into lent numbers, however many. The counts of the numbers before n are laid.
-use Prim.Native.Nat.{ℕ, suc, ◌+◌, ◌-◌, ◌≤◌, ◌<◌}
-use mathlib.Core.List.{List, [], ◌∷◌}
-use mathlib.Core.Path.{◌≡◌, refl, sym, ap, ◌∙◌}
-use native.Mathlib.Omega.{arith}
-use lib.ListN.{length, get_or, set, take, length-set, take-append-drop}
+use mathlib.Core.Path.{◌≡◌}
+use lib.ListN.{length}
 use borrow.Author.Tests.{eq-eqb, ne_eqb}
 use borrow.Author.Rules.{rules}
-use Rattle.tables.proofs.Filling.{filled, fill_start, fill_more, fill_end}
-use Rattle.messages.specs.declared.Figures.{Figures}
-use Rattle.embed.specs.Exports.{figures_size, figure_numbers}
 use Rattle.embed.proofs.FigureLaws.{begin, more, end}
 use Rattle.embed.proofs.lent.put_figures.Goals as goal
 

@@ -2,7 +2,6 @@
 use mathlib.Core.List.{[], ◌∷◌}
 use mathlib.Core.Path.{sym}
 use borrow.Author.Tests.{eq-eqb, ne_eqb}
-use borrow.Author.Rules.{rules}
 use Rattle.embed.proofs.Rows.{sets_whole}
 use Rattle.embed.proofs.lent.put_tally.Goals as goal
 

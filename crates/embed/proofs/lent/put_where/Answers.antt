@@ -1,5 +1,4 @@
 -- `put_where` lays tables where they are wanted.
-use borrow.Author.Rules.{rules}
 use Rattle.embed.proofs.lent.put_where.Goals as goal
 
 pub put_tables-requires : goal.put_tables-requires

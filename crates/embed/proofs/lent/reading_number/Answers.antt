@@ -4,31 +4,30 @@ use mathlib.Core.Path.{sym, ap, subst}
 use native.Mathlib.Omega.{arith}
 use Rattle.embed.specs.Exports.{reading_number}
 use Rattle.embed.specs.Private.{Low}
-use borrow.Author.Rules.{rules}
 use Rattle.embed.proofs.lent.reading_number.Goals as goal
 
 pub overflow_mul-result-in-Reply-2 : goal.overflow_mul-result-in-Reply-2
 overflow_mul-result-in-Reply-2 c =
     let low : ((c.in-Reply.start < 256) × (c.in-Reply.len < 256)) =
-        (subst Low c.in-Reply.is c.requires) in
+    (subst Low c.in-Reply.is c.requires) in
     omega (arith, (low).0)
 
 pub overflow_add-result-in-Reply : goal.overflow_add-result-in-Reply
 overflow_add-result-in-Reply c =
     let low : ((c.in-Reply.start < 256) × (c.in-Reply.len < 256)) =
-        (subst Low c.in-Reply.is c.requires) in
+    (subst Low c.in-Reply.is c.requires) in
     omega (arith, (low).0)
 
 pub overflow_mul-result-in-Reply-3 : goal.overflow_mul-result-in-Reply-3
 overflow_mul-result-in-Reply-3 c =
     let low : ((c.in-Reply.start < 256) × (c.in-Reply.len < 256)) =
-        (subst Low c.in-Reply.is c.requires) in
+    (subst Low c.in-Reply.is c.requires) in
     omega (arith, (low).1)
 
 pub overflow_add-result-in-Reply-2 : goal.overflow_add-result-in-Reply-2
 overflow_add-result-in-Reply-2 c =
     let low : ((c.in-Reply.start < 256) × (c.in-Reply.len < 256)) =
-        (subst Low c.in-Reply.is c.requires) in
+    (subst Low c.in-Reply.is c.requires) in
     omega (arith, (low).0, (low).1)
 
 pub returns-in-Reply : goal.returns-in-Reply

@@ -1,7 +1,6 @@
 -- `tables_where` reads tables where the bytes hold them.
 use mathlib.Core.Bool.{true}
 use mathlib.Core.Path.{◌≡◌, sym, ◌∙◌}
-use borrow.Author.Rules.{rules}
 use Rattle.embed.specs.Exports.{tables_in}
 use Rattle.embed.proofs.ImageLaws.{in_sized}
 use Rattle.embed.proofs.lent.tables_where.Goals as goal

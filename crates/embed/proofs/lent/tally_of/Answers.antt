@@ -1,6 +1,5 @@
 -- `tally_of` reads lent numbers, however many.
 use borrow.Author.Tests.{eq-eqb, ne_eqb}
-use borrow.Author.Rules.{rules}
 use Rattle.embed.proofs.lent.tally_of.Goals as goal
 
 pub returns-then-numbers-eq3 : goal.returns-then-numbers-eq3

@@ -3,7 +3,6 @@ use mathlib.Core.Path.{◌≡◌, sym}
 use native.Mathlib.Omega.{arith}
 use lib.ListN.{length}
 use lib.Seq.{set_out}
-use borrow.Author.Rules.{rules}
 use Rattle.messages.proofs.forecasts.count_under.Goals as goal
 
 pub returns-then-n-lt-NUMBERS : goal.returns-then-n-lt-NUMBERS

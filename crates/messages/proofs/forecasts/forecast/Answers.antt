@@ -7,7 +7,6 @@ use Rattle.tables.specs.Numbers.{accepted, broken_tables}
 use Rattle.tables.specs.Rules.{frames_held, sound}
 use Rattle.steps.specs.declared.Held.{Held}
 use Rattle.steps.specs.Promises.{held_in}
-use borrow.Author.Rules.{rules}
 use Rattle.messages.proofs.forecasts.forecast.Goals as goal
 
 module _ (t : Tables) (h : Held) (is : h ≡ held_in t) where
@@ -18,14 +17,17 @@ module _ (t : Tables) (h : Held) (is : h ≡ held_in t) where
       by : (b : Bool) → sound t ≡ b → b ≡ false
       by true e = absurd (some (rw (is, e)))
       by false e = refl
+
   five : sound t ≡ false → h.number ≡ broken_tables
   five e = rw (is, e)
+
   keeps : h.number ≡ accepted → sound t ≡ true
   keeps none = by (sound t) (sym (ap (λ (r : Held). r.number) is) ∙ none)
     where
       by : (b : Bool) → cond b accepted broken_tables ≡ accepted → b ≡ true
       by true e = refl
       by false e = absurd (omega arith)
+
   frames_held_lem : sound t ≡ true → h.held ≡ frames_held t
   frames_held_lem e = rw (is, e)
 

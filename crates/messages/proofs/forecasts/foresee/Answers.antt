@@ -1,19 +1,14 @@
 -- `foresee` meets its contract. The loop's invariant is `Foreseeing`; the measure is what is left of the file.
-use Prim.Native.Nat.{ℕ, ◌-◌, ◌<◌}
+use Prim.Native.Nat.{ℕ}
 use mathlib.Core.Path.{◌≡◌, refl, sym, ap, ◌∙◌}
-use mathlib.Core.Bool.{false}
 use native.Mathlib.Omega.{arith}
-use lib.ListN.{length}
 use Rattle.tables.specs.Rules.{frames_held}
 use Rattle.steps.specs.Promises.{settled, held_after}
 use Rattle.steps.proofs.HeldLaws.{held_few}
-use Rattle.messages.specs.Run.{Sent, asked}
 use Rattle.messages.specs.Promises.{sent_by}
-use Rattle.messages.specs.Private.{is_end}
 use Rattle.messages.proofs.TurnLaws.{asked_by, bytes_by, unsettled}
 use Rattle.messages.proofs.RunLaws.{follows}
-use Rattle.messages.proofs.ForecastLaws.{none_more, Judged, foreseen_refused, judged, Foreseeing, foreseeing_all, foreseeing_on, foreseeing_none}
-use borrow.Author.Rules.{rules}
+use Rattle.messages.proofs.ForecastLaws.{none_more, foreseen_refused, judged, foreseeing_all, foreseeing_on, foreseeing_none}
 use Rattle.messages.proofs.forecasts.foresee.Goals as goal
 
 pub loop-tables-init : goal.loop-tables-init
@@ -32,13 +27,13 @@ bytes_in-m-requires c = record { at = c.loop-tables.at; found = c.message_at-nex
 pub overflow_cast-held : goal.overflow_cast-held
 overflow_cast-held c =
     let w = judged c.loop-tables.tables (sent_by c.args.file.now c.message_at-next.result) _
-            (asked_by _ _ c.message_at-next.result _ c.bytes_in-m.ensures c.asked_in.ensures)
-            c.loop-tables.invariant.keeps _ _ c.decide-d.result c.in-Asked.is
-            (c.write_bytes.ensures ∙ bytes_by _ _ c.message_at-next.result c.bytes_in-m.ensures) c.decide-d.ensures in
+    (asked_by _ _ c.message_at-next.result _ c.bytes_in-m.ensures c.asked_in.ensures)
+    c.loop-tables.invariant.keeps _ _ c.decide-d.result c.in-Asked.is
+    (c.write_bytes.ensures ∙ bytes_by _ _ c.message_at-next.result c.bytes_in-m.ensures) c.decide-d.ensures in
     let held : c.held_after-held.result ≡ frames_held (settled c.loop-tables.tables c.decide-d.result) =
-        c.held_after-held.ensures
-        ∙ ap (λ (n : ℕ). held_after n c.decide-d.result) c.loop-tables.invariant.counted
-        ∙ w.held c.if-d.true in
+    c.held_after-held.ensures
+    ∙ ap (λ (n : ℕ). held_after n c.decide-d.result) c.loop-tables.invariant.counted
+    ∙ w.held c.if-d.true in
     let t = settled c.loop-tables.tables c.decide-d.result in
     omega (arith, held, held_few t w.kept)
 
@@ -64,13 +59,13 @@ loop-tables-smaller-then-d c =
 pub loop-tables-preserved-then-d : goal.loop-tables-preserved-then-d
 loop-tables-preserved-then-d c =
     let w = judged c.loop-tables.tables (sent_by c.args.file.now c.message_at-next.result) _
-            (asked_by _ _ c.message_at-next.result _ c.bytes_in-m.ensures c.asked_in.ensures)
-            c.loop-tables.invariant.keeps _ _ c.decide-d.result c.in-Asked.is
-            (c.write_bytes.ensures ∙ bytes_by _ _ c.message_at-next.result c.bytes_in-m.ensures) c.decide-d.ensures in
+    (asked_by _ _ c.message_at-next.result _ c.bytes_in-m.ensures c.asked_in.ensures)
+    c.loop-tables.invariant.keeps _ _ c.decide-d.result c.in-Asked.is
+    (c.write_bytes.ensures ∙ bytes_by _ _ c.message_at-next.result c.bytes_in-m.ensures) c.decide-d.ensures in
     let held : c.held_after-held.result ≡ frames_held (settled c.loop-tables.tables c.decide-d.result) =
-        c.held_after-held.ensures
-        ∙ ap (λ (n : ℕ). held_after n c.decide-d.result) c.loop-tables.invariant.counted
-        ∙ w.held c.if-d.true in
+    c.held_after-held.ensures
+    ∙ ap (λ (n : ℕ). held_after n c.decide-d.result) c.loop-tables.invariant.counted
+    ∙ w.held c.if-d.true in
     let l = c.loop-tables in
     rw c.past-at.ensures
     (foreseeing_on l.invariant _ c.message_at-next.ensures.told _ _ _ _ _ _ (sym c.is_end.ensures ∙ c.if-is_end.false) w.comes
@@ -85,9 +80,9 @@ loop-tables-smaller c =
 pub loop-tables-preserved : goal.loop-tables-preserved
 loop-tables-preserved c =
     let w = judged c.loop-tables.tables (sent_by c.args.file.now c.message_at-next.result) _
-            (asked_by _ _ c.message_at-next.result _ c.bytes_in-m.ensures c.asked_in.ensures)
-            c.loop-tables.invariant.keeps _ _ c.decide-d.result c.in-Asked.is
-            (c.write_bytes.ensures ∙ bytes_by _ _ c.message_at-next.result c.bytes_in-m.ensures) c.decide-d.ensures in
+    (asked_by _ _ c.message_at-next.result _ c.bytes_in-m.ensures c.asked_in.ensures)
+    c.loop-tables.invariant.keeps _ _ c.decide-d.result c.in-Asked.is
+    (c.write_bytes.ensures ∙ bytes_by _ _ c.message_at-next.result c.bytes_in-m.ensures) c.decide-d.ensures in
     let l = c.loop-tables in
     rw c.past-at.ensures
     (foreseeing_on l.invariant _ c.message_at-next.ensures.told _ _ _ _ _ _ (sym c.is_end.ensures ∙ c.if-is_end.false) w.comes

@@ -1,7 +1,6 @@
 -- `parse` meets its contract: each way out decides the tests of `parse`.
 use borrow.Author.Tests.{eq-eqb, ne_eqb}
 use Rattle.messages.specs.Messages.{parse}
-use borrow.Author.Rules.{rules}
 use Rattle.messages.proofs.parse.parse.Goals as goal
 
 pub returns-then-n-eq0 : goal.returns-then-n-eq0

@@ -8,7 +8,6 @@ use Rattle.steps.specs.declared.Kind.{Kind}
 use Rattle.steps.specs.declared.Kind.TheVariants.{Create, DeletePage, Grant, Read, Write, MakeCopy, DeleteCopy, SetCurrent, RemoveCurrent, LookPage, LookFrame, Retire}
 use Rattle.steps.specs.Kinds.{names, code, argument, call_of}
 use Rattle.messages.specs.declared.Parsed.TheVariants.{Asked}
-use borrow.Author.Rules.{rules}
 use Rattle.messages.proofs.parse.parse_kind.Goals as goal
 
 -- a kind names four arguments at the most, and they stand behind the version and the kind

@@ -4,7 +4,6 @@ use mathlib.Core.Path.{sym}
 use native.Mathlib.Omega.{arith}
 use lib.ListN.{length, drop, length-drop, drop_of_length-le}
 use lib.Seq.{take_all}
-use borrow.Author.Rules.{rules}
 use Rattle.messages.proofs.parse.write_bytes.Goals as goal
 
 pub returns-then-n-lt5 : goal.returns-then-n-lt5

@@ -4,7 +4,6 @@ use Prim.Native.Nat.{◌+◌}
 use native.Mathlib.Omega.{arith}
 use lib.ListN.{length}
 use borrow.Author.Tests.{le-ltb, lt-ltb, le-leb, lt-leb}
-use borrow.Author.Rules.{rules}
 use Rattle.messages.specs.Messages.{length_at, next_at}
 use Rattle.messages.proofs.ReaderLaws.{yields_at}
 use Rattle.messages.proofs.reading.next_at.Goals as goal

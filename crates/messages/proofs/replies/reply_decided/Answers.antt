@@ -1,6 +1,5 @@
 -- `reply_decided` meets its contract: the data behind the first six bytes, and the heading before them.
 use Rattle.messages.proofs.ReplyLaws.{laid_reply}
-use borrow.Author.Rules.{rules}
 use Rattle.messages.proofs.replies.reply_decided.Goals as goal
 
 pub returns : goal.returns

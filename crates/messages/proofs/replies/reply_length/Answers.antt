@@ -1,6 +1,5 @@
 -- `reply_length` meets its contract.
 use borrow.Author.Tests.{lt-ltb, le-ltb}
-use borrow.Author.Rules.{rules}
 use Rattle.messages.proofs.replies.reply_length.Goals as goal
 
 pub returns-then-room-lt70 : goal.returns-then-room-lt70

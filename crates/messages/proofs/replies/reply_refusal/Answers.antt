@@ -1,7 +1,6 @@
 -- `reply_refusal` meets its contract: with room, the heading of a refusal.
 use borrow.Author.Tests.{lt-ltb, le-ltb}
 use Rattle.messages.specs.Replies.{reply}
-use borrow.Author.Rules.{rules}
 use Rattle.messages.proofs.replies.reply_refusal.Goals as goal
 
 pub returns-then-out-ge70 : goal.returns-then-out-ge70

@@ -1,5 +1,4 @@
 -- `counted_up` meets its contract.
-use borrow.Author.Rules.{rules}
 use Rattle.messages.proofs.tallies.counted_up.Goals as goal
 
 pub returns : goal.returns

@@ -1,6 +1,5 @@
 -- `up_to` meets its contract.
 use native.Mathlib.Omega.{arith}
-use borrow.Author.Rules.{rules}
 use Rattle.messages.specs.Replies.{up_to}
 use Rattle.messages.proofs.tallies.up_to.Goals as goal
 

@@ -1,5 +1,4 @@
 -- `asked_in` meets its contract.
-use borrow.Author.Rules.{rules}
 use Rattle.messages.proofs.turns.asked_in.Goals as goal
 
 pub returns-in-Message : goal.returns-in-Message

@@ -2,7 +2,6 @@
 use mathlib.Core.Path.{sym, ◌∙◌}
 use native.Mathlib.Omega.{arith}
 use Rattle.messages.proofs.ReaderLaws.{message_at, message_part}
-use borrow.Author.Rules.{rules}
 use Rattle.messages.proofs.turns.bytes_in.Goals as goal
 
 pub slice_bounds-result-count : goal.slice_bounds-result-count

@@ -4,7 +4,6 @@ use borrow.Author.Tests.{lt-ltb, le-ltb, ne_eqb}
 use Rattle.messages.specs.declared.Parsed.{Parsed}
 use Rattle.messages.specs.declared.Parsed.TheVariants.{Refused, Asked}
 use Rattle.messages.specs.Private.{unless_known}
-use borrow.Author.Rules.{rules}
 use Rattle.messages.proofs.turns.early.Goals as goal
 
 -- where nothing is known, all is left

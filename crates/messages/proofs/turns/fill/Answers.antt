@@ -1,5 +1,4 @@
 -- `fill` meets its contract.
-use borrow.Author.Rules.{rules}
 use Rattle.messages.proofs.PartLaws.{part_ended}
 use Rattle.messages.proofs.turns.fill.Goals as goal
 

@@ -1,5 +1,4 @@
 -- `run` meets its contract.
-use borrow.Author.Rules.{rules}
 use Rattle.messages.proofs.PartLaws.{run_ended}
 use Rattle.messages.proofs.turns.run.Goals as goal
 

@@ -1,6 +1,6 @@
 -- `serve` meets its contract. The loop's invariant, `Going`: the rest gives what the whole does, and the rules stand as
 -- they were tested. The measure is what is left of the file.
-use Prim.Native.Nat.{ℕ, ◌-◌, ◌≤◌, ◌<◌}
+use Prim.Native.Nat.{ℕ, ◌-◌, ◌≤◌}
 use mathlib.Core.Path.{◌≡◌, refl, sym, ap, ◌∙◌}
 use mathlib.Core.Bool.{Bool, true, false, ◌||◌, cond, or-true, or-false}
 use native.Mathlib.Omega.{arith}
@@ -11,9 +11,9 @@ use Rattle.steps.specs.Promises.{state_of}
 use Rattle.steps.proofs.StepLaws.{decide_ruled}
 use Rattle.messages.specs.Run.{asked, full}
 use Rattle.messages.specs.Promises.{sent_by}
-use Rattle.messages.specs.Private.{due_at, is_end, serving, ahead}
-use Rattle.messages.proofs.TurnLaws.{served_early, some_number, Decided, decided, unsettled, asked_by, bytes_by}
-use Rattle.messages.proofs.RunLaws.{Due, due, follows, Going, going_all, going_on, going_none}
+use Rattle.messages.specs.Private.{due_at, is_end, ahead}
+use Rattle.messages.proofs.TurnLaws.{served_early, some_number, decided, unsettled, asked_by, bytes_by}
+use Rattle.messages.proofs.RunLaws.{due, follows, going_all, going_on, going_none}
 use borrow.Author.Rules.{rules}
 use Rattle.messages.proofs.turns.serve.Goals as goal
 
@@ -41,15 +41,15 @@ loop-next-init c =
 pub returns-then-is_end : goal.returns-then-is_end
 returns-then-is_end c =
     let found : c.due_at-next.result ≡ due_at c.args.file.now c.loop-next.at (full (length c.args.out.now) c.loop-next.used) =
-        c.due_at-next.ensures
-        ∙ ap (λ (k : ℕ). due_at c.args.file.now c.loop-next.at (ltb k c.loop-next.used)) c.loop-next.invariant.1 in
+    c.due_at-next.ensures
+    ∙ ap (λ (k : ℕ). due_at c.args.file.now c.loop-next.at (ltb k c.loop-next.used)) c.loop-next.invariant.1 in
     record { all = going_none c.loop-next.invariant.0 _ found (sym c.is_end.ensures ∙ c.if-is_end.true) }
 
 pub bytes_in-m-requires : goal.bytes_in-m-requires
 bytes_in-m-requires c =
     let found : c.due_at-next.result ≡ due_at c.args.file.now c.loop-next.at (full (length c.args.out.now) c.loop-next.used) =
-        c.due_at-next.ensures
-        ∙ ap (λ (k : ℕ). due_at c.args.file.now c.loop-next.at (ltb k c.loop-next.used)) c.loop-next.invariant.1 in
+    c.due_at-next.ensures
+    ∙ ap (λ (k : ℕ). due_at c.args.file.now c.loop-next.at (ltb k c.loop-next.used)) c.loop-next.invariant.1 in
     let goes : is_end c.due_at-next.result ≡ false = sym c.is_end.ensures ∙ c.if-is_end.false in
     let here = due _ _ _ _ found goes in
     record { at = c.loop-next.at; found = here.found }
@@ -78,43 +78,43 @@ ahead-used-requires c =
 pub reply_decided-requires : goal.reply_decided-requires
 reply_decided-requires c =
     let asks : c.asked_in.result ≡ asked (sent_by c.args.file.now c.due_at-next.result) =
-        asked_by _ _ c.due_at-next.result _ c.bytes_in-m.ensures c.asked_in.ensures in
+    asked_by _ _ c.due_at-next.result _ c.bytes_in-m.ensures c.asked_in.ensures in
     let k = c.loop-next in
     let w = decided (state_of k.tables k.fast k.slow) (sent_by c.args.file.now c.due_at-next.result) _ _ _
-            (take (length k.out - k.used) (drop k.used k.out)) asks c.early.ensures _ _ c.decide-d.result c.in-Asked.is
-            (c.write_bytes-bytes.ensures ∙ bytes_by _ _ c.due_at-next.result c.bytes_in-m.ensures)
-            (λ z. rw (decide_ruled k.tables (length k.fast) (length k.slow) _ _ (sym k.invariant.0.rules ∙ z)) c.decide-d.ensures) in
+    (take (length k.out - k.used) (drop k.used k.out)) asks c.early.ensures _ _ c.decide-d.result c.in-Asked.is
+    (c.write_bytes-bytes.ensures ∙ bytes_by _ _ c.due_at-next.result c.bytes_in-m.ensures)
+    (λ z. rw (decide_ruled k.tables (length k.fast) (length k.slow) _ _ (sym k.invariant.0.rules ∙ z)) c.decide-d.ensures) in
     record { room = w.roomy; few = w.few }
 
 pub overflow_add-d : goal.overflow_add-d
 overflow_add-d c =
     let asks : c.asked_in.result ≡ asked (sent_by c.args.file.now c.due_at-next.result) =
-        asked_by _ _ c.due_at-next.result _ c.bytes_in-m.ensures c.asked_in.ensures in
+    asked_by _ _ c.due_at-next.result _ c.bytes_in-m.ensures c.asked_in.ensures in
     let k = c.loop-next in
     let w = decided (state_of k.tables k.fast k.slow) (sent_by c.args.file.now c.due_at-next.result) _ _ _
-            (take (length k.out - k.used) (drop k.used k.out)) asks c.early.ensures _ _ c.decide-d.result c.in-Asked.is
-            (c.write_bytes-bytes.ensures ∙ bytes_by _ _ c.due_at-next.result c.bytes_in-m.ensures)
-            (λ z. rw (decide_ruled k.tables (length k.fast) (length k.slow) _ _ (sym k.invariant.0.rules ∙ z)) c.decide-d.ensures) in
+    (take (length k.out - k.used) (drop k.used k.out)) asks c.early.ensures _ _ c.decide-d.result c.in-Asked.is
+    (c.write_bytes-bytes.ensures ∙ bytes_by _ _ c.due_at-next.result c.bytes_in-m.ensures)
+    (λ z. rw (decide_ruled k.tables (length k.fast) (length k.slow) _ _ (sym k.invariant.0.rules ∙ z)) c.decide-d.ensures) in
     let few = w.few in
     search rules
 
 pub ahead-used-requires-in-Asked : goal.ahead-used-requires-in-Asked
 ahead-used-requires-in-Asked c =
     let asks : c.asked_in.result ≡ asked (sent_by c.args.file.now c.due_at-next.result) =
-        asked_by _ _ c.due_at-next.result _ c.bytes_in-m.ensures c.asked_in.ensures in
+    asked_by _ _ c.due_at-next.result _ c.bytes_in-m.ensures c.asked_in.ensures in
     let k = c.loop-next in
     let w = decided (state_of k.tables k.fast k.slow) (sent_by c.args.file.now c.due_at-next.result) _ _ _
-            (take (length k.out - k.used) (drop k.used k.out)) asks c.early.ensures _ _ c.decide-d.result c.in-Asked.is
-            (c.write_bytes-bytes.ensures ∙ bytes_by _ _ c.due_at-next.result c.bytes_in-m.ensures)
-            (λ z. rw (decide_ruled k.tables (length k.fast) (length k.slow) _ _ (sym k.invariant.0.rules ∙ z)) c.decide-d.ensures) in
+    (take (length k.out - k.used) (drop k.used k.out)) asks c.early.ensures _ _ c.decide-d.result c.in-Asked.is
+    (c.write_bytes-bytes.ensures ∙ bytes_by _ _ c.due_at-next.result c.bytes_in-m.ensures)
+    (λ z. rw (decide_ruled k.tables (length k.fast) (length k.slow) _ _ (sym k.invariant.0.rules ∙ z)) c.decide-d.ensures) in
     let few = w.few in
     omega (arith, c.loop-next.invariant.0.inside, few)
 
 pub loop-next-smaller-in-Refused : goal.loop-next-smaller-in-Refused
 loop-next-smaller-in-Refused c =
     let found : c.due_at-next.result ≡ due_at c.args.file.now c.loop-next.at (full (length c.args.out.now) c.loop-next.used) =
-        c.due_at-next.ensures
-        ∙ ap (λ (k : ℕ). due_at c.args.file.now c.loop-next.at (ltb k c.loop-next.used)) c.loop-next.invariant.1 in
+    c.due_at-next.ensures
+    ∙ ap (λ (k : ℕ). due_at c.args.file.now c.loop-next.at (ltb k c.loop-next.used)) c.loop-next.invariant.1 in
     let goes : is_end c.due_at-next.result ≡ false = sym c.is_end.ensures ∙ c.if-is_end.false in
     let here = due _ _ _ _ found goes in
     let f = follows _ _ _ here.found goes in
@@ -123,12 +123,12 @@ loop-next-smaller-in-Refused c =
 pub loop-next-preserved-in-Refused : goal.loop-next-preserved-in-Refused
 loop-next-preserved-in-Refused c =
     let found : c.due_at-next.result ≡ due_at c.args.file.now c.loop-next.at (full (length c.args.out.now) c.loop-next.used) =
-        c.due_at-next.ensures
-        ∙ ap (λ (k : ℕ). due_at c.args.file.now c.loop-next.at (ltb k c.loop-next.used)) c.loop-next.invariant.1 in
+    c.due_at-next.ensures
+    ∙ ap (λ (k : ℕ). due_at c.args.file.now c.loop-next.at (ltb k c.loop-next.used)) c.loop-next.invariant.1 in
     let goes : is_end c.due_at-next.result ≡ false = sym c.is_end.ensures ∙ c.if-is_end.false in
     let here = due _ _ _ _ found goes in
     let asks : c.asked_in.result ≡ asked (sent_by c.args.file.now c.due_at-next.result) =
-        asked_by _ _ c.due_at-next.result _ c.bytes_in-m.ensures c.asked_in.ensures in
+    asked_by _ _ c.due_at-next.result _ c.bytes_in-m.ensures c.asked_in.ensures in
     let l = c.loop-next in
     let v = l.invariant.0 in
     let s = state_of l.tables l.fast l.slow in
@@ -148,8 +148,8 @@ loop-next-preserved-in-Refused c =
 pub loop-next-smaller-then-d : goal.loop-next-smaller-then-d
 loop-next-smaller-then-d c =
     let found : c.due_at-next.result ≡ due_at c.args.file.now c.loop-next.at (full (length c.args.out.now) c.loop-next.used) =
-        c.due_at-next.ensures
-        ∙ ap (λ (k : ℕ). due_at c.args.file.now c.loop-next.at (ltb k c.loop-next.used)) c.loop-next.invariant.1 in
+    c.due_at-next.ensures
+    ∙ ap (λ (k : ℕ). due_at c.args.file.now c.loop-next.at (ltb k c.loop-next.used)) c.loop-next.invariant.1 in
     let goes : is_end c.due_at-next.result ≡ false = sym c.is_end.ensures ∙ c.if-is_end.false in
     let here = due _ _ _ _ found goes in
     let f = follows _ _ _ here.found goes in
@@ -158,20 +158,19 @@ loop-next-smaller-then-d c =
 pub loop-next-preserved-then-d : goal.loop-next-preserved-then-d
 loop-next-preserved-then-d c =
     let found : c.due_at-next.result ≡ due_at c.args.file.now c.loop-next.at (full (length c.args.out.now) c.loop-next.used) =
-        c.due_at-next.ensures
-        ∙ ap (λ (k : ℕ). due_at c.args.file.now c.loop-next.at (ltb k c.loop-next.used)) c.loop-next.invariant.1 in
+    c.due_at-next.ensures
+    ∙ ap (λ (k : ℕ). due_at c.args.file.now c.loop-next.at (ltb k c.loop-next.used)) c.loop-next.invariant.1 in
     let goes : is_end c.due_at-next.result ≡ false = sym c.is_end.ensures ∙ c.if-is_end.false in
     let here = due _ _ _ _ found goes in
     let asks : c.asked_in.result ≡ asked (sent_by c.args.file.now c.due_at-next.result) =
-        asked_by _ _ c.due_at-next.result _ c.bytes_in-m.ensures c.asked_in.ensures in
+    asked_by _ _ c.due_at-next.result _ c.bytes_in-m.ensures c.asked_in.ensures in
     let k = c.loop-next in
     let w = decided (state_of k.tables k.fast k.slow) (sent_by c.args.file.now c.due_at-next.result) _ _ _
-            (take (length k.out - k.used) (drop k.used k.out)) asks c.early.ensures _ _ c.decide-d.result c.in-Asked.is
-            (c.write_bytes-bytes.ensures ∙ bytes_by _ _ c.due_at-next.result c.bytes_in-m.ensures)
-            (λ z. rw (decide_ruled k.tables (length k.fast) (length k.slow) _ _ (sym k.invariant.0.rules ∙ z)) c.decide-d.ensures) in
+    (take (length k.out - k.used) (drop k.used k.out)) asks c.early.ensures _ _ c.decide-d.result c.in-Asked.is
+    (c.write_bytes-bytes.ensures ∙ bytes_by _ _ c.due_at-next.result c.bytes_in-m.ensures)
+    (λ z. rw (decide_ruled k.tables (length k.fast) (length k.slow) _ _ (sym k.invariant.0.rules ∙ z)) c.decide-d.ensures) in
     let l = c.loop-next in
-    let d = c.reply_decided in
-    (
+    let d = c.reply_decided in (
       rw c.past-at.ensures
           (going_on l.invariant.0 _ _ _ _ _ _ _ _ _ _ _ here goes
           (w.served _ _ _ _ c.settle-tables.ensures d.ensures)
@@ -184,8 +183,8 @@ loop-next-preserved-then-d c =
 pub loop-next-smaller : goal.loop-next-smaller
 loop-next-smaller c =
     let found : c.due_at-next.result ≡ due_at c.args.file.now c.loop-next.at (full (length c.args.out.now) c.loop-next.used) =
-        c.due_at-next.ensures
-        ∙ ap (λ (k : ℕ). due_at c.args.file.now c.loop-next.at (ltb k c.loop-next.used)) c.loop-next.invariant.1 in
+    c.due_at-next.ensures
+    ∙ ap (λ (k : ℕ). due_at c.args.file.now c.loop-next.at (ltb k c.loop-next.used)) c.loop-next.invariant.1 in
     let goes : is_end c.due_at-next.result ≡ false = sym c.is_end.ensures ∙ c.if-is_end.false in
     let here = due _ _ _ _ found goes in
     let f = follows _ _ _ here.found goes in
@@ -194,20 +193,19 @@ loop-next-smaller c =
 pub loop-next-preserved : goal.loop-next-preserved
 loop-next-preserved c =
     let found : c.due_at-next.result ≡ due_at c.args.file.now c.loop-next.at (full (length c.args.out.now) c.loop-next.used) =
-        c.due_at-next.ensures
-        ∙ ap (λ (k : ℕ). due_at c.args.file.now c.loop-next.at (ltb k c.loop-next.used)) c.loop-next.invariant.1 in
+    c.due_at-next.ensures
+    ∙ ap (λ (k : ℕ). due_at c.args.file.now c.loop-next.at (ltb k c.loop-next.used)) c.loop-next.invariant.1 in
     let goes : is_end c.due_at-next.result ≡ false = sym c.is_end.ensures ∙ c.if-is_end.false in
     let here = due _ _ _ _ found goes in
     let asks : c.asked_in.result ≡ asked (sent_by c.args.file.now c.due_at-next.result) =
-        asked_by _ _ c.due_at-next.result _ c.bytes_in-m.ensures c.asked_in.ensures in
+    asked_by _ _ c.due_at-next.result _ c.bytes_in-m.ensures c.asked_in.ensures in
     let k = c.loop-next in
     let w = decided (state_of k.tables k.fast k.slow) (sent_by c.args.file.now c.due_at-next.result) _ _ _
-            (take (length k.out - k.used) (drop k.used k.out)) asks c.early.ensures _ _ c.decide-d.result c.in-Asked.is
-            (c.write_bytes-bytes.ensures ∙ bytes_by _ _ c.due_at-next.result c.bytes_in-m.ensures)
-            (λ z. rw (decide_ruled k.tables (length k.fast) (length k.slow) _ _ (sym k.invariant.0.rules ∙ z)) c.decide-d.ensures) in
+    (take (length k.out - k.used) (drop k.used k.out)) asks c.early.ensures _ _ c.decide-d.result c.in-Asked.is
+    (c.write_bytes-bytes.ensures ∙ bytes_by _ _ c.due_at-next.result c.bytes_in-m.ensures)
+    (λ z. rw (decide_ruled k.tables (length k.fast) (length k.slow) _ _ (sym k.invariant.0.rules ∙ z)) c.decide-d.ensures) in
     let l = c.loop-next in
-    let d = c.reply_decided in
-    (
+    let d = c.reply_decided in (
       rw c.past-at.ensures
           (going_on l.invariant.0 _ _ _ _ _ _ _ _ _ _ _ here goes
           (w.served _ _ _ _ (unsettled l.tables c.decide-d.result c.if-d.false) d.ensures)

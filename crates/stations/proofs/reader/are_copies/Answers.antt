@@ -2,7 +2,6 @@
 use native.Mathlib.Omega.{arith}
 use mathlib.Core.Path.{sym, ◌∙◌}
 use Rattle.stations.proofs.ReaderLaws.{no_copies, copies_none, copies_odd, copies_marked}
-use borrow.Author.Rules.{rules}
 use Rattle.stations.proofs.reader.are_copies.Goals as goal
 
 pub returns-then-d-eq0 : goal.returns-then-d-eq0

@@ -1,6 +1,5 @@
 -- `is_formed` meets its contract, form by form.
 use Rattle.steps.specs.Data.{formed}
-use borrow.Author.Rules.{rules}
 use Rattle.stations.proofs.reader.is_formed.Goals as goal
 
 pub returns-in-Empty : goal.returns-in-Empty

@@ -5,7 +5,6 @@ use lib.ListN.{length, drop, length-drop}
 use lib.Seq.{take_all}
 use borrow.Author.Tests.{eq-eqb, ne_eqb, lt-leb, le-leb}
 use Rattle.stations.specs.Reader.{is_reply}
-use borrow.Author.Rules.{rules}
 use Rattle.stations.proofs.reader.is_reply.Goals as goal
 
 pub returns-then-n-lt4 : goal.returns-then-n-lt4

@@ -1,6 +1,5 @@
 -- `laid_in` meets its contract: two bytes, big-endian.
 use native.Mathlib.Omega.{arith}
-use borrow.Author.Rules.{rules}
 use Rattle.stations.proofs.reader.laid_in.Goals as goal
 
 pub overflow_cast-result : goal.overflow_cast-result

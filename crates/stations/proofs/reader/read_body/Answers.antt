@@ -2,10 +2,9 @@
 use native.Mathlib.Omega.{arith}
 use Prim.Native.Nat.{◌≤◌}
 use lib.ListN.{length, length-drop}
-use borrow.Author.Tests.{eq-eqb, ne_eqb, not-true, not-false}
+use borrow.Author.Tests.{eq-eqb, ne_eqb}
 use Rattle.steps.specs.Kinds.{kind_of}
 use Rattle.stations.proofs.ReaderLaws.{reply_long}
-use borrow.Author.Rules.{rules}
 use Rattle.stations.proofs.reader.read_body.Goals as goal
 
 pub returns-then-n-eq0 : goal.returns-then-n-eq0
@@ -29,25 +28,25 @@ returns-then-not-is_reply c =
 pub bounds-m-1 : goal.bounds-m-1
 bounds-m-1 c =
     let long : (4 ≤ length c.args.m.now) =
-        (let a = c.args in
-            reply_long (kind_of a.kind) a.m.now
-            (rw c.is_reply.ensures at (c.if-not-is_reply.false))) in
+    (let a = c.args in
+    reply_long (kind_of a.kind) a.m.now
+    (rw c.is_reply.ensures at (c.if-not-is_reply.false))) in
     let h = long in omega arith
 
 pub laid_in-requires : goal.laid_in-requires
 laid_in-requires c =
     let long : (4 ≤ length c.args.m.now) =
-        (let a = c.args in
-            reply_long (kind_of a.kind) a.m.now
-            (rw c.is_reply.ensures at (c.if-not-is_reply.false))) in
+    (let a = c.args in
+    reply_long (kind_of a.kind) a.m.now
+    (rw c.is_reply.ensures at (c.if-not-is_reply.false))) in
     long
 
 pub overflow_sub-result : goal.overflow_sub-result
 overflow_sub-result c =
     let long : (4 ≤ length c.args.m.now) =
-        (let a = c.args in
-            reply_long (kind_of a.kind) a.m.now
-            (rw c.is_reply.ensures at (c.if-not-is_reply.false))) in
+    (let a = c.args in
+    reply_long (kind_of a.kind) a.m.now
+    (rw c.is_reply.ensures at (c.if-not-is_reply.false))) in
     let h = long in omega arith
 
 pub returns : goal.returns

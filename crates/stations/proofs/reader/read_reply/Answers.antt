@@ -6,7 +6,6 @@ use native.Mathlib.Omega.{arith}
 use Rattle.messages.proofs.ReaderLaws.{message_at, message_part}
 use Rattle.stations.specs.Reader.{read_body, read_reply}
 use Rattle.stations.proofs.ReaderLaws.{read_of}
-use borrow.Author.Rules.{rules}
 use Rattle.stations.proofs.reader.read_reply.Goals as goal
 
 pub slice_bounds-read_body-count : goal.slice_bounds-read_body-count

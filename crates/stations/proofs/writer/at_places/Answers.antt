@@ -1,5 +1,4 @@
 -- `at_places` meets its contract.
-use borrow.Author.Rules.{rules}
 use Rattle.stations.proofs.writer.at_places.Goals as goal
 
 pub returns : goal.returns

@@ -1,7 +1,6 @@
 -- `count_of` meets its contract.
 use native.Mathlib.Omega.{arith}
 use borrow.Author.Tests.{lt-ltb, le-ltb}
-use borrow.Author.Rules.{rules}
 use Rattle.stations.proofs.writer.count_of.Goals as goal
 
 pub overflow_sub-result : goal.overflow_sub-result

@@ -4,29 +4,28 @@ use native.Mathlib.Omega.{arith}
 use mathlib.Core.List.{List, [], ◌∷◌}
 use lib.ListN.{length, take, length-append, length-take}
 use Rattle.stations.proofs.WriterLaws.{parts_laid}
-use borrow.Author.Rules.{rules}
 use Rattle.stations.proofs.writer.lay_message.Goals as goal
 
 pub overflow_cast-head : goal.overflow_cast-head
 overflow_cast-head c =
     let few : (c.count_of-count.result ≤ 4) =
-        (rw c.count_of-count.ensures c.requires.few) in
+    (rw c.count_of-count.ensures c.requires.few) in
     let short : (c.count_of-count.result + length c.tail_of-tail.result.now ≤ 67) =
-        (rw (c.count_of-count.ensures, c.tail_of-tail.ensures) c.requires.short) in
+    (rw (c.count_of-count.ensures, c.tail_of-tail.ensures) c.requires.short) in
     omega (arith, few, short)
 
 pub slice_bounds-lay_bytes-end : goal.slice_bounds-lay_bytes-end
 slice_bounds-lay_bytes-end c =
     let few : (c.count_of-count.result ≤ 4) =
-        (rw c.count_of-count.ensures c.requires.few) in
+    (rw c.count_of-count.ensures c.requires.few) in
     simp length-take (omega (arith, few))
 
 pub returns : goal.returns
 returns c =
     let few : (c.count_of-count.result ≤ 4) =
-        (rw c.count_of-count.ensures c.requires.few) in
+    (rw c.count_of-count.ensures c.requires.few) in
     let short : (c.count_of-count.result + length c.tail_of-tail.result.now ≤ 67) =
-        (rw (c.count_of-count.ensures, c.tail_of-tail.ensures) c.requires.short) in
+    (rw (c.count_of-count.ensures, c.tail_of-tail.ensures) c.requires.short) in
     let n = c.count_of-count in
     let k = few in
     let a = c.args in

@@ -1,6 +1,5 @@
 -- `tail_of` meets its contract.
 use borrow.Author.Tests.{lt-ltb, le-ltb}
-use borrow.Author.Rules.{rules}
 use Rattle.stations.proofs.writer.tail_of.Goals as goal
 
 pub returns-then-least-most : goal.returns-then-least-most

@@ -9,22 +9,21 @@ use Rattle.steps.proofs.KindLaws.{kind_numbered}
 use Rattle.stations.specs.Writer.{written_as}
 use Rattle.stations.specs.Private.{places, at_places}
 use Rattle.stations.proofs.WriterLaws.{gets, places_within, four_of, written_placed, wrote_same}
-use borrow.Author.Rules.{rules}
 use Rattle.stations.proofs.writer.write_call.Goals as goal
 
 pub at_places-a-requires : goal.at_places-a-requires
 at_places-a-requires c =
     let told_places : (c.form_of-f.result.call ≡ places c.args.call.kind) =
-        (let k = c.args.call.kind in
-            ap (λ (f : Form). f.call) c.form_of-f.ensures ∙ rw (c.number_of-number.ensures, kind_numbered k)) in
+    (let k = c.args.call.kind in
+    ap (λ (f : Form). f.call) c.form_of-f.ensures ∙ rw (c.number_of-number.ensures, kind_numbered k)) in
     rw (told_places) (places_within _)
 
 pub returns : goal.returns
 unfolding gets
 returns c =
     let told_places : (c.form_of-f.result.call ≡ places c.args.call.kind) =
-        (let k = c.args.call.kind in
-            ap (λ (f : Form). f.call) c.form_of-f.ensures ∙ rw (c.number_of-number.ensures, kind_numbered k)) in
+    (let k = c.args.call.kind in
+    ap (λ (f : Form). f.call) c.form_of-f.ensures ∙ rw (c.number_of-number.ensures, kind_numbered k)) in
     let a = c.args in
     let k = a.call.kind in
     let room = length a.out.now in

@@ -7,7 +7,6 @@ use Rattle.steps.specs.declared.Form.{Form}
 use Rattle.steps.specs.Kinds.{is_unknown, kind_of, call_of}
 use Rattle.steps.specs.Calls.{outside}
 use Rattle.stations.proofs.WriterLaws.{few_singles, room_for, as_short, as_unknown, as_outside, as_inside, wrote_refused, wrote_accepted}
-use borrow.Author.Rules.{rules}
 use Rattle.stations.proofs.writer.write_kind.Goals as goal
 
 pub returns-then-out-lt-MESSAGE_SIZE : goal.returns-then-out-lt-MESSAGE_SIZE
@@ -24,14 +23,14 @@ returns-then-is_unknown c =
 pub returns-then-number-ne-ACCEPTED : goal.returns-then-number-ne-ACCEPTED
 returns-then-number-ne-ACCEPTED c =
     let told : (let a = c.args in
-            c.outside-number.result
-            ≡ outside 254 (length a.bytes.now)
-            (call_of (kind_of a.kind) (a.first ∷ a.second ∷ a.third ∷ a.fourth ∷ []))) =
-        (let a = c.args in
-            c.outside-number.ensures
-            ∙ ap (λ (f : Form). outside 254 (length a.bytes.now) f.call) c.form_of-f.ensures) in
+    c.outside-number.result
+    ≡ outside 254 (length a.bytes.now)
+    (call_of (kind_of a.kind) (a.first ∷ a.second ∷ a.third ∷ a.fourth ∷ []))) =
+    (let a = c.args in
+    c.outside-number.ensures
+    ∙ ap (λ (f : Form). outside 254 (length a.bytes.now) f.call) c.form_of-f.ensures) in
     let known : (is_unknown c.args.kind ≡ false) =
-        (sym c.is_unknown.ensures ∙ c.if-is_unknown.false) in
+    (sym c.is_unknown.ensures ∙ c.if-is_unknown.false) in
     let a = c.args in
     wrote_refused _ _ a.out.now _
     (as_outside _ a.kind _ a.bytes.now c.if-out-lt-MESSAGE_SIZE.false (known) _ (told) c.if-number-ne-ACCEPTED.true) c.refused-then-number-ne-ACCEPTED.ensures
@@ -39,12 +38,12 @@ returns-then-number-ne-ACCEPTED c =
 pub lay_message-len-requires : goal.lay_message-len-requires
 lay_message-len-requires c =
     let told : (let a = c.args in
-            c.outside-number.result
-            ≡ outside 254 (length a.bytes.now)
-            (call_of (kind_of a.kind) (a.first ∷ a.second ∷ a.third ∷ a.fourth ∷ []))) =
-        (let a = c.args in
-            c.outside-number.ensures
-            ∙ ap (λ (f : Form). outside 254 (length a.bytes.now) f.call) c.form_of-f.ensures) in
+    c.outside-number.result
+    ≡ outside 254 (length a.bytes.now)
+    (call_of (kind_of a.kind) (a.first ∷ a.second ∷ a.third ∷ a.fourth ∷ []))) =
+    (let a = c.args in
+    c.outside-number.ensures
+    ∙ ap (λ (f : Form). outside 254 (length a.bytes.now) f.call) c.form_of-f.ensures) in
     let a = c.args in
     rw c.form_of-f.ensures
     (room_for (kind_of a.kind) (a.first ∷ a.second ∷ a.third ∷ a.fourth ∷ []) a.bytes.now a.out.now (sym (told) ∙ c.if-number-ne-ACCEPTED.false) c.if-out-lt-MESSAGE_SIZE.false)
@@ -52,14 +51,14 @@ lay_message-len-requires c =
 pub returns : goal.returns
 returns c =
     let told : (let a = c.args in
-            c.outside-number.result
-            ≡ outside 254 (length a.bytes.now)
-            (call_of (kind_of a.kind) (a.first ∷ a.second ∷ a.third ∷ a.fourth ∷ []))) =
-        (let a = c.args in
-            c.outside-number.ensures
-            ∙ ap (λ (f : Form). outside 254 (length a.bytes.now) f.call) c.form_of-f.ensures) in
+    c.outside-number.result
+    ≡ outside 254 (length a.bytes.now)
+    (call_of (kind_of a.kind) (a.first ∷ a.second ∷ a.third ∷ a.fourth ∷ []))) =
+    (let a = c.args in
+    c.outside-number.ensures
+    ∙ ap (λ (f : Form). outside 254 (length a.bytes.now) f.call) c.form_of-f.ensures) in
     let known : (is_unknown c.args.kind ≡ false) =
-        (sym c.is_unknown.ensures ∙ c.if-is_unknown.false) in
+    (sym c.is_unknown.ensures ∙ c.if-is_unknown.false) in
     let a = c.args in
     let f = c.form_of-f in
     wrote_accepted _ _ a.out.now _ _

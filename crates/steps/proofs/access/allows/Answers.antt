@@ -1,7 +1,6 @@
 -- `steps::access::allows` meets its contract. The cases of 0 and 1 compute; that of 2 takes every number from 2 on.
 use mathlib.Core.Path.{sym}
 use native.Mathlib.Omega.{arith}
-use borrow.Author.Rules.{rules}
 use Rattle.steps.proofs.RightLaws.{allows_above}
 use Rattle.steps.proofs.access.allows.Goals as goal
 

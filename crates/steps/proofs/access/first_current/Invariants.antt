@@ -1,14 +1,12 @@
 -- `steps::access::first_current` meets its contract. The invariant: no copy before j is CURRENT, and those from j on
 -- have the answer.
 use Prim.Native.Nat.{◌-◌}
-use mathlib.Core.Path.{◌≡◌, refl, sym, ◌∙◌}
-use native.Mathlib.Omega.{arith}
+use mathlib.Core.Path.{◌≡◌}
 use lib.ListN.{drop}
 use Rattle.tables.specs.Model.{copies_in_use}
 use Rattle.tables.specs.Rules.{is_current}
 use Rattle.steps.specs.Steps.{first_current}
-use Rattle.steps.proofs.CountLaws.{Counted, count_start, count_taken, count_passed, count_ended, first_found, first_passed}
-use borrow.Author.Rules.{rules}
+use Rattle.steps.proofs.CountLaws.{Counted}
 use Rattle.steps.proofs.access.first_current.Given as goal
 
 abbrev pub invariant-loop-j : goal.invariant-loop-j

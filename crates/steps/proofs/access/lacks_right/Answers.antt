@@ -3,8 +3,7 @@ use Prim.Native.Nat.{ℕ}
 use mathlib.Core.Path.{sym, ap, ◌∙◌}
 use Rattle.steps.specs.Rights.{allows}
 use Rattle.steps.proofs.GuardLaws.{right_tested}
-use borrow.Author.Tests.{eq-eqb, ne_eqb, not-true, not-false}
-use borrow.Author.Rules.{rules}
+use borrow.Author.Tests.{eq-eqb, ne_eqb}
 use Rattle.steps.proofs.access.lacks_right.Goals as goal
 
 pub returns-then-page-eq0 : goal.returns-then-page-eq0

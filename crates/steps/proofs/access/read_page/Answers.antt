@@ -3,7 +3,6 @@ use native.Mathlib.Omega.{arith}
 use borrow.Author.Tests.{ne_eqb}
 use Rattle.steps.specs.Steps.{currents, perform}
 use Rattle.steps.proofs.GuardLaws.{guard_refused, guard_on}
-use borrow.Author.Rules.{rules}
 use Rattle.steps.proofs.access.read_page.Goals as goal
 
 pub returns-then-number-ne-ACCEPTED : goal.returns-then-number-ne-ACCEPTED

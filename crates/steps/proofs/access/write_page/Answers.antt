@@ -5,7 +5,6 @@ use native.Mathlib.Omega.{arith}
 use borrow.Author.Tests.{eq-eqb, ne_eqb}
 use Rattle.steps.specs.Steps.{perform}
 use Rattle.steps.proofs.GuardLaws.{guard_refused, guard_on}
-use borrow.Author.Rules.{rules}
 use Rattle.steps.proofs.access.write_page.Goals as goal
 
 pub returns-then-number-ne-ACCEPTED : goal.returns-then-number-ne-ACCEPTED

@@ -1,6 +1,5 @@
 -- `steps::copies::copied` meets its contract: from a null copy or not.
 use borrow.Author.Tests.{eq-eqb, ne_eqb}
-use borrow.Author.Rules.{rules}
 use Rattle.steps.proofs.copies.copied.Goals as goal
 
 pub returns-then-from : goal.returns-then-from

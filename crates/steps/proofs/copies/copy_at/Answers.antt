@@ -2,7 +2,7 @@
 use mathlib.Core.Path.{sym}
 use Prim.Native.Nat.{◌≤◌}
 use native.Mathlib.Omega.{arith}
-use lib.ListN.{length, length-map, get_or-eq_default}
+use lib.ListN.{length, get_or-eq_default}
 use Rattle.tables.specs.Model.{zero_copy}
 use borrow.Author.Rules.{rules}
 use mathlib.Core.Path.{◌≡◌}

@@ -2,7 +2,6 @@
 use mathlib.Core.Path.{◌≡◌}
 use Rattle.steps.specs.Steps.{recents, perform}
 use Rattle.steps.proofs.GuardLaws.{guard_refused, guard_on}
-use borrow.Author.Rules.{rules}
 use Rattle.steps.proofs.copies.delete_copy.Goals as goal
 
 pub returns-then-number-ne-ACCEPTED : goal.returns-then-number-ne-ACCEPTED

@@ -2,7 +2,6 @@
 use borrow.Author.Tests.{eq-eqb, ne_eqb}
 use Rattle.steps.specs.Steps.{perform}
 use Rattle.steps.proofs.GuardLaws.{guard_refused, guard_on}
-use borrow.Author.Rules.{rules}
 use Rattle.steps.proofs.copies.make_copy.Goals as goal
 
 pub returns-then-number-ne-ACCEPTED : goal.returns-then-number-ne-ACCEPTED

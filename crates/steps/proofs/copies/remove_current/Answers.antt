@@ -1,7 +1,6 @@
 -- `steps::copies::remove_current` meets its contract.
 use Rattle.steps.specs.Steps.{perform}
 use Rattle.steps.proofs.GuardLaws.{guard_refused, guard_on}
-use borrow.Author.Rules.{rules}
 use Rattle.steps.proofs.copies.remove_current.Goals as goal
 
 pub returns-then-number-ne-ACCEPTED : goal.returns-then-number-ne-ACCEPTED

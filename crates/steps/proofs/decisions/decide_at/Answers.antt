@@ -1,5 +1,5 @@
 -- `decide_at`: the number of the page, its record, the holder of the frame, and what is decided of these.
-use mathlib.Core.Path.{◌≡◌, ◌∙◌}
+use mathlib.Core.Path.{◌∙◌}
 use Rattle.steps.proofs.DecisionLaws.{decided_at}
 use Rattle.steps.proofs.decisions.decide_at.Goals as goal
 

@@ -3,7 +3,6 @@ use Rattle.steps.specs.Steps.{decide_on}
 use Rattle.steps.proofs.RangeLaws.{write_short}
 use mathlib.Core.Path.{sym, ◌∙◌}
 use Rattle.steps.proofs.GuardLaws.{guard_refused, guard_on}
-use borrow.Author.Rules.{rules}
 use Rattle.steps.proofs.decisions.decide_on.Goals as goal
 
 pub returns-then-number-ne-ACCEPTED : goal.returns-then-number-ne-ACCEPTED

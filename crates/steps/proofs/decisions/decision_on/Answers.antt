@@ -3,7 +3,6 @@ use mathlib.Core.Path.{◌∙◌}
 use Rattle.steps.specs.Private.{decision_for}
 use Rattle.steps.specs.Steps.{decide_on, viewing}
 use Rattle.steps.proofs.DecisionLaws.{decision_held}
-use borrow.Author.Rules.{rules}
 use Rattle.steps.proofs.decisions.decision_on.Goals as goal
 
 pub returns : goal.returns

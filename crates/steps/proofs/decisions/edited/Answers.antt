@@ -1,7 +1,6 @@
 -- `edited`: where the record is seen to stay, it is what the edit makes of it.
 use mathlib.Core.Path.{sym, ◌∙◌}
 use Rattle.tables.proofs.KeepLaws.{leaves_same}
-use borrow.Author.Rules.{rules}
 use Rattle.steps.proofs.decisions.edited.Goals as goal
 
 pub returns-then-kept : goal.returns-then-kept

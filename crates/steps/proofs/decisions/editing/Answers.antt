@@ -1,5 +1,4 @@
 -- `editing`: the one verdict, with no work.
-use borrow.Author.Rules.{rules}
 use Rattle.steps.proofs.decisions.editing.Goals as goal
 
 pub returns : goal.returns

@@ -5,7 +5,6 @@ use mathlib.Core.Path.{◌≡◌, refl, sym, ◌∙◌}
 use mathlib.Core.Bool.{Bool, true, false, cond}
 use native.Mathlib.Omega.{arith}
 use borrow.Author.Tests.{eq-eqb}
-use borrow.Author.Rules.{rules}
 use Rattle.tables.specs.declared.Tables.{Tables}
 use Rattle.tables.specs.Numbers.{accepted, broken_tables}
 use Rattle.tables.specs.Rules.{frames_held, sound, frame_totals}
@@ -22,6 +21,7 @@ module _ (t : Tables) (number : ℕ) (is : number ≡ rules_number t (64 * t.sha
   number_is : number ≡ cond (sound t) accepted broken_tables
   unfolding fits
   number_is = is ∙ rw (and_intro (eq-eqb (64 * t.shared.p) _ refl) (eq-eqb (64 * t.shared.s) _ refl))
+
   broken : (number ≡ accepted → ⊥) → record { number = number; held = 0 } ≡ held_in t
   broken some = by (sound t) number_is
     where
@@ -30,6 +30,7 @@ module _ (t : Tables) (number : ℕ) (is : number ≡ rules_number t (64 * t.sha
           (record { number = cond b accepted broken_tables; held = cond b (frames_held t) 0 })
       by true e = absurd (some e)
       by false e = rw e
+
   keeps : number ≡ accepted → sound t ≡ true
   keeps e = by (sound t) (sym e ∙ number_is)
     where

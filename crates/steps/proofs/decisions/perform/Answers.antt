@@ -1,6 +1,5 @@
 -- `perform`: each kind by its own function.
 use Rattle.steps.proofs.GuardLaws.{of_kind}
-use borrow.Author.Rules.{rules}
 use Rattle.steps.proofs.decisions.perform.Goals as goal
 
 pub write_page-requires : goal.write_page-requires

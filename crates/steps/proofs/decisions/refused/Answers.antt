@@ -1,5 +1,4 @@
 -- `refused`: the one verdict, with no work.
-use borrow.Author.Rules.{rules}
 use Rattle.steps.proofs.decisions.refused.Goals as goal
 
 pub returns : goal.returns

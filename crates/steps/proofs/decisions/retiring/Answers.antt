@@ -1,5 +1,4 @@
 -- `retiring`: the one verdict, with no work.
-use borrow.Author.Rules.{rules}
 use Rattle.steps.proofs.decisions.retiring.Goals as goal
 
 pub returns : goal.returns

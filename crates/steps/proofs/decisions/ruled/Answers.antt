@@ -2,7 +2,6 @@
 use borrow.Author.Tests.{eq-eqb, ne_eqb}
 use Rattle.tables.specs.Changes.{changed}
 use Rattle.tables.specs.Keep.{leaves_record}
-use borrow.Author.Rules.{rules}
 use Rattle.steps.proofs.decisions.ruled.Goals as goal
 
 pub returns-then-number-eq-ACCEPTED : goal.returns-then-number-eq-ACCEPTED

@@ -1,6 +1,4 @@
 -- `steps::decisions::rules` meets its contract: 5 and 6, or neither.
-use borrow.Author.Tests.{not-true, not-false}
-use borrow.Author.Rules.{rules}
 use Rattle.steps.specs.Stores.{fits}
 use Rattle.steps.proofs.decisions.rules.Goals as goal
 

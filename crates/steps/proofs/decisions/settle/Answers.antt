@@ -1,5 +1,4 @@
 -- `settle`: its test is that of `settled`.
-use borrow.Author.Rules.{rules}
 use Rattle.steps.proofs.decisions.settle.Goals as goal
 
 pub returns-then-d : goal.returns-then-d

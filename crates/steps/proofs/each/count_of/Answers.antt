@@ -1,11 +1,7 @@
 -- `count_of`. The invariant: what is counted and what is still to count give the whole.
-use Prim.Native.Nat.{◌-◌}
 use mathlib.Core.Path.{sym, ◌∙◌}
-use mathlib.Core.Logic.{⊎_elim}
 use native.Mathlib.Omega.{arith}
-use Rattle.steps.specs.Private.{chosen}
-use Rattle.steps.proofs.CountLaws.{Counted, count_start, count_taken, count_passed, count_ended}
-use borrow.Author.Rules.{rules}
+use Rattle.steps.proofs.CountLaws.{count_start, count_taken, count_passed, count_ended}
 use Rattle.steps.proofs.each.count_of.Goals as goal
 use Rattle.steps.proofs.each.count_of.Goals.{then-is_chosen, else-is_chosen}
 
@@ -18,7 +14,7 @@ loop-j-preserved c =
     let h = c.loop-j-test.true in
     let is = sym c.is_chosen.ensures in
     elim c.if-is_chosen.branch [
-      then-is_chosen w ↦ rw w.k-is (count_taken v.invariant h (is ∙ w.if-is_chosen.true))
+      | then-is_chosen w ↦ rw w.k-is (count_taken v.invariant h (is ∙ w.if-is_chosen.true))
       | else-is_chosen w ↦ rw w.k-is (count_passed v.invariant h (is ∙ w.if-is_chosen.false))
     ]
 

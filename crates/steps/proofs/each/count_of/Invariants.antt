@@ -1,11 +1,7 @@
 -- `count_of`. The invariant: what is counted and what is still to count give the whole.
 use Prim.Native.Nat.{◌-◌}
-use mathlib.Core.Path.{sym, ◌∙◌}
-use mathlib.Core.Logic.{⊎_elim}
-use native.Mathlib.Omega.{arith}
 use Rattle.steps.specs.Private.{chosen}
-use Rattle.steps.proofs.CountLaws.{Counted, count_start, count_taken, count_passed, count_ended}
-use borrow.Author.Rules.{rules}
+use Rattle.steps.proofs.CountLaws.{Counted}
 use Rattle.steps.proofs.each.count_of.Given as goal
 
 abbrev pub invariant-loop-j : goal.invariant-loop-j

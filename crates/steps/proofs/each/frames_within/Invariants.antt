@@ -1,14 +1,11 @@
 -- `frames_within`. The answer is that of the copies from j on.
 use Prim.Native.Nat.{◌-◌, ◌≤◌}
-use mathlib.Core.Path.{◌≡◌, refl, sym, ◌∙◌}
-use native.Mathlib.Omega.{arith}
+use mathlib.Core.Path.{◌≡◌}
 use lib.ListN.{length, drop}
 use Rattle.tables.specs.Lists.{all}
 use Rattle.tables.specs.Model.{copies_in_use}
-use Rattle.tables.proofs.Loops.{drop_end, use_more}
 use Rattle.steps.specs.Promises.{frame_within}
 use Rattle.steps.specs.Private.{chosen}
-use borrow.Author.Rules.{rules}
 use Rattle.steps.proofs.each.frames_within.Given as goal
 
 abbrev pub invariant-loop-j : goal.invariant-loop-j

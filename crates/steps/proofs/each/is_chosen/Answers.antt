@@ -1,6 +1,5 @@
 -- `is_chosen`: the copies that each case names.
 use mathlib.Core.Path.{refl}
-use borrow.Author.Rules.{rules}
 use Rattle.steps.proofs.each.is_chosen.Goals as goal
 
 pub returns-in-Placed : goal.returns-in-Placed

@@ -8,7 +8,6 @@ use Rattle.steps.specs.Effects.{cleared_in}
 use Rattle.steps.specs.Promises.{lay_within}
 use Rattle.steps.specs.Private.{frames_in}
 use Rattle.steps.proofs.CarryLaws.{out_long, whole_frames, fill_fits, not_left, not_right, carried_unfit, carried_outside, carried_fit}
-use borrow.Author.Rules.{rules}
 use Rattle.steps.proofs.effects.carry.Goals as goal
 
 pub returns-then-out-fast : goal.returns-then-out-fast
@@ -35,9 +34,9 @@ pub clear_in-requires : goal.clear_in-requires
 clear_in-requires c =
     let a = c.args in
     let w = fill_fits a.fast.now a.slow.now c.lay_in.new.fast c.lay_in.new.slow
-            c.in-Lays.clears c.lay_in.auto.fast c.lay_in.auto.slow
-            (whole_frames a.fast.now a.out.now c.if-out-fast.false)
-            (sym c.clear_within.ensures ∙ c.if-clear_within.true) in
+    c.in-Lays.clears c.lay_in.auto.fast c.lay_in.auto.slow
+    (whole_frames a.fast.now a.out.now c.if-out-fast.false)
+    (sym c.clear_within.ensures ∙ c.if-clear_within.true) in
     record { whole_frames = w.0; frame_value = w.1 }
 
 pub returns-then-show_within : goal.returns-then-show_within

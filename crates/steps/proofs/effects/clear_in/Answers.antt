@@ -3,7 +3,6 @@ use mathlib.Core.Path.{refl}
 use borrow.Author.Tests.{ltb-true, eq-eqb, ne_eqb}
 use Rattle.steps.specs.Stores.{lay_frames}
 use Rattle.steps.proofs.CarryLaws.{room_at}
-use borrow.Author.Rules.{rules}
 use Rattle.steps.proofs.effects.clear_in.Goals as goal
 
 pub clear_frame-requires : goal.clear_frame-requires

@@ -15,7 +15,6 @@ use Rattle.steps.specs.Promises.{lay_within}
 use Rattle.steps.specs.Private.{frames_in}
 use Rattle.steps.proofs.Blocks.{lay_each_is}
 use Rattle.steps.proofs.CarryLaws.{room_at, room_each}
-use borrow.Author.Rules.{rules}
 use mathlib.Core.List.{List}
 use Prim.Native.Nat.{ℕ}
 use Rattle.tables.specs.declared.Page.{Page}

@@ -1,7 +1,6 @@
 -- `lay_within`, case by case.
 use mathlib.Core.Path.{ap}
 use mathlib.Core.Bool.{Bool, ◌&&◌}
-use borrow.Author.Rules.{rules}
 use Rattle.steps.proofs.effects.lay_within.Goals as goal
 
 pub returns-in-Zeros : goal.returns-in-Zeros

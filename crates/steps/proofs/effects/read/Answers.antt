@@ -4,7 +4,6 @@ use Rattle.steps.specs.Kinds.{call_of}
 use Rattle.steps.specs.Effects.{read_call}
 use Rattle.steps.specs.Promises.{state_of}
 use Rattle.steps.proofs.PlaceLaws.{had_in, had}
-use borrow.Author.Rules.{rules}
 use Rattle.steps.proofs.effects.read.Goals as goal
 
 pub part_at-requires : goal.part_at-requires

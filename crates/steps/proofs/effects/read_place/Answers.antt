@@ -3,7 +3,6 @@ use mathlib.Core.Path.{◌∙◌}
 use Rattle.steps.specs.Kinds.{names, code, argument, call_of}
 use Rattle.steps.specs.Effects.{read_call}
 use Rattle.steps.proofs.PlaceLaws.{place_told}
-use borrow.Author.Rules.{rules}
 use Rattle.steps.proofs.effects.read_place.Goals as goal
 
 pub returns-in-Shows : goal.returns-in-Shows

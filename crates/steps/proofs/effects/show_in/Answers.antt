@@ -15,7 +15,6 @@ use Rattle.steps.specs.Promises.{show_within}
 use Rattle.steps.specs.Private.{frames_in}
 use Rattle.steps.proofs.StoreLaws.{length_part_le, splice_front}
 use Rattle.steps.proofs.CarryLaws.{room_at}
-use borrow.Author.Rules.{rules}
 use Rattle.steps.proofs.effects.show_in.Goals as goal
 
 -- what is lent fits a show

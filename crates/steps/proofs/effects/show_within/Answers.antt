@@ -1,5 +1,4 @@
 -- `show_within`, case by case.
-use borrow.Author.Rules.{rules}
 use Rattle.steps.proofs.effects.show_within.Goals as goal
 
 pub returns-in-Frame : goal.returns-in-Frame

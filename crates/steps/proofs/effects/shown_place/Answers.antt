@@ -1,5 +1,4 @@
 -- `shown_place`: of the bytes of a frame, and else none.
-use borrow.Author.Rules.{rules}
 use Rattle.steps.proofs.effects.shown_place.Goals as goal
 
 pub returns-in-Frame : goal.returns-in-Frame

@@ -1,6 +1,5 @@
 -- `steps::frames::retire` meets its contract: a frame already retired, then 13, then the frame is retired.
 use Rattle.steps.specs.Steps.{perform}
-use borrow.Author.Rules.{rules}
 use Rattle.steps.proofs.frames.retire.Goals as goal
 
 pub returns-then-is_retired : goal.returns-then-is_retired

@@ -1,7 +1,6 @@
 -- `steps::kinds::form_of` meets its contract: each arm is a row of the table of kinds.
 use Rattle.steps.specs.Kinds.{kinds, names, tells, among, code, argument, call_of}
 use Rattle.steps.proofs.KindLaws.{kind_rest}
-use borrow.Author.Rules.{rules}
 use Rattle.steps.proofs.kinds.form_of.Goals as goal
 
 pub returns-in-2 : goal.returns-in-2

@@ -1,6 +1,5 @@
 -- `copy_shown`: the frame, and the two marks as `bit_of` tells them.
 use Rattle.steps.specs.Effects.{copies_shown}
-use borrow.Author.Rules.{rules}
 use Rattle.steps.proofs.looks.copy_shown.Goals as goal
 
 pub returns : goal.returns

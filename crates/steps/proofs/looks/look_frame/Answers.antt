@@ -1,6 +1,5 @@
 -- `look_frame`: three bytes, of the holder.
 use Rattle.steps.specs.Steps.{perform}
-use borrow.Author.Rules.{rules}
 use Rattle.steps.proofs.looks.look_frame.Goals as goal
 
 pub returns : goal.returns

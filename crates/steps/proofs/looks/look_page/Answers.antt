@@ -1,7 +1,6 @@
 -- `steps::looks::look_page` meets its contract.
 use borrow.Author.Tests.{eq-eqb, ne_eqb}
 use Rattle.steps.specs.Steps.{perform}
-use borrow.Author.Rules.{rules}
 use Rattle.steps.proofs.looks.look_page.Goals as goal
 
 pub returns-then-page-eq0 : goal.returns-then-page-eq0

@@ -4,7 +4,6 @@ use mathlib.Core.Path.{ap, ◌∙◌}
 use mathlib.Core.List.{List}
 use Rattle.steps.specs.Stores.{over}
 use Rattle.steps.proofs.StoreLaws.{splice_front}
-use borrow.Author.Rules.{rules}
 use Rattle.steps.proofs.looks.show_holder.Goals as goal
 
 pub returns : goal.returns

@@ -1,11 +1,9 @@
 -- `show_page`. The invariant: the entries that are still to be laid give the whole.
-use Prim.Native.Nat.{◌+◌, ◌-◌, ◌*◌, ◌≤◌}
-use mathlib.Core.Path.{◌≡◌, refl, ap, ◌∙◌}
+use Prim.Native.Nat.{◌+◌, ◌*◌}
+use mathlib.Core.Path.{refl, ap, ◌∙◌}
 use native.Mathlib.Omega.{arith}
-use lib.ListN.{length, drop, length-set}
-use Rattle.tables.specs.Model.{copies_in_use}
+use lib.ListN.{length, length-set}
 use Rattle.steps.specs.Stores.{splice}
-use Rattle.steps.specs.Effects.{copies_shown}
 use Rattle.steps.proofs.StoreLaws.{splice_second}
 use Rattle.steps.proofs.CopyLaws.{entries_turn, entries_ended, length_shown}
 use borrow.Author.Rules.{rules}

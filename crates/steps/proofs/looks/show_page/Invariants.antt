@@ -1,14 +1,10 @@
 -- `show_page`. The invariant: the entries that are still to be laid give the whole.
 use Prim.Native.Nat.{◌+◌, ◌-◌, ◌*◌, ◌≤◌}
-use mathlib.Core.Path.{◌≡◌, refl, ap, ◌∙◌}
-use native.Mathlib.Omega.{arith}
-use lib.ListN.{length, drop, length-set}
+use mathlib.Core.Path.{◌≡◌}
+use lib.ListN.{length, drop}
 use Rattle.tables.specs.Model.{copies_in_use}
 use Rattle.steps.specs.Stores.{splice}
 use Rattle.steps.specs.Effects.{copies_shown}
-use Rattle.steps.proofs.StoreLaws.{splice_second}
-use Rattle.steps.proofs.CopyLaws.{entries_turn, entries_ended, length_shown}
-use borrow.Author.Rules.{rules}
 use Rattle.steps.proofs.looks.show_page.Given as goal
 
 abbrev pub invariant-loop-j : goal.invariant-loop-j

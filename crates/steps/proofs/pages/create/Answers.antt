@@ -1,7 +1,6 @@
 -- `steps::pages::create` meets its contract.
 use borrow.Author.Tests.{eq-eqb, ne_eqb}
 use Rattle.steps.specs.Steps.{perform}
-use borrow.Author.Rules.{rules}
 use Rattle.steps.proofs.pages.create.Goals as goal
 
 pub returns-then-view-ne0 : goal.returns-then-view-ne0

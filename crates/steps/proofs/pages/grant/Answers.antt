@@ -1,7 +1,6 @@
 -- `grant`: what the owner may do, with the right granted.
 use Rattle.steps.specs.Steps.{perform}
 use Rattle.steps.proofs.GuardLaws.{guard_refused, guard_on}
-use borrow.Author.Rules.{rules}
 use Rattle.steps.proofs.pages.grant.Goals as goal
 
 pub returns-then-number-ne-ACCEPTED : goal.returns-then-number-ne-ACCEPTED

@@ -1,7 +1,6 @@
 -- `steps::range::bad_span` meets its contract.
 use borrow.Author.Tests.{lt-ltb}
 use Rattle.steps.proofs.RangeLaws.{span_short}
-use borrow.Author.Rules.{rules}
 use Rattle.steps.proofs.range.bad_span.Goals as goal
 
 pub returns-then-o-gt63 : goal.returns-then-o-gt63

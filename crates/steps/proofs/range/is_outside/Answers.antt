@@ -4,7 +4,6 @@ use lib.Dec.{ltb, leb}
 use Rattle.steps.specs.Kinds.{names, among, code}
 use Rattle.steps.specs.Calls.{bad_span}
 use Rattle.steps.proofs.RangeLaws.{or_one, or_two, or_span, or_frame}
-use borrow.Author.Rules.{rules}
 use Rattle.steps.proofs.range.is_outside.Goals as goal
 
 pub returns-in-Create : goal.returns-in-Create

@@ -1,7 +1,6 @@
 -- `outside`: 7 or 0.
 use mathlib.Core.Path.{sym, ◌∙◌}
 use Rattle.steps.proofs.RangeLaws.{outside_any, outside_none}
-use borrow.Author.Rules.{rules}
 use Rattle.steps.proofs.range.outside.Goals as goal
 
 pub returns-then-is_outside : goal.returns-then-is_outside

@@ -1,5 +1,4 @@
 -- `copy_frame`: what `load` reads, `lay_frame` lays.
-use borrow.Author.Rules.{rules}
 use Rattle.steps.proofs.stores.copy_frame.Goals as goal
 
 pub returns : goal.returns

@@ -3,7 +3,6 @@ use mathlib.Core.Path.{sym, ◌∙◌}
 use Prim.Native.Nat.{◌+◌, ◌-◌, ◌*◌}
 use native.Mathlib.Omega.{arith}
 use Rattle.steps.proofs.StoreLaws.{part_span, part_fast, part_slow, part_block}
-use borrow.Author.Rules.{rules}
 use Rattle.steps.proofs.stores.frame_part.Goals as goal
 
 pub returns-then-frame-p : goal.returns-then-frame-p

@@ -1,6 +1,5 @@
 -- `frame_place`: one store or the other, by the same test as in `frame_place`.
 use borrow.Author.Tests.{lt-ltb, le-ltb}
-use borrow.Author.Rules.{rules}
 use Rattle.steps.proofs.stores.frame_place.Goals as goal
 
 pub returns-then-f-p : goal.returns-then-f-p

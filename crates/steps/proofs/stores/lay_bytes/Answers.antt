@@ -3,7 +3,6 @@ use Prim.Native.Nat.{◌+◌}
 use native.Mathlib.Omega.{arith}
 use lib.ListN.{length}
 use borrow.Author.Tests.{le-leb, lt-leb}
-use borrow.Author.Rules.{rules}
 use Rattle.steps.proofs.stores.lay_bytes.Goals as goal
 
 pub returns-then-src-dst : goal.returns-then-src-dst

@@ -1,7 +1,6 @@
 -- `lay_copy`: where the copy is one of these, what `lay_frame` ensures; else nothing is laid.
 use mathlib.Core.Path.{sym, ◌∙◌}
 use Rattle.steps.specs.Private.{lay_each}
-use borrow.Author.Rules.{rules}
 use Rattle.steps.proofs.stores.lay_copy.Goals as goal
 
 pub lay_frame-requires : goal.lay_frame-requires

@@ -1,14 +1,11 @@
 -- `lay_each`. The invariant: what is still to be laid gives the whole.
 use Prim.Native.Nat.{◌-◌, ◌≤◌}
-use mathlib.Core.Path.{◌≡◌, refl, ◌∙◌}
+use mathlib.Core.Path.{◌≡◌}
 use mathlib.Core.List.{◌++◌}
-use native.Mathlib.Omega.{arith}
 use lib.ListN.{length, drop}
 use Rattle.tables.specs.Model.{copies_in_use}
 use Rattle.steps.specs.Private.{lay_each}
 use Rattle.steps.specs.Private.{chosen}
-use Rattle.steps.proofs.CopyLaws.{lay_turn, lay_ended}
-use borrow.Author.Rules.{rules}
 use Rattle.steps.proofs.stores.lay_each.Given as goal
 
 abbrev pub invariant-loop-j : goal.invariant-loop-j

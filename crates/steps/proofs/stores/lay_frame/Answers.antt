@@ -1,7 +1,6 @@
 -- `lay_frame`: bytes laid into the fast store or into the slow one are laid into the joined stores.
 use native.Mathlib.Omega.{arith}
 use Rattle.steps.proofs.StoreLaws.{lay_fast, lay_slow}
-use borrow.Author.Rules.{rules}
 use Rattle.steps.proofs.stores.lay_frame.Goals as goal
 
 pub returns-then-frame-p : goal.returns-then-frame-p

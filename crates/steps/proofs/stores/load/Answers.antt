@@ -4,7 +4,6 @@ use Prim.Native.Nat.{◌+◌, ◌-◌, ◌*◌}
 use native.Mathlib.Omega.{arith}
 use lib.ListN.{length}
 use Rattle.steps.proofs.StoreLaws.{part_left, part_right}
-use borrow.Author.Rules.{rules}
 use Rattle.steps.proofs.stores.load.Goals as goal
 
 pub returns-then-frame-p : goal.returns-then-frame-p

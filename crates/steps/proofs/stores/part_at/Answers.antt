@@ -4,7 +4,6 @@ use mathlib.Core.Path.{refl}
 use native.Mathlib.Omega.{arith}
 use Rattle.steps.proofs.StoreLaws.{part_span}
 use Rattle.steps.proofs.PlaceLaws.{place_low}
-use borrow.Author.Rules.{rules}
 use Rattle.steps.proofs.stores.part_at.Goals as goal
 
 pub overflow_add-end : goal.overflow_add-end

@@ -1,12 +1,8 @@
 -- `put`. The invariant: the first j bytes of src are laid.
-use Rattle.steps.proofs.StoreLaws.{pasted}
-use mathlib.Core.Path.{◌≡◌, refl, ◌∙◌}
-use Prim.Native.Nat.{◌+◌, ◌-◌, ◌≤◌, ◌<◌}
-use native.Mathlib.Numerals.{add-one}
-use native.Mathlib.Omega.{arith}
-use lib.ListN.{length, length-set}
-use lib.Seq.{paste, paste-zero, paste-suc}
-use borrow.Author.Rules.{rules}
+use mathlib.Core.Path.{◌≡◌}
+use Prim.Native.Nat.{◌-◌, ◌≤◌}
+use lib.ListN.{length}
+use lib.Seq.{paste}
 use Rattle.steps.proofs.stores.put.Given as goal
 
 abbrev pub invariant-loop-j : goal.invariant-loop-j
