@@ -109,7 +109,7 @@ kept_is k r sane e =
 -- ---- any calls
 
 -- from fresh tables on
-module _ (p s : ℕ) (b fast slow : List ℕ) (answered-0 : (fresh_into p s b).number ≡ accepted) (lp : length fast ≡ 64 * p)
+module _ (p s : ℕ) (b fast slow : List ℕ) (answered_0 : (fresh_into p s b).number ≡ accepted) (lp : length fast ≡ 64 * p)
     (ls : length slow ≡ 64 * s) where
   abbrev pub k₀ : Kept
   k₀ = kept (fresh_into p s b).bytes fast slow
@@ -118,10 +118,10 @@ module _ (p s : ℕ) (b fast slow : List ℕ) (answered-0 : (fresh_into p s b).n
   f₀ = state_of (fresh_tables p s) fast slow
 
   pub fresh : Freshly p s b
-  fresh = freshly p s b answered-0
+  fresh = freshly p s b answered_0
 
   pub start : Leaves k₀ f₀
-  start = fresh_leaves p s b fast slow answered-0 lp ls
+  start = fresh_leaves p s b fast slow answered_0 lp ls
 
   -- where the turns of the calls are those of messages xs
   record Came (cs : List Called) (xs : List Sent) : Type 0 where

@@ -168,12 +168,12 @@ module _ (s : State) (c : Call) (bs : List ℕ) (plan : Plan) (u : Known s c bs 
     unfolding followed laid_frames lay_frames
     write_told ok some =
         let d = stands some in
-        let in-page = leb-true _ 64 (and_left _ _ (and_left _ _ ok.inside)) in
+        let in_page = leb-true _ 64 (and_left _ _ (and_left _ _ ok.inside)) in
         told_written d told c.offset bs _ once
         (λ y low cur.
-        each_own is_current (frames t) c.offset bs in-page (copies_in_use g) (joined s) long (currents_within d) y
+        each_own is_current (frames t) c.offset bs in_page (copies_in_use g) (joined s) long (currents_within d) y
         (once y low) cur)
-        (λ y low none. each_spared is_current (frames t) c.offset bs in-page (copies_in_use g) (joined s) long
+        (λ y low none. each_spared is_current (frames t) c.offset bs in_page (copies_in_use g) (joined s) long
         (currents_within d) y none)
 
     copy_made : PlanOk t c (length bs) MakeCopy (plan_for (view_of t c) c (length bs) MakeCopy) → absent g ≡ false

@@ -200,14 +200,14 @@ module _ {A B : Type 0} {m n : ℕ} {to : A → List ℕ} {to' : B → List ℕ}
 
 module _ {A B : Type 0} {size : ℕ} {to : B → List ℕ} {from : List ℕ → B} {test : List ℕ → Bool} {ok : B → Type 0}
     (f : Form size to from test ok) (fields : A → B) (made : B → A)
-    (made-fields : (x : A) → made (fields x) ≡ x) (Fields-made : (y : B) → fields (made y) ≡ y) where
+    (made_fields : (x : A) → made (fields x) ≡ x) (fields_made : (y : B) → fields (made y) ≡ y) where
   pub a_struct : {from' : List ℕ → A} {test' : List ℕ → Bool} {ok' : A → Type 0}
       → ((b : List ℕ) → from' b ≡ made (from b)) → ((b : List ℕ) → test' b ≡ test b) → ((x : A) → ok' x → ok (fields x))
       → Form size (λ (x : A). to (fields x)) from' test' ok'
   a_struct froms tests oks =
       record {
         long = λ x h. f.long (fields x) (oks x h);
-        back = λ x h rest. froms (to (fields x) ++ rest) ∙ ap made (f.back (fields x) (oks x h) rest) ∙ made-fields x;
+        back = λ x h rest. froms (to (fields x) ++ rest) ∙ ap made (f.back (fields x) (oks x h) rest) ∙ made_fields x;
         passed = λ x h rest. tests (to (fields x) ++ rest) ∙ f.passed (fields x) (oks x h) rest;
-        same = λ b low h e. rw (froms b, Fields-made (from b)) (f.same b low h (sym (tests b) ∙ e));
+        same = λ b low h e. rw (froms b, fields_made (from b)) (f.same b low h (sym (tests b) ∙ e));
       }

@@ -1,7 +1,7 @@
 -- The forms of an entry, a page and the tables. Sound tables are read back from their bytes, and bytes that hold tables
 -- are those of the tables that are read from them.
 use Prim.Native.Nat.{ℕ, ◌<◌}
-use mathlib.Core.Bool.{true}
+use mathlib.Core.Bool.{true, and-true}
 use mathlib.Core.Path.{◌≡◌, refl, sym, ◌∙◌}
 use mathlib.Core.List.{List, [], append-nil}
 use native.Mathlib.Omega.{arith}
@@ -14,7 +14,7 @@ use Rattle.tables.specs.declared.Page.{Page}
 use Rattle.tables.specs.declared.Tables.{Tables}
 use Rattle.tables.specs.Model.{frames, free_entry, page_at, zero_copy, zero_page}
 use Rattle.tables.specs.Rules.{shaped, page_rule, sound}
-use Rattle.tables.proofs.ListLaws.{and-true, and_left, and_right}
+use Rattle.tables.proofs.ListLaws.{and_left, and_right}
 use Rattle.tables.proofs.RuleLaws.{sound_of}
 use Rattle.tables.proofs.RegisterLaws.{register_fits}
 use Rattle.steps.specs.Data.{copy_marks_valid}

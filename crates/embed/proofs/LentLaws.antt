@@ -1,6 +1,6 @@
 -- Tables in lent bytes: those that are put back are found by the next call, and bytes that hold none are broken tables.
 use Prim.Native.Nat.{ℕ, ◌+◌}
-use mathlib.Core.Bool.{Bool, true, false, ◌&&◌, cond, false≢true, and-false}
+use mathlib.Core.Bool.{Bool, true, false, ◌&&◌, cond, false≢true, and-false, and-true}
 use mathlib.Core.List.{List, [], ◌∷◌}
 use mathlib.Core.Path.{◌≡◌, refl, sym, ap, ◌∙◌}
 use lib.ListN.{length, drop}
@@ -8,7 +8,7 @@ use borrow.Author.Tests.{eq-eqb}
 use Rattle.tables.specs.declared.Tables.{Tables}
 use Rattle.tables.specs.Lists.{all}
 use Rattle.tables.specs.Rules.{sound}
-use Rattle.tables.proofs.ListLaws.{and-true, and_left, and_right, and_intro}
+use Rattle.tables.proofs.ListLaws.{and_left, and_right, and_intro}
 use Rattle.steps.specs.Steps.{Outcome, refuse, accept}
 use Rattle.steps.specs.Effects.{State, Result, left}
 use Rattle.messages.specs.Replies.{reply_in, is_refusal}
@@ -69,10 +69,10 @@ refused_run room file b fast slow low e =
     rw (refused_end room (lent_state b fast slow) (messages_of file) e) (put_back_same b low)
 
 -- a turn that a full buffer leaves out, and those behind it
-refused_one : (isFull : Bool) (room : ℕ) (s : State) (x : Sent) (behind : State → List Turn)
+refused_one : (is_full : Bool) (room : ℕ) (s : State) (x : Sent) (behind : State → List Turn)
     → (all_refused (behind s) ≡ true → state_after s (behind s) ≡ s)
-    → all_refused (cond isFull [] (turn_of room s x ∷ behind (left_by room s x))) ≡ true
-    → state_after s (cond isFull [] (turn_of room s x ∷ behind (left_by room s x))) ≡ s
+    → all_refused (cond is_full [] (turn_of room s x ∷ behind (left_by room s x))) ≡ true
+    → state_after s (cond is_full [] (turn_of room s x ∷ behind (left_by room s x))) ≡ s
 unfolding all state_after
 refused_one true room s x behind k e = refl
 refused_one false room s x behind k e =

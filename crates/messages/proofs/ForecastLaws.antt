@@ -57,9 +57,9 @@ pub record Judged (t : Tables) (x : Sent) (d : Decision) : Type 0 where
   pub kept : sound (settled t d) ≡ true
   pub held : d.moved ≡ true → held_after (frames_held t) d ≡ frames_held (settled t d)
 
-module _ (t : Tables) (x : Sent) (m : Parsed) (is-asked : m ≡ asked x) where
+module _ (t : Tables) (x : Sent) (m : Parsed) (is_asked : m ≡ asked x) where
   pub foreseen_refused : (n : ℕ) → m ≡ Refused n → foreseen t x ≡ came n 0 t
-  foreseen_refused n e = ap (λ (a : Parsed). foreseen_by t a (length (bytes_of x))) (sym is-asked ∙ e)
+  foreseen_refused n e = ap (λ (a : Parsed). foreseen_by t a (length (bytes_of x))) (sym is_asked ∙ e)
 
   pub judged : sound t ≡ true → (c : Call) (bs : List ℕ) (d : Decision) → m ≡ Asked c → bs ≡ bytes_of x
       → d ≡ decision_of t c (decide t c (length bs)) → Judged t x d
@@ -69,7 +69,7 @@ module _ (t : Tables) (x : Sent) (m : Parsed) (is-asked : m ≡ asked x) where
       let after = (decision_told t ok c size).tables_told in
       subst (Judged t x) (sym (is ∙ ap (λ (l : List ℕ). decision_of t c (decide t c (length l))) b))
       (record {
-        comes = ap (λ (a : Parsed). foreseen_by t a size) (sym is-asked ∙ e)
+        comes = ap (λ (a : Parsed). foreseen_by t a size) (sym is_asked ∙ e)
             ∙ ap (λ (r : Tables). came (number_of o) (laid_of o) r) (sym after);
         kept = ap sound after ∙ left_sound t ok c size;
         held = held_settled t ok c size;

@@ -168,10 +168,10 @@ unmoved_end room s (x ∷ xs) e =
     unmoved_end room (left_by room s x) xs (neither_right m (moved_in ts) e) ∙ unmoved room s x (neither_left m (moved_in ts) e)
 
 -- a turn that a full buffer leaves out, and those behind it
-unmoved_one : (isFull : Bool) (room : ℕ) (s : State) (x : Sent) (ts : List Turn)
+unmoved_one : (is_full : Bool) (room : ℕ) (s : State) (x : Sent) (ts : List Turn)
     → (moved_in ts ≡ false → (state_after (left_by room s x) ts).tables ≡ (left_by room s x).tables)
-    → moved_in (cond isFull [] (turn_of room s x ∷ ts)) ≡ false
-    → (state_after s (cond isFull [] (turn_of room s x ∷ ts))).tables ≡ s.tables
+    → moved_in (cond is_full [] (turn_of room s x ∷ ts)) ≡ false
+    → (state_after s (cond is_full [] (turn_of room s x ∷ ts))).tables ≡ s.tables
 unfolding moved_in state_after
 unmoved_one true room s x ts k e = refl
 unmoved_one false room s x ts k e =

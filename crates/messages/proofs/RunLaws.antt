@@ -28,11 +28,11 @@ use Rattle.messages.proofs.TurnLaws.{rules_of, Served, answer_told, rules_kept, 
 -- ---- the reader's answer
 
 -- what is due and not the end is the message at the place, in a buffer that is not full
-pub record Due (file : List ℕ) (at : ℕ) (isFull : Bool) (next : Next) : Type 0 where
-  pub roomy : isFull ≡ false
+pub record Due (file : List ℕ) (at : ℕ) (is_full : Bool) (next : Next) : Type 0 where
+  pub roomy : is_full ≡ false
   pub found : next ≡ next_at file at
 
-pub due : (file : List ℕ) (at : ℕ) (isFull : Bool) (next : Next) → next ≡ due_at file at isFull → is_end next ≡ false → Due file at isFull next
+pub due : (file : List ℕ) (at : ℕ) (is_full : Bool) (next : Next) → next ≡ due_at file at is_full → is_end next ≡ false → Due file at is_full next
 due file at true next e h = let f : true ≡ false = ap is_end (sym e) ∙ h in let z : ◌≡◌ {A = ℕ} 0 1 = cc in absurd (omega arith)
 due file at false next e h = record { roomy = refl; found = e }
 

@@ -23,7 +23,7 @@ use Rattle.messages.specs.Run.{Sent, answer, messages_of, full, passed}
 
 -- what is due at a place: nothing more, as at the end, where the buffer is full
 abbrev pub due_at : List ℕ → ℕ → Bool → Next
-due_at file at isFull = cond isFull End (next_at file at)
+due_at file at is_full = cond is_full End (next_at file at)
 
 abbrev pub is_end : Next → Bool
 is_end (Message start len next) = false

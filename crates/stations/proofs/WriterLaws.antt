@@ -116,13 +116,13 @@ length_fits c bs e = go (has bytes c.kind) refl
         let k = c.kind in
         let size = span_short c (length bs) e q in
         let three = three_singles k q in
-        let by-least = count_least k true q in
+        let by_least = count_least k true q in
         let most : most_length k ≡ least_length k + 63 = ap (λ (x : Bool). least_length k + cond x 63 0) q in
         let end = ap length (ending_is k bs true q) in
         (omega (arith, size.0), omega (arith, size.1))
     go false q =
         let k = c.kind in
-        let by-least = count_least k false q in
+        let by_least = count_least k false q in
         let most : most_length k ≡ least_length k + 0 = ap (λ (x : Bool). least_length k + cond x 63 0) q in
         let end = ap length (ending_is k bs false q) in
         (omega arith, omega arith)

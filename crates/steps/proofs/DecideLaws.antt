@@ -399,7 +399,7 @@ module _ (t : Tables) (c : Call) (size : ℕ) (rules : Sound t)
       let least = (stands some).some in
       let most = (stands some).most in
       let long = length_in_use (stands some) in
-      let data-long = length_shown (copies_in_use g) in
+      let data_long = length_shown (copies_in_use g) in
       show_ok LookPage far refl (1 + 3 * length (copies_in_use g)) Show.Page (omega arith) (omega arith) refl (λ st l. omega arith)
       (λ st l. and_intro (and_intro (le-leb 1 g.n (omega arith)) (le-leb g.n 8 most))
       (and_intro (eq-eqb _ (1 + 3 * g.n) (omega arith)) (subst (λ (n : ℕ). each_is n 3 copy_marks_valid (copies_shown (copies_in_use g)) ≡ true) long (shown_marked (copies_in_use g)))))

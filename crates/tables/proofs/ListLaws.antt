@@ -14,10 +14,6 @@ use Rattle.tables.specs.Lists.{all, count, all_below, listed}
 -- ---- tests joined
 
 -- the first of two tests that both hold
-pub and-true : (a : Bool) → (a && true) ≡ a
-and-true true = refl
-and-true false = refl
-
 pub and_left : (a b : Bool) → (a && b) ≡ true → a ≡ true
 and_left true b e = refl
 and_left false b e = e

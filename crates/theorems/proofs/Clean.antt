@@ -150,15 +150,15 @@ fresh_blank p s fast long f slow low none =
 pub card_cleared : (room : ℕ) (xs : List Sent) (s : State) → length s.fast ≡ 64 * s.tables.shared.p
     → length s.slow ≡ 64 * s.tables.shared.s → Blank s → NoneHeld (end_of room s xs).tables
     → (end_of room s xs).slow ≡ replicate (64 * s.tables.shared.s) 0
-card_cleared room xs s fits-fast fits-slow blank none =
+card_cleared room xs s fits_fast fits_slow blank none =
     let p = s.tables.shared.p in
     let t : State = end_of room s xs in
     let same = end_frames room xs s in
     let slow : t.tables.shared.p ≡ p = ap (λ (a : Shared). a.p) same in
     let all : t.tables.shared.s ≡ s.tables.shared.s = ap (λ (a : Shared). a.s) same in
     let l = end_long room xs s in
-    all_zeros s.tables.shared.s t.slow (l.1 ∙ fits-slow) (λ j h.
-    sym (slow_block p t.fast t.slow (l.0 ∙ fits-fast) j)
+    all_zeros s.tables.shared.s t.slow (l.1 ∙ fits_slow) (λ j h.
+    sym (slow_block p t.fast t.slow (l.0 ∙ fits_fast) j)
     ∙ stays_blank room xs s blank (p + j) (omega arith) (omega arith) (none (p + j) (omega arith) (omega arith)))
 
 pub clean : Clean

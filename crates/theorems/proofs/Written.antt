@@ -116,13 +116,13 @@ module _ (m : List ℕ) (c : Call) (a : AskedBy m c) where
           let r = drop 2 m in
           let long = length-drop 2 m in
           let three = three_singles kind q in
-          let by-least = count_least kind true q in
+          let by_least = count_least kind true q in
           values_of kind r (write_bytes m) (omega (arith, a.least)) ∙ ap (λ (n : ℕ). take n r ++ ending kind (write_bytes m)) three
           ∙ ap (λ (x : List ℕ). take 3 r ++ x) (ending_is kind (write_bytes m) true q ∙ sym (drop-drop 3 2 m)) ∙ take-append-drop 3 r
       go false q =
           let r = drop 2 m in
           let long = length-drop 2 m in
-          let by-least = count_least kind false q in
+          let by_least = count_least kind false q in
           let most : most_length kind ≡ least_length kind + 0 = ap (λ (x : Bool). least_length kind + cond x 63 0) q in
           values_of kind r (write_bytes m) (omega (arith, a.least))
           ∙ ap (λ (x : List ℕ). take (count kind) r ++ x) (ending_is kind (write_bytes m) false q)

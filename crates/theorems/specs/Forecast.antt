@@ -37,7 +37,7 @@ how_many_get room ts n = count (λ (r : List ℕ). eqb (reply_number r) n) (repl
 -- that f are these figures; "Figures stop at 4294967295"
 pub record FiguresOf (room : ℕ) (s : State) (ts : List Turn) (f : Figures) : Type 0 where
   pub number_is : f.number ≡ accepted
-  -- never above P+S (`held_Low`), so that no stop is needed
+  -- never above P+S (`held_low`), so that no stop is needed
   pub most_is : f.most ≡ most_held s ts
   pub laid_is : f.laid ≡ stopped (laid_in_all ts)
   pub counts_are : (n : ℕ) → n < numbers_counted → get_or f.counts n 0 ≡ stopped (how_many_get room ts n)

@@ -65,9 +65,9 @@ CallsKept writes =
 
 -- a call by its kind byte and its arguments is written as the call
 abbrev pub KindsWritten : Writer → KindWriter → Type 0
-KindsWritten writes writesAs =
+KindsWritten writes writes_as =
     (room kind : ℕ) (arguments bs : List ℕ) → is_unknown kind ≡ false
-    → writesAs room kind arguments bs ≡ writes room (call_of (kind_of kind) arguments) bs
+    → writes_as room kind arguments bs ≡ writes room (call_of (kind_of kind) arguments) bs
 
 -- "every message of those ranges that isn't refused 1 to 4, written again, has the same bytes": of a message m at the
 -- front of bytes l
@@ -129,11 +129,11 @@ PastUnread reads =
 -- ---- the request
 
 -- of a writer, one by kind bytes, and a reader
-pub record ExchangeOf (writes : Writer) (writesAs : KindWriter) (reads : ReplyReader) : Type 0 where
+pub record ExchangeOf (writes : Writer) (writes_as : KindWriter) (reads : ReplyReader) : Type 0 where
   pub calls : CallsKept writes
   -- a call that a message can ask for has no arguments but those that its kind names
   pub plain : (k : Kind) (arguments : List ℕ) → canonical (call_of k arguments) ≡ call_of k arguments
-  pub by_kind : KindsWritten writes writesAs
+  pub by_kind : KindsWritten writes writes_as
   pub messages : MessagesKept writes
   pub kind_byte : (m : List ℕ) → is_unknown (get_or m 1 0) ≡ false → OfKind (get_or m 1 0) (whole m)
   pub of_cut : (kind : ℕ) → is_unknown kind ≡ false → OfKind kind cut

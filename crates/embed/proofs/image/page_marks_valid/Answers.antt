@@ -1,12 +1,11 @@
 -- `page_marks_valid`. What is found so far and the entries from i on give the answer.
 use Prim.Native.Nat.{◌+◌, ◌*◌}
-use mathlib.Core.Bool.{and_assoc}
+use mathlib.Core.Bool.{and_assoc, and-true}
 use mathlib.Core.Path.{◌≡◌, sym, ◌∙◌}
 use native.Mathlib.Omega.{arith}
 use lib.ListN.{drop}
 use lib.Seq.{drop-drop}
 use borrow.Author.Rules.{rules}
-use Rattle.tables.proofs.ListLaws.{and-true}
 use Rattle.steps.proofs.DataLaws.{each_next}
 use Rattle.steps.specs.Data.{copy_marks_valid, each_is}
 use Rattle.embed.specs.Bytes.{page_marks_valid}

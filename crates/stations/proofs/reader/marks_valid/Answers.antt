@@ -1,10 +1,9 @@
 -- `marks_valid`. What is found so far and the copies from i on give the answer.
 use Prim.Native.Nat.{◌+◌, ◌*◌, ◌-◌}
-use mathlib.Core.Bool.{◌&&◌, and_assoc}
+use mathlib.Core.Bool.{◌&&◌, and_assoc, and-true}
 use mathlib.Core.Path.{◌≡◌, refl, sym, ◌∙◌}
 use native.Mathlib.Omega.{arith}
 use lib.ListN.{drop, get_or}
-use Rattle.tables.proofs.ListLaws.{and-true}
 use Rattle.steps.specs.Data.{is_mark, copy_marks_valid, each_is}
 use Rattle.steps.proofs.DataLaws.{each_next}
 use Rattle.stations.proofs.ReaderLaws.{marks_at}

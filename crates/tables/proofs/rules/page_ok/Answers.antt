@@ -1,14 +1,13 @@
 -- `page_ok` tests one page, with the entries of its frames.
 use Prim.Native.Nat.{ℕ}
 use mathlib.Core.Path.{◌≡◌, sym, ap}
-use mathlib.Core.Bool.{true}
+use mathlib.Core.Bool.{true, and-true}
 use lib.ListN.{length, take}
 use borrow.Author.Tests.{eq-eqb, ne_eqb}
 use borrow.Author.Rules.{rules}
 use Rattle.tables.specs.Model.{copies_in_use}
 use Rattle.tables.specs.Rules.{absent_rule, page_rule}
 use Rattle.tables.specs.PrivatePass.{entries_are}
-use Rattle.tables.proofs.ListLaws.{and-true}
 use Rattle.tables.proofs.rules.page_ok.Goals as goal
 
 pub returns-then-g-eq0 : goal.returns-then-g-eq0
