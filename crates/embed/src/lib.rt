@@ -1,5 +1,5 @@
 // The kernel for programs in C or Rust. The tables are lent as bytes, so a caller needs no type of
-// ours.
+// ours. `embed_c` exports these functions to them.
 #![tactic(auto)]
 
 mod image;
@@ -32,16 +32,14 @@ const MINOR: u32 = 1;
 const PATCH: u32 = 0;
 
 // 65536 times the major version, 256 times the minor one and the patch, in one.
-#[unsafe(no_mangle)]
-pub extern "C" fn reel_version() -> u32
+pub fn reel_version() -> u32
     ensures { result ≡ version }
 {
     65536 * MAJOR + 256 * MINOR + PATCH
 }
 
 // Makes fresh tables: 0, or 19 with P = S = 0. A buffer of another length is left alone: 5.
-#[unsafe(no_mangle)]
-pub extern "C" fn reel_fresh(p: u8, s: u8, tables: &mut [u8]) -> u8
+pub fn reel_fresh(p: u8, s: u8, tables: &mut [u8]) -> u8
     ensures value { result ≡ (fresh_into p s tables.old).number }
     ensures tables_after { tables.new ≡ (fresh_into p s tables.old).bytes }
 {
@@ -54,8 +52,7 @@ pub extern "C" fn reel_fresh(p: u8, s: u8, tables: &mut [u8]) -> u8
 }
 
 // Tests the tables and the lengths of both stores: 0, 5 or 6.
-#[unsafe(no_mangle)]
-pub extern "C" fn reel_rules(tables: &[u8], fast: usize, slow: usize) -> u8
+pub fn reel_rules(tables: &[u8], fast: usize, slow: usize) -> u8
     ensures { result ≡ rules_number (tables_of tables.now) fast slow }
 {
     let t = tables_of(tables);
@@ -64,8 +61,7 @@ pub extern "C" fn reel_rules(tables: &[u8], fast: usize, slow: usize) -> u8
 
 // A read as a place: its length, 256 times its store (0 fast, 1 slow) and 65536 times the offset in
 // that store, in one; 0 where it is refused.
-#[unsafe(no_mangle)]
-pub extern "C" fn reel_read(
+pub fn reel_read(
     tables: &[u8],
     fast: usize,
     slow: usize,
@@ -83,8 +79,7 @@ pub extern "C" fn reel_read(
 
 // Answers one message, its length first: the number, 256 times the length of the reply and 65536
 // times the bytes laid, in one. Bytes that hold no tables are broken ones, and are left alone.
-#[unsafe(no_mangle)]
-pub extern "C" fn reel_answer(
+pub fn reel_answer(
     tables: &mut [u8],
     fast: &mut [u8],
     slow: &mut [u8],
@@ -104,8 +99,7 @@ pub extern "C" fn reel_answer(
 
 // Runs a call file, and counts on in a tally of three numbers: messages, refusals and bytes laid.
 // Bytes that hold no tables are broken ones, and are left alone; so is a tally of another length.
-#[unsafe(no_mangle)]
-pub extern "C" fn reel_run(
+pub fn reel_run(
     tables: &mut [u8],
     fast: &mut [u8],
     slow: &mut [u8],
@@ -128,8 +122,7 @@ pub extern "C" fn reel_run(
 // Answers the messages of a call file from a place on, and lays reply after reply into the buffer,
 // until the file ends or fewer than 70 bytes are left: the bytes used, and the place reached. The
 // caller empties the buffer and goes on from there. For the rest it is as `reel_run`.
-#[unsafe(no_mangle)]
-pub extern "C" fn reel_replies(
+pub fn reel_replies(
     tables: &mut [u8],
     fast: &mut [u8],
     slow: &mut [u8],
@@ -156,8 +149,7 @@ pub extern "C" fn reel_replies(
 
 // Forecasts a call file on the tables, with no store: 0, or 5 for broken tables and bytes that hold none, and the
 // figures. Any other number of them than 34 is left alone.
-#[unsafe(no_mangle)]
-pub extern "C" fn reel_forecast(tables: &[u8], file: &[u8], figures: &mut [u32]) -> u8
+pub fn reel_forecast(tables: &[u8], file: &[u8], figures: &mut [u32]) -> u8
     ensures { ForecastPromised tables.now file.now figures.old
         figures.new result }
 {
@@ -168,8 +160,7 @@ pub extern "C" fn reel_forecast(tables: &[u8], file: &[u8], figures: &mut [u32])
 }
 
 // Writes the message of a call to the front of the buffer: its number and 256 times the length of the message, in one.
-#[unsafe(no_mangle)]
-pub extern "C" fn reel_write(
+pub fn reel_write(
     kind: u8,
     first: u8,
     second: u8,
@@ -189,8 +180,7 @@ pub extern "C" fn reel_write(
 // Reads the reply to a message of the kind that is told: the reader's own refusal, 1 to 4; or 0 and, in one, 256 times
 // the number that the reply carries, 65536 times the bytes laid, and in the fifth and sixth byte where the data start
 // and how many they are.
-#[unsafe(no_mangle)]
-pub extern "C" fn reel_read_reply(kind: u8, reply: &[u8]) -> u64
+pub fn reel_read_reply(kind: u8, reply: &[u8]) -> u64
     ensures { result ≡ reading_number (read_reply kind reply.now) }
 {
     let told = read_reply(kind, reply);

@@ -2,20 +2,33 @@
 // to standard output. Everything that matters is in the proved libraries.
 #![tactic(auto)]
 
-ghost use Rattle.std.specs.Prelude.{◌≡◌, length, take};
-ghost use Rattle.io.specs.Counts.{IsPrefixLen};
+ghost use Rattle.std.specs.Prelude.{◌≡◌, ℕ, length, take, IfOk, IfSome, OnOk, OnErr};
+ghost use Rattle.std.specs.Counts.{IsPrefixLen};
+ghost use Rattle.std.specs.Io.KnownBytes.{Appends, Consumes};
 ghost use Rattle.program.specs.Served.{most, zero_store, output, Lends};
 
-use libc::{STDIN_FILENO, STDOUT_FILENO};
 use messages::{Tally, fill};
+use std::io;
+use std::io::{ErrorKind, Read, Write};
 use tables::Tables;
 
 // Reads the call file. What comes after the buffer's 60000 bytes is treated as absent.
-fn read_file(file: &mut [u8]) -> usize
+fn read_file<R: Read>(input: &mut R, file: &mut [u8]) -> io::Result<usize>
     requires { length file.old ≡ most }
-    ensures { IsPrefixLen result file.new }
+    ensures prefix_len { IfOk result (λ n. IsPrefixLen n file.new) }
+    ensures bytes { IfOk result (λ n. IfSome (R.remaining input.old) (λ xs. take n file.new ≡ take most xs)) }
+    ensures err { OnErr result
+        ((n : ℕ) × Consumes (R.remaining input.old) (R.remaining input.new) (take n file.new)) }
 {
-    io::read_full(STDIN_FILENO, file)
+    let mut done = 0;
+    while done < file.len() {
+        let n = input.read(&mut file[done..])?;
+        if n == 0 {
+            return Ok(done);
+        }
+        done += n;
+    }
+    Ok(done)
 }
 
 // Carries out the call file from fresh tables. All replies stand at the front of the buffer, in as many bytes as it
@@ -37,19 +50,37 @@ fn serve(file: &[u8], fast: &mut [u8], slow: &mut [u8], out: &mut [u8]) -> usize
 }
 
 // Writes the replies to the file, and nothing else.
-fn write_replies(file: &[u8], replies: &[u8])
+fn write_replies<W: Write>(to: &mut W, file: &[u8], replies: &[u8]) -> io::Result<()>
     requires { replies.now ≡ output file.now zero_store zero_store }
+    ensures all { OnOk result (Appends (W.contents to.old) (W.contents to.new) replies.now) }
+    ensures err { OnErr result
+        ((n : ℕ) × Appends (W.contents to.old) (W.contents to.new) (take n replies.now)) }
 {
-    io::write_all(STDOUT_FILENO, replies);
+    let mut done = 0;
+    while done < replies.len() {
+        let n = to.write(&replies[done..])?;
+        if n == 0 {
+            return Err(io::Error::from(ErrorKind::WriteZero));
+        }
+        done += n;
+    }
+    Ok(())
 }
 
-fn main() {
+// So many zeros. Proofs see how many there are, and do not write them out.
+fn zeros<const N: usize>() -> [u8; N]
+    ensures { length result ≡ N }
+{
+    [0; N]
+}
+
+fn main(rt: HostRuntime) -> io::Result<()> {
     let mut file = [0u8; 60000];
     let mut fast = [0u8; 256];
     let mut slow = [0u8; 256];
     // 35 bytes for each 4 of the file, and 70 more.
-    let mut out = [0u8; 525070];
-    let n = read_file(&mut file);
+    let mut out = zeros::<525070>();
+    let n = read_file(&mut rt.stdin(), &mut file)?;
     let used = serve(&file[..n], &mut fast, &mut slow, &mut out);
-    write_replies(&file[..n], &out[..used]);
+    write_replies(&mut rt.stdout(), &file[..n], &out[..used])
 }

@@ -1,5 +1,6 @@
 // For the benchmark: work on tables that are taken from lent bytes once, so that what is measured is
-// the kernel and not the bytes. For the tests: a read as a part of a lent store.
+// the kernel and not the bytes. For the tests: a read as a part of a lent store. `timing_c` exports
+// these functions to both.
 #![tactic(auto)]
 
 ghost use Rattle.std.specs.Prelude.{◌≡◌, [], ◌+◌, ◌*◌, ◌≤◌, length};
@@ -58,8 +59,7 @@ fn answers(
 
 // Answers every message of the file by itself, and returns how many there were, counted as a tally
 // counts them.
-#[unsafe(no_mangle)]
-pub extern "C" fn reel_answers(
+pub fn reel_answers(
     tables: &mut [u8],
     fast: &mut [u8],
     slow: &mut [u8],
@@ -85,8 +85,7 @@ pub extern "C" fn reel_answers(
 
 // Tests the rules again and again, and returns how often they held. Each test finds another owner of
 // page 0, so that the compiler cannot make one test of them all.
-#[unsafe(no_mangle)]
-pub extern "C" fn reel_sound(tables: &[u8], times: u32) -> u32
+pub fn reel_sound(tables: &[u8], times: u32) -> u32
     ensures { result ≡ sound_times (tables_of tables.now) times }
 {
     let mut t = tables_of(tables);
@@ -124,8 +123,7 @@ fn first_number(bytes: &[u8]) -> u32
 }
 
 // What a read gives as a part of a lent store: 256 times its length and its first byte, in one; 0 where it is refused.
-#[unsafe(no_mangle)]
-pub extern "C" fn reel_read_first<'a>(
+pub fn reel_read_first<'a>(
     tables: &[u8],
     fast: &'a [u8],
     slow: &'a [u8],
@@ -152,8 +150,7 @@ fn three_bytes(first: u8, second: u8, third: u8) -> u32
 
 // What the search of the pages finds on a frame, or that it is retired: the three bytes that a look
 // shows, in one number.
-#[unsafe(no_mangle)]
-pub extern "C" fn reel_searched(tables: &[u8], frame: u8) -> u32
+pub fn reel_searched(tables: &[u8], frame: u8) -> u32
     ensures { result ≡ shown_number (shown (holder_of (tables_of tables.now) frame)) }
 {
     let t = tables_of(tables);
