@@ -1,8 +1,8 @@
-//! The two functions of `libtiming.a` that are there for the benchmark alone.
+//! The two functions of `libtiming_c.a` that are there for the benchmark alone.
 
 use kernel::Unit;
 
-#[link(name = "timing", kind = "static")]
+#[link(name = "timing_c", kind = "static")]
 extern "C" {
     fn reel_answers(
         tables: *mut u8,

@@ -27,7 +27,7 @@ const GRANT: u8 = 3;
 const SHORT_BUFFER: u8 = 18;
 
 // A slice passes as pointer and length.
-#[link(name = "embed", kind = "static")]
+#[link(name = "embed_c", kind = "static")]
 extern "C" {
     fn reel_version() -> u32;
 

@@ -1,4 +1,4 @@
-//! What can be compared with the model: the kernel of `libembed.a`, and the model itself, on which
+//! What can be compared with the model: the kernel of `libembed_c.a`, and the model itself, on which
 //! the tests of the comparison build.
 
 use crate::forecast::{self, Course, Forecast};
@@ -96,7 +96,7 @@ impl Stations for Modelled {
     }
 }
 
-/// The kernel of `libembed.a`.
+/// The kernel of `libembed_c.a`.
 pub struct Embedded;
 
 impl Stations for Embedded {

@@ -1,4 +1,4 @@
-//! A read as a part of the lent fast or slow store (`steps::read`), by `reel_read_first` of the crate timing, which
+//! A read as a part of the lent fast or slow store (`steps::read`), by `reel_read_first` of the crate timing_c, which
 //! tells how many bytes that part has and the first of them. The kernel's reply to the same read has the same bytes.
 //! And what the search of the pages finds on a frame (`Tables::holder`), by `reel_searched` beside it: the kernel's
 //! reply to a look at the frame, which reads the register, shows the same.
@@ -9,7 +9,7 @@ use ::model::kernel::{Embedded, Kernel};
 use ::model::model::{Lent, LEAST_BUFFER, MOST_FRAMES, PAGES, RAW, STATIONS};
 
 // A slice passes as pointer and length.
-#[link(name = "timing", kind = "static")]
+#[link(name = "timing_c", kind = "static")]
 extern "C" {
     fn reel_read_first(
         tables: *const u8,
