@@ -96,6 +96,7 @@ pub(crate) fn delete_copy(view: View, call: Call) -> Verdict
     clearing(Edit::Removed { copy: call.copy }, c.frame)
 }
 
+#[tactic(auto, using(crate::proofs::GuardLaws::set_current_stale, crate::proofs::GuardLaws::set_current_marks))]
 pub(crate) fn set_current(view: View, call: Call) -> Verdict
     ensures { (size : ℕ) → result ≡ verdict_of (perform view call size SetCurrent) }
 {

