@@ -8,7 +8,7 @@ use native.Mathlib.Omega.{arith}
 use lib.ListN.{length, take, drop, get_or, length-drop, drop_of_length-le}
 use lib.Seq.{drop-cons, drop-drop}
 use lib.Dec.{leb, ltb}
-use borrow.Author.Tests.{leb-true, leb-false, ltb-true, ltb-false, lt-ltb, le-ltb}
+use borrow.Author.Tests.{leb-true, leb-false, ltb-true, ltb-false, lt-ltb, le-ltb, lt-leb}
 use Rattle.steps.specs.Stores.{part}
 use Rattle.messages.specs.declared.Next.{Next}
 use Rattle.messages.specs.declared.Next.TheVariants.{Message, Cut, End}
@@ -112,6 +112,15 @@ reader_yields file at = first (leb (length file) at) refl
 -- so whoever gives that answer keeps the reader's promise
 pub yields_at : (file : List ℕ) (at : ℕ) (r : Next) → r ≡ next_at file at → Yields file at r
 yields_at file at r e = record { told = e; meant = ap (yielded file) e ∙ sym (reader_yields file at) }
+
+-- one byte that is left is cut short
+module _ (file : List ℕ) (at : ℕ) (some : at < length file) (few : length file - at < 2) where
+  pub told_cut : Cut ≡ next_at file at
+  unfolding next_at
+  told_cut = simp (lt-leb (length file) at some, lt-ltb (length file) (at + 2) (omega (arith, few)))
+
+  pub meant_cut : cut ∷ [] ≡ messages_of (drop at file)
+  meant_cut = (yields_at file at Cut told_cut).meant
 
 -- ---- a message that the reader yields
 

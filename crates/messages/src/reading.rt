@@ -5,6 +5,7 @@ ghost use Rattle.messages.specs.Promises.{Yields};
 use crate::{Next, Reader};
 
 // What stands at a place of the file.
+#[tactic(auto, using(crate::proofs::ReaderLaws::told_cut, crate::proofs::ReaderLaws::meant_cut))]
 pub fn next_at(file: &[u8], at: usize) -> Next
     ensures { Yields file.now at result }
 {

