@@ -214,27 +214,29 @@ unfolding count reply
 some_other k = omega (arith, k 32 (omega arith))
 
 pub right_figures : FiguresOf 70 state₈ turns₈ figures₈
+unfolding run_on
 right_figures =
     of_fields (record { turns = turns₈; figures = figures₈ })
-    (each _ refl (sym right_most) (ap stopped (sym right_laid)) right_counts refl right_others)
+    (each _ refl (sym right_most) refl right_counts refl right_others)
 
 pub alone : (i j : Field) → Row i j
+unfolding run_on
 alone number_is =
-    each (Row number_is) (λ e. omega (arith, e)) (sym right_most) (ap stopped (sym right_laid)) right_counts refl
+    each (Row number_is) (λ e. omega (arith, e)) (sym right_most) refl right_counts refl
     right_others
 alone most_is =
-    each (Row most_is) refl (λ e. true≢false (ap (λ (n : ℕ). eqb n 1) (e ∙ right_most))) (ap stopped (sym right_laid))
+    each (Row most_is) refl (λ e. true≢false (ap (λ (n : ℕ). eqb n 1) (e ∙ right_most))) refl
     right_counts refl right_others
 alone laid_is =
     each (Row laid_is) refl (sym right_most)
-    (λ e. true≢false (ap (λ (n : ℕ). eqb n 64) (e ∙ ap stopped right_laid)))
+    (λ e. true≢false (ap (λ (n : ℕ). eqb n 64) e))
     right_counts refl right_others
 alone counts_are =
-    each (Row counts_are) refl (sym right_most) (ap stopped (sym right_laid))
+    each (Row counts_are) refl (sym right_most) refl
     (λ k. true≢false (ap (λ (n : ℕ). eqb n 3) (k 0 (omega arith) ∙ sym (right_counts 0 (omega arith))))) refl
     right_others
 alone counts_long =
-    each (Row counts_long) refl (sym right_most) (ap stopped (sym right_laid)) more_counts
+    each (Row counts_long) refl (sym right_most) refl more_counts
     (λ e. omega (arith, e)) right_others
 alone none_other = each (Row none_other) refl start_held refl none_counted refl some_other
 
@@ -247,8 +249,9 @@ Caught given f = (given ≡ f) × (FiguresOf 70 state₈ turns₈ f → ⊥)
 other_most : (f : Figures) → eqb f.most 2 ≡ false → FiguresOf 70 state₈ turns₈ f → ⊥
 other_most f e k = false≢true (sym e ∙ ap (λ (n : ℕ). eqb n 2) (k.most_is ∙ right_most))
 
-other_laid : (f : Figures) → eqb f.laid 192 ≡ false → FiguresOf 70 state₈ turns₈ f → ⊥
-other_laid f e k = false≢true (sym e ∙ ap (λ (n : ℕ). eqb n 192) (k.laid_is ∙ ap stopped right_laid))
+other_laid : stopped (laid_in_all turns₈) ≡ 192 → (f : Figures) → eqb f.laid 192 ≡ false
+    → FiguresOf 70 state₈ turns₈ f → ⊥
+other_laid is f e k = false≢true (sym e ∙ ap (λ (n : ℕ). eqb n 192) (k.laid_is ∙ is))
 
 -- one message under 1
 other_cut : (f : Figures) → eqb (get_or f.counts 1 0) 1 ≡ false → FiguresOf 70 state₈ turns₈ f → ⊥
@@ -308,7 +311,7 @@ pub refused_laid : Caught
     (record { number = m.number; laid = cond (eqb m.number retired) 64 m.laid; tables = m.tables })))
     (some_figures 0 2 256 (under 2 1 1))
 unfolding run_on foretold_by up_to count_below
-refused_laid = (refl, other_laid _ refl)
+refused_laid = (refl, other_laid refl _ refl)
 
 -- the end that is cut short counted twice, and not at all
 pub cut_twice : Caught (forecast_of (at_start tables₈) tables₈ (messages_of file₈ ++ (cut ∷ [])))
