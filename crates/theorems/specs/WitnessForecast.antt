@@ -249,9 +249,14 @@ Caught given f = (given ≡ f) × (FiguresOf 70 state₈ turns₈ f → ⊥)
 other_most : (f : Figures) → eqb f.most 2 ≡ false → FiguresOf 70 state₈ turns₈ f → ⊥
 other_most f e k = false≢true (sym e ∙ ap (λ (n : ℕ). eqb n 2) (k.most_is ∙ right_most))
 
-other_laid : stopped (laid_in_all turns₈) ≡ 192 → (f : Figures) → eqb f.laid 192 ≡ false
+-- other bytes laid, where what is laid is known, and as it is
+laid_apart : stopped (laid_in_all turns₈) ≡ 192 → (f : Figures) → eqb f.laid 192 ≡ false
     → FiguresOf 70 state₈ turns₈ f → ⊥
-other_laid is f e k = false≢true (sym e ∙ ap (λ (n : ℕ). eqb n 192) (k.laid_is ∙ is))
+laid_apart is f e k = false≢true (sym e ∙ ap (λ (n : ℕ). eqb n 192) (k.laid_is ∙ is))
+
+other_laid : (f : Figures) → eqb f.laid 192 ≡ false → FiguresOf 70 state₈ turns₈ f → ⊥
+unfolding run_on
+other_laid = laid_apart refl
 
 -- one message under 1
 other_cut : (f : Figures) → eqb (get_or f.counts 1 0) 1 ≡ false → FiguresOf 70 state₈ turns₈ f → ⊥
@@ -311,7 +316,7 @@ pub refused_laid : Caught
     (record { number = m.number; laid = cond (eqb m.number retired) 64 m.laid; tables = m.tables })))
     (some_figures 0 2 256 (under 2 1 1))
 unfolding run_on foretold_by up_to count_below
-refused_laid = (refl, other_laid refl _ refl)
+refused_laid = (refl, laid_apart refl _ refl)
 
 -- the end that is cut short counted twice, and not at all
 pub cut_twice : Caught (forecast_of (at_start tables₈) tables₈ (messages_of file₈ ++ (cut ∷ [])))
