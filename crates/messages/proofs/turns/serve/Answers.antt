@@ -1,6 +1,6 @@
 -- `serve` meets its contract. The loop's invariant, `Going`: the rest gives what the whole does, and the rules stand as
 -- they were tested. The measure is what is left of the file.
-use Prim.Native.Nat.{ℕ, ◌-◌, ◌≤◌}
+use Prim.Native.Nat.{ℕ, ◌-◌, ◌≤◌, ◌<◌}
 use mathlib.Core.Path.{◌≡◌, refl, sym, ap, ◌∙◌}
 use mathlib.Core.Bool.{Bool, true, false, ◌||◌, cond, or-true, or-false}
 use native.Mathlib.Omega.{arith}
@@ -11,11 +11,12 @@ use Rattle.steps.specs.Promises.{state_of}
 use Rattle.steps.proofs.StepLaws.{decide_ruled}
 use Rattle.messages.specs.Run.{asked, full}
 use Rattle.messages.specs.Promises.{sent_by}
-use Rattle.messages.specs.Private.{due_at, is_end, ahead}
-use Rattle.messages.proofs.TurnLaws.{served_early, some_number, decided, unsettled, asked_by, bytes_by}
-use Rattle.messages.proofs.RunLaws.{due, follows, going_all, going_on, going_none}
+use Rattle.messages.specs.Private.{due_at, is_end, serving, ahead}
+use Rattle.messages.proofs.TurnLaws.{served_early, some_number, Decided, decided, unsettled, asked_by, bytes_by}
+use Rattle.messages.proofs.RunLaws.{Due, due, follows, Going, going_all, going_on, going_none}
 use borrow.Author.Rules.{rules}
 use Rattle.messages.proofs.turns.serve.Goals as goal
+use Rattle.messages.proofs.turns.serve.Goals.{After-due_at-next, Else-is_end, After-asked_in, After-past-at, After-decide-d}
 
 -- ---- what is known there
 -- a refusal has six bytes at the most
@@ -30,6 +31,48 @@ moved_now before now e = rw e (sym (or-true before))
 moved_before : (before now : Bool) → now ≡ false → before ≡ (before || now)
 moved_before before now e = rw e (sym (or-false before))
 
+-- what is due, where the buffer is full or not
+found : (c : After-due_at-next)
+    → c.due_at-next.result ≡ due_at c.args.file.now c.loop-next.at (full (length c.args.out.now) c.loop-next.used)
+found c =
+    let l = c.loop-next in
+    c.due_at-next.ensures ∙ ap (λ (k : ℕ). due_at c.args.file.now l.at (ltb k l.used)) l.invariant.1
+
+-- the file has not ended
+goes : (c : Else-is_end) → is_end c.due_at-next.result ≡ false
+goes c = sym c.is_end.ensures ∙ c.if-is_end.false
+
+-- so what is due is the message at the place, and the buffer has room for a reply
+here : (c : Else-is_end)
+    → c.due_at-next.result ≡ due_at c.args.file.now c.loop-next.at (full (length c.args.out.now) c.loop-next.used)
+    → Due c.args.file.now c.loop-next.at (full (length c.args.out.now) c.loop-next.used) c.due_at-next.result
+here c told = due _ _ _ _ told (goes c)
+
+-- what the message asks for
+asks : (c : After-asked_in) → c.asked_in.result ≡ asked (sent_by c.args.file.now c.due_at-next.result)
+asks c = asked_by _ _ c.due_at-next.result _ c.bytes_in-m.ensures c.asked_in.ensures
+
+-- the file goes on past the message
+on : (c : After-past-at)
+    → Due c.args.file.now c.loop-next.at (full (length c.args.out.now) c.loop-next.used) c.due_at-next.result
+    → is_end c.due_at-next.result ≡ false
+    → length c.args.file.now - c.past-at.result < length c.args.file.now - c.loop-next.at
+on c due goes =
+    let f = follows _ _ _ due.found goes in
+    omega (arith, f.further, f.inside, c.past-at.ensures)
+
+-- what is known where the call is decided on
+done : (c : After-decide-d) → c.asked_in.result ≡ asked (sent_by c.args.file.now c.due_at-next.result) →
+    let l = c.loop-next in
+    Decided (state_of l.tables l.fast l.slow) (sent_by c.args.file.now c.due_at-next.result)
+    (take (length l.out - l.used) (drop l.used l.out)) c.write_bytes-bytes.result.now c.decide-d.result
+done c asks =
+    let l = c.loop-next in
+    decided (state_of l.tables l.fast l.slow) (sent_by c.args.file.now c.due_at-next.result) _ _ _
+    (take (length l.out - l.used) (drop l.used l.out)) asks c.early.ensures _ _ c.decide-d.result c.in-Asked.is
+    (c.write_bytes-bytes.ensures ∙ bytes_by _ _ c.due_at-next.result c.bytes_in-m.ensures)
+    (λ z. rw (decide_ruled l.tables (length l.fast) (length l.slow) _ _ (sym l.invariant.0.rules ∙ z)) c.decide-d.ensures)
+
 pub loop-next-init : goal.loop-next-init
 loop-next-init c =
     let a = c.args in
@@ -40,19 +83,14 @@ loop-next-init c =
 
 pub returns-then-is_end : goal.returns-then-is_end
 returns-then-is_end c =
-    let found : c.due_at-next.result ≡ due_at c.args.file.now c.loop-next.at (full (length c.args.out.now) c.loop-next.used) =
-    c.due_at-next.ensures
-    ∙ ap (λ (k : ℕ). due_at c.args.file.now c.loop-next.at (ltb k c.loop-next.used)) c.loop-next.invariant.1 in
-    record { all = going_none c.loop-next.invariant.0 _ found (sym c.is_end.ensures ∙ c.if-is_end.true) }
+    let p = goal.at.returns-then-is_end c in
+    record { all = going_none c.loop-next.invariant.0 _ (found p.After-due_at-next) (sym c.is_end.ensures ∙ c.if-is_end.true) }
 
 pub bytes_in-m-requires : goal.bytes_in-m-requires
 bytes_in-m-requires c =
-    let found : c.due_at-next.result ≡ due_at c.args.file.now c.loop-next.at (full (length c.args.out.now) c.loop-next.used) =
-    c.due_at-next.ensures
-    ∙ ap (λ (k : ℕ). due_at c.args.file.now c.loop-next.at (ltb k c.loop-next.used)) c.loop-next.invariant.1 in
-    let goes : is_end c.due_at-next.result ≡ false = sym c.is_end.ensures ∙ c.if-is_end.false in
-    let here = due _ _ _ _ found goes in
-    record { at = c.loop-next.at; found = here.found }
+    let p = goal.at.bytes_in-m-requires c in
+    let due = here p.Else-is_end (found p.After-due_at-next) in
+    record { at = c.loop-next.at; found = due.found }
 
 pub slice_bounds-rest-count : goal.slice_bounds-rest-count
 slice_bounds-rest-count c =
@@ -77,58 +115,32 @@ ahead-used-requires c =
 
 pub reply_decided-requires : goal.reply_decided-requires
 reply_decided-requires c =
-    let asks : c.asked_in.result ≡ asked (sent_by c.args.file.now c.due_at-next.result) =
-    asked_by _ _ c.due_at-next.result _ c.bytes_in-m.ensures c.asked_in.ensures in
-    let k = c.loop-next in
-    let w = decided (state_of k.tables k.fast k.slow) (sent_by c.args.file.now c.due_at-next.result) _ _ _
-    (take (length k.out - k.used) (drop k.used k.out)) asks c.early.ensures _ _ c.decide-d.result c.in-Asked.is
-    (c.write_bytes-bytes.ensures ∙ bytes_by _ _ c.due_at-next.result c.bytes_in-m.ensures)
-    (λ z. rw (decide_ruled k.tables (length k.fast) (length k.slow) _ _ (sym k.invariant.0.rules ∙ z)) c.decide-d.ensures) in
+    let p = goal.at.reply_decided-requires c in
+    let w = done p.After-decide-d (asks p.After-asked_in) in
     record { room = w.roomy; few = w.few }
 
 pub overflow_add-d : goal.overflow_add-d
 overflow_add-d c =
-    let asks : c.asked_in.result ≡ asked (sent_by c.args.file.now c.due_at-next.result) =
-    asked_by _ _ c.due_at-next.result _ c.bytes_in-m.ensures c.asked_in.ensures in
-    let k = c.loop-next in
-    let w = decided (state_of k.tables k.fast k.slow) (sent_by c.args.file.now c.due_at-next.result) _ _ _
-    (take (length k.out - k.used) (drop k.used k.out)) asks c.early.ensures _ _ c.decide-d.result c.in-Asked.is
-    (c.write_bytes-bytes.ensures ∙ bytes_by _ _ c.due_at-next.result c.bytes_in-m.ensures)
-    (λ z. rw (decide_ruled k.tables (length k.fast) (length k.slow) _ _ (sym k.invariant.0.rules ∙ z)) c.decide-d.ensures) in
-    let few = w.few in
+    let p = goal.at.overflow_add-d c in
+    let few = (done p.After-decide-d (asks p.After-asked_in)).few in
     search rules
 
 pub ahead-used-requires-in-Asked : goal.ahead-used-requires-in-Asked
 ahead-used-requires-in-Asked c =
-    let asks : c.asked_in.result ≡ asked (sent_by c.args.file.now c.due_at-next.result) =
-    asked_by _ _ c.due_at-next.result _ c.bytes_in-m.ensures c.asked_in.ensures in
-    let k = c.loop-next in
-    let w = decided (state_of k.tables k.fast k.slow) (sent_by c.args.file.now c.due_at-next.result) _ _ _
-    (take (length k.out - k.used) (drop k.used k.out)) asks c.early.ensures _ _ c.decide-d.result c.in-Asked.is
-    (c.write_bytes-bytes.ensures ∙ bytes_by _ _ c.due_at-next.result c.bytes_in-m.ensures)
-    (λ z. rw (decide_ruled k.tables (length k.fast) (length k.slow) _ _ (sym k.invariant.0.rules ∙ z)) c.decide-d.ensures) in
-    let few = w.few in
+    let p = goal.at.ahead-used-requires-in-Asked c in
+    let few = (done p.After-decide-d (asks p.After-asked_in)).few in
     omega (arith, c.loop-next.invariant.0.inside, few)
 
 pub loop-next-smaller-in-Refused : goal.loop-next-smaller-in-Refused
 loop-next-smaller-in-Refused c =
-    let found : c.due_at-next.result ≡ due_at c.args.file.now c.loop-next.at (full (length c.args.out.now) c.loop-next.used) =
-    c.due_at-next.ensures
-    ∙ ap (λ (k : ℕ). due_at c.args.file.now c.loop-next.at (ltb k c.loop-next.used)) c.loop-next.invariant.1 in
-    let goes : is_end c.due_at-next.result ≡ false = sym c.is_end.ensures ∙ c.if-is_end.false in
-    let here = due _ _ _ _ found goes in
-    let f = follows _ _ _ here.found goes in
-    omega (arith, f.further, f.inside, c.past-at.ensures)
+    let p = goal.at.loop-next-smaller-in-Refused c in
+    let due = here p.Else-is_end (found p.After-due_at-next) in
+    on p.After-past-at due (goes p.Else-is_end)
 
 pub loop-next-preserved-in-Refused : goal.loop-next-preserved-in-Refused
 loop-next-preserved-in-Refused c =
-    let found : c.due_at-next.result ≡ due_at c.args.file.now c.loop-next.at (full (length c.args.out.now) c.loop-next.used) =
-    c.due_at-next.ensures
-    ∙ ap (λ (k : ℕ). due_at c.args.file.now c.loop-next.at (ltb k c.loop-next.used)) c.loop-next.invariant.1 in
-    let goes : is_end c.due_at-next.result ≡ false = sym c.is_end.ensures ∙ c.if-is_end.false in
-    let here = due _ _ _ _ found goes in
-    let asks : c.asked_in.result ≡ asked (sent_by c.args.file.now c.due_at-next.result) =
-    asked_by _ _ c.due_at-next.result _ c.bytes_in-m.ensures c.asked_in.ensures in
+    let p = goal.at.loop-next-preserved-in-Refused c in
+    let due = here p.Else-is_end (found p.After-due_at-next) in
     let l = c.loop-next in
     let v = l.invariant.0 in
     let s = state_of l.tables l.fast l.slow in
@@ -136,43 +148,30 @@ loop-next-preserved-in-Refused c =
     let x = sent_by c.args.file.now c.due_at-next.result in
     let number = c.in-Refused.is in (
       rw c.past-at.ensures
-          (going_on v _ _ _ _ _ _ _ _ _ _ _ here goes
-          (served_early s x _ _ _ rest asks c.early.ensures _ _ number (λ _. sym v.rules) c.reply_refusal.ensures)
+          (going_on v _ _ _ _ _ _ _ _ _ _ _ due (goes p.Else-is_end)
+          (served_early s x _ _ _ rest (asks p.After-asked_in) c.early.ensures _ _ number (λ _. sym v.rules) c.reply_refusal.ensures)
           refl c.reply_refusal.auto.out
           (c.ahead-used.ensures ∙ ap (ahead c.args.keep l.used) c.reply_length.ensures)
-          (rw (ne_eqb _ 0 (some_number s x _ _ _ rest asks c.early.ensures _ number)) c.tally_after-tally.ensures)
+          (rw (ne_eqb _ 0 (some_number s x _ _ _ rest (asks p.After-asked_in) c.early.ensures _ number)) c.tally_after-tally.ensures)
           (sym (or-false l.moved)) refl refl),
       l.invariant.1,
     )
 
 pub loop-next-smaller-then-d : goal.loop-next-smaller-then-d
 loop-next-smaller-then-d c =
-    let found : c.due_at-next.result ≡ due_at c.args.file.now c.loop-next.at (full (length c.args.out.now) c.loop-next.used) =
-    c.due_at-next.ensures
-    ∙ ap (λ (k : ℕ). due_at c.args.file.now c.loop-next.at (ltb k c.loop-next.used)) c.loop-next.invariant.1 in
-    let goes : is_end c.due_at-next.result ≡ false = sym c.is_end.ensures ∙ c.if-is_end.false in
-    let here = due _ _ _ _ found goes in
-    let f = follows _ _ _ here.found goes in
-    omega (arith, f.further, f.inside, c.past-at.ensures)
+    let p = goal.at.loop-next-smaller-then-d c in
+    let due = here p.Else-is_end (found p.After-due_at-next) in
+    on p.After-past-at due (goes p.Else-is_end)
 
 pub loop-next-preserved-then-d : goal.loop-next-preserved-then-d
 loop-next-preserved-then-d c =
-    let found : c.due_at-next.result ≡ due_at c.args.file.now c.loop-next.at (full (length c.args.out.now) c.loop-next.used) =
-    c.due_at-next.ensures
-    ∙ ap (λ (k : ℕ). due_at c.args.file.now c.loop-next.at (ltb k c.loop-next.used)) c.loop-next.invariant.1 in
-    let goes : is_end c.due_at-next.result ≡ false = sym c.is_end.ensures ∙ c.if-is_end.false in
-    let here = due _ _ _ _ found goes in
-    let asks : c.asked_in.result ≡ asked (sent_by c.args.file.now c.due_at-next.result) =
-    asked_by _ _ c.due_at-next.result _ c.bytes_in-m.ensures c.asked_in.ensures in
-    let k = c.loop-next in
-    let w = decided (state_of k.tables k.fast k.slow) (sent_by c.args.file.now c.due_at-next.result) _ _ _
-    (take (length k.out - k.used) (drop k.used k.out)) asks c.early.ensures _ _ c.decide-d.result c.in-Asked.is
-    (c.write_bytes-bytes.ensures ∙ bytes_by _ _ c.due_at-next.result c.bytes_in-m.ensures)
-    (λ z. rw (decide_ruled k.tables (length k.fast) (length k.slow) _ _ (sym k.invariant.0.rules ∙ z)) c.decide-d.ensures) in
+    let p = goal.at.loop-next-preserved-then-d c in
+    let due = here p.Else-is_end (found p.After-due_at-next) in
     let l = c.loop-next in
-    let d = c.reply_decided in (
+    let d = c.reply_decided in
+    let w = done p.After-decide-d (asks p.After-asked_in) in (
       rw c.past-at.ensures
-          (going_on l.invariant.0 _ _ _ _ _ _ _ _ _ _ _ here goes
+          (going_on l.invariant.0 _ _ _ _ _ _ _ _ _ _ _ due (goes p.Else-is_end)
           (w.served _ _ _ _ c.settle-tables.ensures d.ensures)
           refl d.auto.out (rw (le-ltb _ 70 w.roomy) c.ahead-used-in-Asked.ensures)
           c.tally_after-tally-in-Asked.ensures (moved_now l.moved _ c.if-d.true) d.auto.fast
@@ -182,32 +181,19 @@ loop-next-preserved-then-d c =
 
 pub loop-next-smaller : goal.loop-next-smaller
 loop-next-smaller c =
-    let found : c.due_at-next.result ≡ due_at c.args.file.now c.loop-next.at (full (length c.args.out.now) c.loop-next.used) =
-    c.due_at-next.ensures
-    ∙ ap (λ (k : ℕ). due_at c.args.file.now c.loop-next.at (ltb k c.loop-next.used)) c.loop-next.invariant.1 in
-    let goes : is_end c.due_at-next.result ≡ false = sym c.is_end.ensures ∙ c.if-is_end.false in
-    let here = due _ _ _ _ found goes in
-    let f = follows _ _ _ here.found goes in
-    omega (arith, f.further, f.inside, c.past-at.ensures)
+    let p = goal.at.loop-next-smaller c in
+    let due = here p.Else-is_end (found p.After-due_at-next) in
+    on p.After-past-at due (goes p.Else-is_end)
 
 pub loop-next-preserved : goal.loop-next-preserved
 loop-next-preserved c =
-    let found : c.due_at-next.result ≡ due_at c.args.file.now c.loop-next.at (full (length c.args.out.now) c.loop-next.used) =
-    c.due_at-next.ensures
-    ∙ ap (λ (k : ℕ). due_at c.args.file.now c.loop-next.at (ltb k c.loop-next.used)) c.loop-next.invariant.1 in
-    let goes : is_end c.due_at-next.result ≡ false = sym c.is_end.ensures ∙ c.if-is_end.false in
-    let here = due _ _ _ _ found goes in
-    let asks : c.asked_in.result ≡ asked (sent_by c.args.file.now c.due_at-next.result) =
-    asked_by _ _ c.due_at-next.result _ c.bytes_in-m.ensures c.asked_in.ensures in
-    let k = c.loop-next in
-    let w = decided (state_of k.tables k.fast k.slow) (sent_by c.args.file.now c.due_at-next.result) _ _ _
-    (take (length k.out - k.used) (drop k.used k.out)) asks c.early.ensures _ _ c.decide-d.result c.in-Asked.is
-    (c.write_bytes-bytes.ensures ∙ bytes_by _ _ c.due_at-next.result c.bytes_in-m.ensures)
-    (λ z. rw (decide_ruled k.tables (length k.fast) (length k.slow) _ _ (sym k.invariant.0.rules ∙ z)) c.decide-d.ensures) in
+    let p = goal.at.loop-next-preserved c in
+    let due = here p.Else-is_end (found p.After-due_at-next) in
     let l = c.loop-next in
-    let d = c.reply_decided in (
+    let d = c.reply_decided in
+    let w = done p.After-decide-d (asks p.After-asked_in) in (
       rw c.past-at.ensures
-          (going_on l.invariant.0 _ _ _ _ _ _ _ _ _ _ _ here goes
+          (going_on l.invariant.0 _ _ _ _ _ _ _ _ _ _ _ due (goes p.Else-is_end)
           (w.served _ _ _ _ (unsettled l.tables c.decide-d.result c.if-d.false) d.ensures)
           refl d.auto.out (rw (le-ltb _ 70 w.roomy) c.ahead-used-in-Asked.ensures)
           c.tally_after-tally-in-Asked.ensures (moved_before l.moved _ c.if-d.false) d.auto.fast
