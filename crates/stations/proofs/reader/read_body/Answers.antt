@@ -2,10 +2,19 @@
 use native.Mathlib.Omega.{arith}
 use Prim.Native.Nat.{◌≤◌}
 use lib.ListN.{length, length-drop}
-use borrow.Author.Tests.{eq-eqb, ne_eqb}
+use borrow.Author.Tests.{eq-eqb, ne_eqb, not-true, not-false}
 use Rattle.steps.specs.Kinds.{kind_of}
 use Rattle.stations.proofs.ReaderLaws.{reply_long}
+use borrow.Author.Rules.{rules}
 use Rattle.stations.proofs.reader.read_body.Goals as goal
+use Rattle.stations.proofs.reader.read_body.Goals.{Else-not-is_reply}
+
+-- where it is a reply it has four bytes
+long : (c : Else-not-is_reply) → 4 ≤ length c.args.m.now
+long c =
+    let a = c.args in
+    reply_long (kind_of a.kind) a.m.now
+    (rw c.is_reply.ensures at (c.if-not-is_reply.false))
 
 pub returns-then-n-eq0 : goal.returns-then-n-eq0
 returns-then-n-eq0 c = rw (eq-eqb _ 0 c.if-n-eq0.true) c.refused.ensures
@@ -26,28 +35,13 @@ returns-then-not-is_reply c =
     ) c.refused-then-not-is_reply.ensures
 
 pub bounds-m-1 : goal.bounds-m-1
-bounds-m-1 c =
-    let long : (4 ≤ length c.args.m.now) =
-    (let a = c.args in
-    reply_long (kind_of a.kind) a.m.now
-    (rw c.is_reply.ensures at (c.if-not-is_reply.false))) in
-    let h = long in omega arith
+bounds-m-1 c = let h = long (goal.at.bounds-m-1 c).Else-not-is_reply in omega arith
 
 pub laid_in-requires : goal.laid_in-requires
-laid_in-requires c =
-    let long : (4 ≤ length c.args.m.now) =
-    (let a = c.args in
-    reply_long (kind_of a.kind) a.m.now
-    (rw c.is_reply.ensures at (c.if-not-is_reply.false))) in
-    long
+laid_in-requires c = long (goal.at.laid_in-requires c).Else-not-is_reply
 
 pub overflow_sub-result : goal.overflow_sub-result
-overflow_sub-result c =
-    let long : (4 ≤ length c.args.m.now) =
-    (let a = c.args in
-    reply_long (kind_of a.kind) a.m.now
-    (rw c.is_reply.ensures at (c.if-not-is_reply.false))) in
-    let h = long in omega arith
+overflow_sub-result c = let h = long (goal.at.overflow_sub-result c).Else-not-is_reply in omega arith
 
 pub returns : goal.returns
 returns c =
