@@ -58,7 +58,8 @@ pub record HiddenLent : Type 0 where
   -- where both came to the end of their file
   pub by_replies : OfTwoUnits (λ k k'. (file file' n : List ℕ) (cs cs' : List RepliesCall)
       → SameBut (messages_of file) (messages_of file') → Calls k (map replied cs) → Calls k' (map replied cs')
-      → OnFile file 0 n cs → OnFile file' 0 n cs' → length file ≤ place_reached 0 cs → length file' ≤ place_reached 0 cs'
+      → OnFile file 0 n cs → OnFile file' 0 n cs' → length file ≤ place_reached 0 cs
+      → length file' ≤ place_reached 0 cs'
       → RepliesAlike k k' file file' n cs cs')
   pub by_answers : OfTwoUnits (λ k k'. (cs cs' : List AnswerCall)
       → SameBut (messages_of (file_of cs)) (messages_of (file_of cs')) → Calls k (map answered cs)

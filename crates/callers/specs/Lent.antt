@@ -25,7 +25,8 @@ use Rattle.callers.specs.Calls.{messages_through, turns_through, told_of, taken,
 -- range"; "The stores' bytes may be anything".
 abbrev pub FromFresh : (ℕ → ℕ → List ℕ → List ℕ → Kept → Type 0) → Type 0
 FromFresh X =
-    (p s : ℕ) (b fast slow : List ℕ) → (fresh_into p s b).number ≡ accepted → length fast ≡ 64 * p → length slow ≡ 64 * s
+    (p s : ℕ) (b fast slow : List ℕ) → (fresh_into p s b).number ≡ accepted
+    → length fast ≡ 64 * p → length slow ≡ 64 * s
     → X p s fast slow (kept (fresh_into p s b).bytes fast slow)
 
 module _ (p s : ℕ) (fast slow : List ℕ) where

@@ -133,7 +133,8 @@ abbrev pub Row : Field → Field → Type 0
 Row i j = But (eqb (place i) (place j)) (Says (wrong i) j)
 
 pub alone : (i j : Field) → Row i j
-unfolding run_on flatten flat_map flat_answers flat_after answers_taken react_as react_to tables_bytes page_bytes tally up_to
+unfolding run_on flatten flat_map flat_answers flat_after answers_taken react_as react_to tables_bytes page_bytes
+    tally up_to
 alone replies_taken =
     each (Row replies_taken) (λ e. false≢true (ap (λ (l : List ℕ). eqb (length l) 12) e)) refl refl refl refl refl
 alone answers_as_taken =
@@ -414,7 +415,8 @@ aged p s began t fast slow = record { p = p; s = s; slow = began; keeps = kept (
 -- page 5 with one copy, on the card: frame 1, where P = 1
 abbrev pub on_card : Tables
 on_card =
-    after (fresh_tables 1 2) (change_to 5 (with_copies (created 3) 1 (set (replicate 8 fresh_copy) 0 (new_copy 1 true))) 255)
+    after (fresh_tables 1 2)
+    (change_to 5 (with_copies (created 3) 1 (set (replicate 8 fresh_copy) 0 (new_copy 1 true))) 255)
 
 abbrev pub wrong_order : Order → Aged
 -- the register has a copy on a free frame
@@ -436,8 +438,8 @@ not_zeros : {A : Type 0} → slow_bytes ≡ replicate (64 * 1) 0 → A
 not_zeros e = absurd (false≢true (ap (λ (l : List ℕ). eqb (get_or l 0 1) 0) e))
 
 pub order_alone : (i j : Order) → OrderRow i j
-unfolding run_on flat_map tables_bytes page_bytes tables_from from_each page_from marks_valid page_marks_valid each_is count_below
-    free
+unfolding run_on flat_map tables_bytes page_bytes tables_from from_each page_from marks_valid page_marks_valid each_is
+    count_below free
 order_alone ruled = each_order (OrderRow ruled) (λ e. true≢false (ap (λ (n : ℕ). eqb n 5) e)) refl not_zeros not_zeros
 order_alone add_up = each_order (OrderRow add_up) refl (λ e. true≢false (ap (λ (n : ℕ). eqb n 3) e)) not_zeros not_zeros
 order_alone card_blank =

@@ -129,7 +129,8 @@ unfolding run_on tally up_to
 ran_least = record { tables_out = refl; lent_out = refl; tally_out = refl }
 
 none_held : most_held (state_in least) [] ≡ 0
-unfolding run_on flat_map tables_bytes page_bytes tables_from from_each page_from marks_valid page_marks_valid each_is count_below
+unfolding run_on flat_map tables_bytes page_bytes tables_from from_each page_from marks_valid page_marks_valid each_is
+    count_below
 none_held = refl
 
 pub alone : (i j : Field) → Row i j
@@ -198,8 +199,8 @@ tally_follows t w had ruled out out' n k' roomy p =
 -- messages two under 0 and one each under 1 and 20
 pub right_numbers : (l' : List ℕ) (r : ℕ) → ForecastPromised (tables_bytes tables₈) file₈ (replicate 34 7) l' r
     → (r ≡ 0) × (l' ≡ 2 ∷ 192 ∷ under 2 1 1)
-unfolding run_on flat_map tables_bytes page_bytes tables_from from_each page_from marks_valid page_marks_valid each_is forecast_of
-    up_to count_below
+unfolding run_on flat_map tables_bytes page_bytes tables_from from_each page_from marks_valid page_marks_valid each_is
+    forecast_of up_to count_below
 right_numbers l' r q = (q.told, q.figures_out)
 
 -- of any other number of lent numbers each is left alone
@@ -218,8 +219,8 @@ none_laid l' r = (λ q. (q.told, q.figures_out), λ q. (q.told, q.figures_out))
 -- sound tables, and stores that do not fit: `reel_forecast` gives 0 where `reel_rules` answers 6
 pub told_at_misfit : (l' : List ℕ) (r : ℕ) → ForecastPromised misfit.tables [] (replicate 34 7) l' r
     → (r ≡ 0) × (RulesHold misfit → ⊥)
-unfolding run_on flat_map tables_bytes page_bytes tables_from from_each page_from marks_valid page_marks_valid each_is forecast_of
-    count_below
+unfolding run_on flat_map tables_bytes page_bytes tables_from from_each page_from marks_valid page_marks_valid each_is
+    forecast_of count_below
 told_at_misfit l' r q = (q.told, λ e. true≢false (ap (λ (n : ℕ). eqb n 6) e))
 
 -- ---- the least that is asked for

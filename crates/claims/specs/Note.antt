@@ -37,7 +37,11 @@ abbrev pub seen : State → ℕ → Slot
 seen s q =
     let g = page_at s.tables q in
     cond (absent g) gone
-    (here (record { owner = g.owner; rights = g.rights; bytes = contents (joined s) (first_of is_recent (copies_in_use g)) }))
+    (here (record {
+      owner = g.owner;
+      rights = g.rights;
+      bytes = contents (joined s) (first_of is_recent (copies_in_use g));
+    }))
 
 -- the data alone; an absent page has none
 abbrev pub data_in : Slot → List ℕ

@@ -63,7 +63,8 @@ written =
     state_of (after (fresh_tables 2 1) (change_to 5 (record {
       rights = set (replicate 16 1) 3 2;
       copies =
-          set (set (replicate 8 fresh_copy) 0 (record { frame = 0; current = true; recent = true })) 1 (new_copy 1 false);
+          set (set (replicate 8 fresh_copy) 0 (record { frame = 0; current = true; recent = true })) 1
+          (new_copy 1 false);
       owner = 3;
       n = 2;
     }) 255)) (nine ++ replicate 64 0) (replicate 64 7)
@@ -152,8 +153,8 @@ abbrev pub recent_at : ℕ → List Copy → Bool
 recent_at i cs = (get_or cs i zero_copy).recent
 
 pub copies_current_lem : LatestBy copies_current (send_copy 0 2 ∷ []) → ⊥
-unfolding turns_by end_by history_over history_after followed right_turn parse names kinds code among argument call_of changed
-    fresh_tables after
+unfolding turns_by end_by history_over history_after followed right_turn parse names kinds code among argument call_of
+    changed fresh_tables after
 copies_current_lem l = true≢false (ap (current_at 2) l.copies)
 
 -- a write that spares the marks when the bytes are equal
@@ -200,8 +201,8 @@ abbrev pub copies_recent : Kernel
 copies_recent s x = except (of_kind 6) (λ c. copying_as s c true) s x (asked x)
 
 pub copies_recent_lem : LatestBy copies_recent (send_copy 1 2 ∷ []) → ⊥
-unfolding turns_by end_by history_over history_after followed right_turn parse names kinds code among argument call_of changed
-    fresh_tables after
+unfolding turns_by end_by history_over history_after followed right_turn parse names kinds code among argument call_of
+    changed fresh_tables after
 copies_recent_lem l = true≢false (ap (recent_at 2) l.copies)
 
 -- a make copy to a frame that a copy has
@@ -210,8 +211,8 @@ copies_over s x =
     except (of_kind 6) (λ c. copying_as s c (copy_at (page_at s.tables 5) c.copy).recent) s x (asked x)
 
 pub copies_over_lem : LatestBy copies_over (send_copy 0 1 ∷ []) → ⊥
-unfolding turns_by end_by history_over history_after followed right_turn parse names kinds code among argument call_of changed
-    fresh_tables after laid_frames lay_frames splice part
+unfolding turns_by end_by history_over history_after followed right_turn parse names kinds code among argument call_of
+    changed fresh_tables after laid_frames lay_frames splice part
 copies_over_lem l = true≢false (ap (λ (b : List ℕ). eqb (get_or b 0 0) 9) l.bytes.1.0)
 
 -- set current without the test
@@ -219,7 +220,8 @@ abbrev pub sets_any : Kernel
 sets_any s x = except (of_kind 8) (λ c. doing s c (Marked c.copy true) 0 no_work) s x (asked x)
 
 pub sets_any_lem : LatestBy sets_any (send_current 1 ∷ []) → ⊥
-unfolding turns_by end_by history_over history_after followed right_turn parse names kinds code among argument call_of all
+unfolding turns_by end_by history_over history_after followed right_turn parse names kinds code among argument call_of
+    all
 sets_any_lem l = false≢true l.current_last
 
 -- a read that shows the last copy
@@ -230,7 +232,8 @@ shows_last s x =
 abbrev pub send_read : Sent
 send_read = whole (1 ∷ 4 ∷ 3 ∷ 5 ∷ 0 ∷ 1 ∷ [])
 
-pub shows_last_lem : ReadLast known (record { found = written; sent = send_read; outcome = shows_last written send_read })
+pub shows_last_lem : ReadLast known
+    (record { found = written; sent = send_read; outcome = shows_last written send_read })
     (call_of Read (3 ∷ 5 ∷ 0 ∷ 1 ∷ [])) → ⊥
 unfolding right_turn parse names kinds code among argument call_of fresh_tables after part
 shows_last_lem r = false≢true (ap (λ (b : List ℕ). eqb (get_or b 0 0) 9) r.latest)
@@ -243,7 +246,8 @@ fifth_page = page_at written.tables 5
 -- the kinds in their order, each by the owner and by station 4, on page 5
 abbrev pub by_kind : (Page → Call → Bool) → List (Bool × Bool)
 by_kind entitled =
-    map (λ (k : Kind). (entitled fifth_page (call_of k (3 ∷ 5 ∷ [])), entitled fifth_page (call_of k (4 ∷ 5 ∷ [])))) kinds
+    map (λ (k : Kind). (entitled fifth_page (call_of k (3 ∷ 5 ∷ [])), entitled fifth_page (call_of k (4 ∷ 5 ∷ []))))
+    kinds
 
 abbrev pub no : Bool × Bool
 no = (false, false)

@@ -331,7 +331,8 @@ access_same g b b' q = go (absent page) (held b) (held b')
     owned : List ℕ → FlatPage
     owned l = record { owner = page.owner; rights = page.rights; bytes = l }
 
-    go : (a : Bool) (l l' : List ℕ) → access_in (cond a gone (here (owned l))) ≡ access_in (cond a gone (here (owned l')))
+    go : (a : Bool) (l l' : List ℕ) → access_in (cond a gone (here (owned l)))
+        ≡ access_in (cond a gone (here (owned l')))
     go true l l' = refl
     go false l l' = refl
 
@@ -362,7 +363,8 @@ part_alone data_kept =
     (λ q _ _. access_same page₅ 7 9 q) (λ _ _ _ _ _. refl) (λ _ _ _ _ _ _ _ _. refl)
 part_alone access_kept =
     each_part (PartRow access_kept) (λ q _ _. data_same q)
-    (λ k. false≢true (ap (λ (l : List (ℕ × List ℕ)). eqb (get_or (get_or l 0 (0, [])).1 4 0) 1) (k 5 (omega arith) refl)))
+    (λ k. false≢true (ap (λ (l : List (ℕ × List ℕ)). eqb (get_or (get_or l 0 (0, [])).1 4 0) 1)
+    (k 5 (omega arith) refl)))
     (λ _ _ _ _ _. refl) (λ _ _ _ _ _ _ _ _. refl)
 part_alone reply_blind =
     each_part (PartRow reply_blind) (λ _ _ _. refl) (λ _ _ _. refl)

@@ -54,7 +54,12 @@ copy_from b = record { frame = get_or b 0 0; current = mark_from (get_or b 1 0);
 
 unfoldable pub page_from : List ℕ → Page
 page_from b =
-    record { rights = take 16 b; copies = from_each 8 3 copy_from (drop 16 b); owner = get_or b 40 0; n = get_or b 41 0 }
+    record {
+      rights = take 16 b;
+      copies = from_each 8 3 copy_from (drop 16 b);
+      owner = get_or b 40 0;
+      n = get_or b 41 0;
+    }
 
 -- an entry of the register
 abbrev pub entry_from : List ℕ → ℕ

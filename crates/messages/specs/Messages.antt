@@ -13,7 +13,8 @@ use Rattle.messages.specs.Replies.{be16_at}
 -- 4: "L not as listed for the kind"; else the call: "then the arguments in the order above"
 abbrev pub parse_kind : ℕ → List ℕ → Parsed
 parse_kind kind m =
-    cond (ltb (length m) (least_length (kind_of kind)) || ltb (most_length (kind_of kind)) (length m)) (Refused wrong_length)
+    cond (ltb (length m) (least_length (kind_of kind)) || ltb (most_length (kind_of kind)) (length m))
+    (Refused wrong_length)
     (Asked (call_of (kind_of kind) (drop 2 m)))
 
 -- 2: "L is 0, or version not 1"

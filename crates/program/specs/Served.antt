@@ -22,7 +22,8 @@ zero_store = replicate (64 * frames_each) 0
 
 -- "and writes the replies": those of the run from fresh tables, one behind the other
 abbrev pub output : List ℕ → List ℕ → List ℕ → List ℕ
-output file fast slow = joined_replies 70 (run 70 file (state_of (fresh_tables frames_each frames_each) fast slow)).turns
+output file fast slow = joined_replies 70
+    (run 70 file (state_of (fresh_tables frames_each frames_each) fast slow)).turns
 
 -- what the program lends: stores that fit, and a buffer for all replies
 pub record Lends (file fast slow out : List ℕ) : Type 0 where

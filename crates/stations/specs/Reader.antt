@@ -42,7 +42,8 @@ abbrev pub read_body : ℕ → List ℕ → Reading
 read_body kind m =
     cond (is_foreign m) (Refused foreign_version)
     (cond (is_unknown kind) (Refused unknown_kind)
-    (cond (is_reply (kind_of kind) m) (Reply (number_in m) (laid_stated m) 6 (length (data_in m))) (Refused wrong_length)))
+    (cond (is_reply (kind_of kind) m) (Reply (number_in m) (laid_stated m) 6 (length (data_in m)))
+    (Refused wrong_length)))
 
 -- ---- the bytes as they come
 

@@ -33,7 +33,8 @@ written room c bs = test (ltb room 71) short_buffer (composed c bs)
 -- the message
 unfoldable pub written_as : ℕ → ℕ → List ℕ → List ℕ → Outcome (List ℕ)
 written_as room kind arguments bs =
-    test (ltb room 71) short_buffer (test (is_unknown kind) unknown_kind (composed (call_of (kind_of kind) arguments) bs))
+    test (ltb room 71) short_buffer
+    (test (is_unknown kind) unknown_kind (composed (call_of (kind_of kind) arguments) bs))
 
 -- the message that is laid: "refused, it writes nothing"
 abbrev pub message_in : Outcome (List ℕ) → List ℕ

@@ -26,5 +26,6 @@ unfoldable pub formed : Data → List ℕ → Bool
 formed Empty d = eqb (length d) 0
 formed Bytes d = many 1 64 (length d)
 formed Copies d =
-    many 1 8 (get_or d 0 0) && (eqb (length d) (1 + 3 * get_or d 0 0) && each_is (get_or d 0 0) 3 copy_marks_valid (drop 1 d))
+    many 1 8 (get_or d 0 0) && (eqb (length d) (1 + 3 * get_or d 0 0)
+    && each_is (get_or d 0 0) 3 copy_marks_valid (drop 1 d))
 formed Holder d = eqb (length d) 3

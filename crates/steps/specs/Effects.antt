@@ -109,8 +109,8 @@ pub record State : Type 0 where
 abbrev pub joined : State → List ℕ
 joined s = s.fast ++ s.slow
 
--- whether a plan moves the tables: its edit is not one that `leaves_record` knows to leave the record g, or it retires a
--- frame
+-- whether a plan moves the tables: its edit is not one that `leaves_record` knows to leave the record g, or it retires
+-- a frame
 abbrev pub moves : Page → Edit → ℕ → Bool
 moves g e f = not (leaves_record g e) || not (eqb f null_frame)
 

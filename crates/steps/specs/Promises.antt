@@ -124,7 +124,8 @@ lay_within g frames size Nothing = true
 lay_within g frames size (Zeros f) = ltb f frames
 lay_within g frames size ZerosEach = all (frame_within is_placed frames) (copies_in_use g)
 lay_within g frames size (Duplicate from to) = ltb from frames && ltb to frames
-lay_within g frames size (Spread offset) = leb (offset + size) 64 && all (frame_within is_current frames) (copies_in_use g)
+lay_within g frames size (Spread offset) = leb (offset + size) 64
+    && all (frame_within is_current frames) (copies_in_use g)
 
 -- whether `len` bytes that are shown lie within stores of so many frames, and within a frame
 abbrev pub show_within : ℕ → ℕ → Show → Bool

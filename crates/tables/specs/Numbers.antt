@@ -88,9 +88,9 @@ retired = 20
 -- The rows that a message can be turned back with, in the papers' order: 19 is for making tables alone.
 abbrev pub message_numbers : List ℕ
 message_numbers =
-    cut_short ∷ foreign_version ∷ unknown_kind ∷ wrong_length ∷ broken_tables ∷ misfit_store ∷ out_of_range ∷ page_stands
-    ∷ no_page ∷ no_right ∷ nothing_current ∷ no_copy ∷ frame_held ∷ eight_copies ∷ last_recent ∷ stale ∷ no_frame ∷ short_buffer
-    ∷ retired ∷ []
+    cut_short ∷ foreign_version ∷ unknown_kind ∷ wrong_length ∷ broken_tables ∷ misfit_store ∷ out_of_range
+    ∷ page_stands ∷ no_page ∷ no_right ∷ nothing_current ∷ no_copy ∷ frame_held ∷ eight_copies ∷ last_recent ∷ stale
+    ∷ no_frame ∷ short_buffer ∷ retired ∷ []
 
 -- all rows
 abbrev pub all_numbers : List ℕ

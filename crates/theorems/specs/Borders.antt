@@ -222,7 +222,8 @@ wrong_tables =
     ∷ with_five (record_of 0 0 0 (copy_on 1 false false ∷ []))
     -- the register: a free frame's entry names a copy; a held one's says free; one past the last frame; one that is no
     -- entry
-    ∷ entered (record_of 3 2 2 two) 2 40 ∷ entered (record_of 3 2 2 two) 0 free_entry ∷ entered (record_of 3 2 2 two) 8 40
+    ∷ entered (record_of 3 2 2 two) 2 40 ∷ entered (record_of 3 2 2 two) 0 free_entry
+    ∷ entered (record_of 3 2 2 two) 8 40
     ∷ entered (record_of 3 2 2 two) 2 512
     -- a copy on a retired frame, and a retired frame past the last
     ∷ with_retired (with_five (record_of 3 2 2 two)) 0 ∷ with_retired (with_five (record_of 3 2 2 two)) 8 ∷ []

@@ -54,18 +54,18 @@ file₁ =
 
 -- the run with the least reply buffer; to open it is to open all that it computes by
 unfoldable pub run_on : State → List ℕ → Run
-unfolding messages_of split turns_of end_of answer parse names kinds code among argument call_of step decide_on laid_frames
-    shown_of sound sizes_rule pages_rule none_shared all_below all count holders uses page_rule standing_rule absent_rule fits
-    fresh_tables fresh_page after changed leaves_record created close_gap in_pages in_copies register_rule vacated occupied
-    perform first_current copies_shown frames_of lay_frames splice part reply
+unfolding messages_of split turns_of end_of answer parse names kinds code among argument call_of step decide_on
+    laid_frames shown_of sound sizes_rule pages_rule none_shared all_below all count holders uses page_rule
+    standing_rule absent_rule fits fresh_tables fresh_page after changed leaves_record created close_gap in_pages
+    in_copies register_rule vacated occupied perform first_current copies_shown frames_of lay_frames splice part reply
 run_on s file = run 70 file s
 
 -- one turn of it
 unfoldable pub right_turn : State → Sent → Outcome Result
-unfolding answer parse names kinds code among argument call_of step decide_on laid_frames shown_of sound sizes_rule pages_rule
-    none_shared all_below all count holders uses page_rule standing_rule absent_rule fits fresh_tables fresh_page after changed
-    leaves_record created close_gap in_pages in_copies register_rule vacated occupied perform first_current copies_shown
-    frames_of lay_frames splice part reply
+unfolding answer parse names kinds code among argument call_of step decide_on laid_frames shown_of sound sizes_rule
+    pages_rule none_shared all_below all count holders uses page_rule standing_rule absent_rule fits fresh_tables
+    fresh_page after changed leaves_record created close_gap in_pages in_copies register_rule vacated occupied perform
+    first_current copies_shown frames_of lay_frames splice part reply
 right_turn s x = answer 70 s x
 
 abbrev pub replies_of : State → List ℕ → List (List ℕ)
@@ -149,7 +149,8 @@ cases =
 abbrev pub file_of : Case → List ℕ
 file_of c = file₁ ++ flatten (messages_in c)
 
-pub starred : map (λ (c : Case). replies_of state₀ (file_of c)) cases ≡ map (λ (c : Case). replies₁ ++ answers_in c) cases
+pub starred : map (λ (c : Case). replies_of state₀ (file_of c)) cases
+    ≡ map (λ (c : Case). replies₁ ++ answers_in c) cases
 unfolding run_on flatten
 starred = refl
 
@@ -259,8 +260,8 @@ ninth_replies = refl
 pub retired_tested :
     map (λ (f : ℕ). sound (with_retired (run_on state₀ file₁).final.tables f)) (7 ∷ 8 ∷ 253 ∷ 0 ∷ [])
     ≡ (true ∷ false ∷ false ∷ false ∷ [])
-unfolding run_on sound sizes_rule pages_rule none_shared all_below all count holders uses page_rule standing_rule absent_rule
-    register_rule in_pages in_copies
+unfolding run_on sound sizes_rule pages_rule none_shared all_below all count holders uses page_rule standing_rule
+    absent_rule register_rule in_pages in_copies
 retired_tested = refl
 
 -- ---- document 02, request [6]: new pages open for reading
@@ -352,7 +353,8 @@ expected =
     ∷ []
 
 pub flat_side : flat_answers none (messages_of file₂) (elevens 70 (run_on state₀ file₂).turns) ≡ expected
-unfolding flat_answers flat_after react_as react_to run_on messages_of split parse names kinds code among argument call_of
+unfolding flat_answers flat_after react_as react_to run_on messages_of split parse names kinds code among argument
+    call_of
 flat_side = refl
 
 pub run_side : run_answers 70 (run_on state₀ file₂).turns ≡ expected

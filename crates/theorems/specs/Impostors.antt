@@ -69,7 +69,8 @@ unfolding turns_by messages_of split right_turn parse names kinds code among arg
 hasty_elevens = refl
 
 pub hasty_dues : dues 70 none (worked_by hasty) ≡ (false ∷ false ∷ false ∷ false ∷ false ∷ false ∷ [])
-unfolding turns_by messages_of split right_turn parse names kinds code among argument call_of dues flat_after react_as react_to
+unfolding turns_by messages_of split right_turn parse names kinds code among argument call_of dues flat_after react_as
+    react_to
 hasty_dues = refl
 
 -- ---- "refuses all"
@@ -80,8 +81,8 @@ refusing s x = refuse no_page
 pub refusing_flat : flat_side refusing
     ≡ (record { number = 0; bytes = [] } ∷ record { number = 0; bytes = [] }
     ∷ record { number = 0; bytes = 0x41 ∷ 0x37 ∷ 0 ∷ [] } ∷ [])
-unfolding turns_by messages_of split right_turn parse names kinds code among argument call_of flat_answers flat_after react_as
-    react_to
+unfolding turns_by messages_of split right_turn parse names kinds code among argument call_of flat_answers flat_after
+    react_as react_to
 refusing_flat = refl
 
 pub refusing_run : run_side refusing
@@ -102,8 +103,8 @@ constant_run = refl
 pub constant_flat : flat_side constant
     ≡ (record { number = 0; bytes = [] } ∷ record { number = 0; bytes = [] }
     ∷ record { number = 0; bytes = 0x41 ∷ 0x37 ∷ 0 ∷ [] } ∷ [])
-unfolding turns_by messages_of split right_turn parse names kinds code among argument call_of flat_answers flat_after react_as
-    react_to
+unfolding turns_by messages_of split right_turn parse names kinds code among argument call_of flat_answers flat_after
+    react_as react_to
 constant_flat = refl
 
 -- ---- "serves the first message and then only acknowledges"
@@ -168,8 +169,8 @@ early_replies = refl
 
 -- the flat memory stops there too, and its answers agree: demand 3's `messages` rules it out, and in Witness3 it alone
 pub early_answers : flat_answers none (messages_of file₁) (elevens 70 early_turns) ≡ run_answers 70 early_turns
-unfolding turns_by messages_of split right_turn parse names kinds code among argument call_of flat_answers flat_after react_as
-    react_to run_answers
+unfolding turns_by messages_of split right_turn parse names kinds code among argument call_of flat_answers flat_after
+    react_as react_to run_answers
 early_answers = refl
 
 pub early_messages : map sent_in early_turns ≡ messages_of file₁ → ⊥
@@ -226,14 +227,15 @@ pub sparing_flat : flat_answers none (messages_of two_current)
     (elevens 70 (turns_by sparing state₀ (messages_of two_current)))
     ≡ (record { number = 0; bytes = [] } ∷ record { number = 0; bytes = [] } ∷ record { number = 0; bytes = 9 ∷ [] }
     ∷ [])
-unfolding turns_by messages_of split right_turn parse names kinds code among argument call_of flat_answers flat_after react_as
-    react_to splice first_current
+unfolding turns_by messages_of split right_turn parse names kinds code among argument call_of flat_answers flat_after
+    react_as react_to splice first_current
 sparing_flat = refl
 
 pub sparing_run : run_answers 70 (turns_by sparing state₀ (messages_of two_current))
     ≡ (record { number = 0; bytes = [] } ∷ record { number = 0; bytes = [] } ∷ record { number = 0; bytes = 0 ∷ [] }
     ∷ [])
-unfolding turns_by messages_of split right_turn parse names kinds code among argument call_of run_answers splice first_current
+unfolding turns_by messages_of split right_turn parse names kinds code among argument call_of run_answers splice
+    first_current
 sparing_run = refl
 
 -- "taking a free frame's old bytes for zeros": a copy is made and nothing is laid
@@ -317,10 +319,11 @@ unfolding end_by messages_of split right_turn parse names kinds code among argum
 over_filling_leaves = refl
 
 -- bytes that remain change no answer: those of the run are the flat memory's
-pub remaining_unseen : flat_answers none (messages_of file₄) (elevens 70 (turns_by remaining state₄ (messages_of file₄)))
+pub remaining_unseen : flat_answers none (messages_of file₄)
+    (elevens 70 (turns_by remaining state₄ (messages_of file₄)))
     ≡ run_answers 70 (turns_by remaining state₄ (messages_of file₄))
-unfolding turns_by messages_of split right_turn parse names kinds code among argument call_of flat_answers flat_after react_as
-    react_to run_answers
+unfolding turns_by messages_of split right_turn parse names kinds code among argument call_of flat_answers flat_after
+    react_as react_to run_answers
 remaining_unseen = refl
 
 -- ---- document 02, request [5]: wrong retires

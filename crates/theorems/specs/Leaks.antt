@@ -124,7 +124,8 @@ standing =
     after (fresh_tables 2 1) (change_to 5 (record {
       rights = set (replicate 16 1) 3 2;
       copies =
-          set (set (replicate 8 fresh_copy) 0 (record { frame = 0; current = true; recent = true })) 1 (new_copy 1 true);
+          set (set (replicate 8 fresh_copy) 0 (record { frame = 0; current = true; recent = true })) 1
+          (new_copy 1 true);
       owner = 3;
       n = 2;
     }) 255)
@@ -189,7 +190,8 @@ spares_equal s x =
 
 -- MOST RECENT of the second copy, in the look: the last byte of 13
 pub spares_leaks : sees spares_equal (zero_written ∷ looked ∷ []) 1 12 ≡ (1, 0)
-unfolding turns_by right_turn parse names kinds code among argument call_of covered reply same_bytes part fresh_tables after
+unfolding turns_by right_turn parse names kinds code among argument call_of covered reply same_bytes part fresh_tables
+    after
 spares_leaks = refl
 
 -- a make copy of an all-zero page that lays nothing
@@ -198,7 +200,8 @@ lays_no_zeros s x =
     except (λ c. of_kind 6 c && same_bytes (held_by s c.copy) zeros) (λ c. with_laid 0 (right_turn s x)) s x (asked x)
 
 pub lays_leaks : sees lays_no_zeros (whole (1 ∷ 6 ∷ 5 ∷ 0 ∷ 2 ∷ []) ∷ []) 0 5 ≡ (0, 64)
-unfolding turns_by right_turn parse names kinds code among argument call_of covered reply same_bytes part fresh_tables after
+unfolding turns_by right_turn parse names kinds code among argument call_of covered reply same_bytes part fresh_tables
+    after
 lays_leaks = refl
 
 -- a delete that counts 64 only where the frame was not zeros already
@@ -207,16 +210,19 @@ counts_change s x =
     except (λ c. of_kind 7 c && same_bytes (held_by s c.copy) zeros) (λ c. with_laid 0 (right_turn s x)) s x (asked x)
 
 pub counts_leaks : sees counts_change (whole (1 ∷ 7 ∷ 5 ∷ 0 ∷ []) ∷ []) 0 5 ≡ (0, 64)
-unfolding turns_by right_turn parse names kinds code among argument call_of covered reply same_bytes part fresh_tables after
+unfolding turns_by right_turn parse names kinds code among argument call_of covered reply same_bytes part fresh_tables
+    after
 counts_leaks = refl
 
 -- a look that tells whether two copies are equal, and nothing else
 abbrev pub tells_equal : Kernel
 tells_equal s x =
-    except (of_kind 10) (λ c. with_data (bit (same_bytes (held_by s 0) (held_by s 1)) ∷ []) (right_turn s x)) s x (asked x)
+    except (of_kind 10) (λ c. with_data (bit (same_bytes (held_by s 0) (held_by s 1)) ∷ []) (right_turn s x)) s x
+    (asked x)
 
 pub tells_leaks : sees tells_equal (looked ∷ []) 0 6 ≡ (1, 0)
-unfolding turns_by right_turn parse names kinds code among argument call_of covered reply same_bytes part fresh_tables after
+unfolding turns_by right_turn parse names kinds code among argument call_of covered reply same_bytes part fresh_tables
+    after
 tells_leaks = refl
 
 -- bytes laid, and with them a tally, that count changed bytes
@@ -224,7 +230,8 @@ abbrev pub lays_changed : Kernel
 lays_changed s x = except (is_equal s x) (λ c. with_laid 0 (right_turn s x)) s x (asked x)
 
 pub changed_leaks : sees lays_changed (zero_written ∷ []) 0 5 ≡ (0, 1)
-unfolding turns_by right_turn parse names kinds code among argument call_of covered reply same_bytes part fresh_tables after
+unfolding turns_by right_turn parse names kinds code among argument call_of covered reply same_bytes part fresh_tables
+    after
 changed_leaks = refl
 
 -- replies to refused writes that echo a byte, in the place of the number

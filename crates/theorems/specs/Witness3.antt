@@ -182,7 +182,11 @@ broken = record { tables = fresh_tables 128 0; fast = fast_bytes; slow = slow_by
 -- a state with P, S and pages 5 and 6 as given
 abbrev pub with56 : ℕ → ℕ → Page → Page → List ℕ → List ℕ → State
 with56 p s g g' fast slow =
-    record { tables = after (after (fresh_tables p s) (change_to 5 g 255)) (change_to 6 g' 255); fast = fast; slow = slow }
+    record {
+      tables = after (after (fresh_tables p s) (change_to 5 g 255)) (change_to 6 g' 255);
+      fast = fast;
+      slow = slow;
+    }
 
 -- as the create leaves it
 abbrev pub made : State
@@ -299,8 +303,8 @@ abbrev pub Row : Field → Field → Type 0
 Row i j = But (eqb (place i) (place j)) (Says 1 1 70 file₃ (wrong i) j)
 
 pub alone : (i j : Field) → Row i j
-unfolding messages_of split flat_answers flat_after flat_end run_answers dues react_as react_to parse names kinds code among
-    argument call_of reply count created fresh_page fresh_tables after part
+unfolding messages_of split flat_answers flat_after flat_end run_answers dues react_as react_to parse names kinds code
+    among argument call_of reply count created fresh_page fresh_tables after part
 alone messages =
     each (Row messages) (λ e. false≢true (ap (λ (l : List Sent). eqb (length l) 2) e)) refl refl refl refl refl refl
     stands₃ owners₃ rights₃ recent₃ (holds₃ _)

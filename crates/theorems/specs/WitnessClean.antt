@@ -94,7 +94,9 @@ alone stays_blank =
     (λ _ _ _ _. refl)
 alone card_cleared =
     each (Row card_cleared) (both _ (λ _. refl) (λ _. refl)) (λ _. slow_one _ (λ _. refl))
-    (λ k. let e : ◌≡◌ {A = ℕ} 65 64 = ap (λ (l : List ℕ). length l) (k refl refl start_blank_lem none_held) in omega arith)
+    (λ k.
+    let e : ◌≡◌ {A = ℕ} 65 64 = ap (λ (l : List ℕ). length l) (k refl refl start_blank_lem none_held) in
+    omega arith)
 
 -- ---- `runs`
 

@@ -106,7 +106,8 @@ left63 g = state_of (with63 g) fast_bytes slow_bytes
 
 -- the owner has right 0, or 1 as the others had; station 14 is the owner
 pub not_owner : (left63 (but_for 15 0) ≡ due → ⊥) × (left63 (but_for 15 1) ≡ due → ⊥)
-    × (left63 (record { rights = (closed_page 15).rights; copies = (closed_page 15).copies; owner = 14; n = 1 }) ≡ due → ⊥)
+    × (left63 (record { rights = (closed_page 15).rights; copies = (closed_page 15).copies; owner = 14; n = 1 }) ≡ due
+    → ⊥)
 unfolding fresh_tables
 not_owner = (
   λ e. false≢true (ap (λ (s : State). eqb (right_in 63 15 s) 2) e),

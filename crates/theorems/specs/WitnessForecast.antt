@@ -359,7 +359,8 @@ counts_stop = (refl, refl, refl)
 
 -- 64 bytes more than so many, with a message that is accepted
 abbrev pub with_laid : ℕ → Figures
-with_laid laid = with_message (some_figures 0 0 laid no_counts) (record { number = 0; laid = 64; tables = fresh_tables 1 1 })
+with_laid laid = with_message (some_figures 0 0 laid no_counts)
+    (record { number = 0; laid = 64; tables = fresh_tables 1 1 })
 
 pub laid_stops :
     map (λ (n : ℕ). (with_laid n).laid) (4294967230 ∷ 4294967231 ∷ 4294967232 ∷ 4294967295 ∷ [])

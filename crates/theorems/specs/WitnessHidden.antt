@@ -155,7 +155,8 @@ first_found (t ∷ ts) = t
 pub alone : (i j : Field) → Row i j
 unfolding tally up_to reply parse names kinds code among argument call_of
 alone replies =
-    each (Row replies) (λ e. true≢false (ap (λ (l : List (List ℕ)). eqb (get_or (get_or l 0 []) 6 9) 0) e)) refl refl refl
+    each (Row replies) (λ e. true≢false (ap (λ (l : List (List ℕ)). eqb (get_or (get_or l 0 []) 6 9) 0) e)) refl refl
+    refl
     refl refl refl
 alone tables = each (Row tables) refl (λ e. not_made e) refl refl refl refl refl
 alone tallies =
@@ -196,7 +197,8 @@ filled b t n =
 module _ (k k' : FillCall) where
   abbrev pub Tells : Part → Type 0
   Tells taken =
-      taken_covered (messages_of look_file) (emptied (k ∷ [])) ≡ taken_covered (messages_of look_file) (emptied (k' ∷ []))
+      taken_covered (messages_of look_file) (emptied (k ∷ []))
+      ≡ taken_covered (messages_of look_file) (emptied (k' ∷ []))
   Tells left_tables = (state_left start (k ∷ [])).tables ≡ (state_left start (k' ∷ [])).tables
   Tells left_tally = tally_left (tally_of 0 0 0) (k ∷ []) ≡ tally_left (tally_of 0 0 0) (k' ∷ [])
 
@@ -250,7 +252,8 @@ broken_other = record { tables = fresh_tables 128 0; fast = replicate 64 0; slow
 pub runs_at_0 : Hidden
     → Alike 0 (tally_of 0 0 0) (run_over 0 (messages_of file₃) broken) (run_over 0 (messages_of file₃) broken_other)
 runs_at_0 k =
-    k.two_runs (fresh_tables 128 0) fast_bytes slow_bytes (replicate 64 0) (replicate 64 0) refl refl 0 (messages_of file₃)
+    k.two_runs (fresh_tables 128 0) fast_bytes slow_bytes (replicate 64 0) (replicate 64 0) refl refl 0
+    (messages_of file₃)
     (messages_of file₃) (tally_of 0 0 0) refl
 
 -- messages that are no file's: one cut short before another

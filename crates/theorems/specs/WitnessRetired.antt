@@ -138,7 +138,8 @@ pub retire_on_broken : RetiredFrames → (r : Result) → step broken (retire 0)
 unfolding names code argument call_of
 retire_on_broken k r = k.retire_alone broken (retire 0) [] r refl
 
-pub retire_again : RetiredFrames → (r : Result) → step start_worn (retire 1) [] ≡ accept r → r ≡ only_retired start_worn 1
+pub retire_again : RetiredFrames → (r : Result) → step start_worn (retire 1) [] ≡ accept r
+    → r ≡ only_retired start_worn 1
 unfolding names code argument call_of
 retire_again k r = k.retire_alone start_worn (retire 1) [] r refl
 
@@ -155,6 +156,7 @@ held_and_retired =
     let g = with_copies (created 3) 1 (set (created 3).copies 0 (new_copy 0 true)) in
     with_retired (after (fresh_tables 1 1) (change_to 5 g 255)) 0
 
-pub two_of_three : bit (free held_and_retired 0) + bit (is_held held_and_retired 0) + bit (retired_at held_and_retired 0) ≡ 2
+pub two_of_three : bit (free held_and_retired 0) + bit (is_held held_and_retired 0)
+    + bit (retired_at held_and_retired 0) ≡ 2
 unfolding fresh_tables fresh_page created after free holders uses count vacated occupied
 two_of_three = refl

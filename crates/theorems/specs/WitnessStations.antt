@@ -148,7 +148,8 @@ asked_made m c =
     (ltb (length m) (least_length k) || ltb (most_length k) (length m))
   where
     go : (a b d : Bool)
-        → cond a (Refused 2) (cond b (Refused 3) (cond d (Refused 4) (Asked (call_of (kind_of (get_or m 1 0)) (drop 2 m)))))
+        → cond a (Refused 2) (cond b (Refused 3)
+        (cond d (Refused 4) (Asked (call_of (kind_of (get_or m 1 0)) (drop 2 m)))))
         ≡ Asked c → Made c
     go true b d e = let z : ◌≡◌ {A = ℕ} 0 1 = cc in absurd (omega arith)
     go false true d e = let z : ◌≡◌ {A = ℕ} 0 1 = cc in absurd (omega arith)
