@@ -4,7 +4,6 @@ use mathlib.Core.Path.{sym, ap, subst}
 use native.Mathlib.Omega.{arith}
 use Rattle.embed.specs.Exports.{reading_number}
 use Rattle.embed.specs.Private.{Low}
-use borrow.Author.Rules.{rules}
 use Rattle.embed.proofs.lent.reading_number.Goals as goal
 use Rattle.embed.proofs.lent.reading_number.Goals.{In-Reply}
 

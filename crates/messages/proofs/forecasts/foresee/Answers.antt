@@ -7,13 +7,12 @@ use lib.ListN.{length}
 use Rattle.tables.specs.Rules.{frames_held}
 use Rattle.steps.specs.Promises.{settled, held_after}
 use Rattle.steps.proofs.HeldLaws.{held_few}
-use Rattle.messages.specs.Run.{Sent, asked}
+use Rattle.messages.specs.Run.{asked}
 use Rattle.messages.specs.Promises.{sent_by}
 use Rattle.messages.specs.Private.{is_end}
 use Rattle.messages.proofs.TurnLaws.{asked_by, bytes_by, unsettled}
 use Rattle.messages.proofs.RunLaws.{follows}
-use Rattle.messages.proofs.ForecastLaws.{none_more, Judged, foreseen_refused, judged, Foreseeing, foreseeing_all, foreseeing_on, foreseeing_none}
-use borrow.Author.Rules.{rules}
+use Rattle.messages.proofs.ForecastLaws.{none_more, Judged, foreseen_refused, judged, foreseeing_all, foreseeing_on, foreseeing_none}
 use Rattle.messages.proofs.forecasts.foresee.Goals as goal
 use Rattle.messages.proofs.forecasts.foresee.Goals.{After-past-at, After-asked_in, After-decide-d, After-held_after-held}
 

@@ -11,9 +11,9 @@ use Rattle.steps.specs.Promises.{state_of}
 use Rattle.steps.proofs.StepLaws.{decide_ruled}
 use Rattle.messages.specs.Run.{asked, full}
 use Rattle.messages.specs.Promises.{sent_by}
-use Rattle.messages.specs.Private.{due_at, is_end, serving, ahead}
+use Rattle.messages.specs.Private.{due_at, is_end, ahead}
 use Rattle.messages.proofs.TurnLaws.{served_early, some_number, Decided, decided, unsettled, asked_by, bytes_by}
-use Rattle.messages.proofs.RunLaws.{Due, due, follows, Going, going_all, going_on, going_none}
+use Rattle.messages.proofs.RunLaws.{Due, due, follows, going_all, going_on, going_none}
 use borrow.Author.Rules.{rules}
 use Rattle.messages.proofs.turns.serve.Goals as goal
 use Rattle.messages.proofs.turns.serve.Goals.{After-due_at-next, Else-is_end, After-asked_in, After-past-at, After-decide-d}

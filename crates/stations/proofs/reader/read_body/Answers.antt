@@ -2,10 +2,9 @@
 use native.Mathlib.Omega.{arith}
 use Prim.Native.Nat.{◌≤◌}
 use lib.ListN.{length, length-drop}
-use borrow.Author.Tests.{eq-eqb, ne_eqb, not-true, not-false}
+use borrow.Author.Tests.{eq-eqb, ne_eqb}
 use Rattle.steps.specs.Kinds.{kind_of}
 use Rattle.stations.proofs.ReaderLaws.{reply_long}
-use borrow.Author.Rules.{rules}
 use Rattle.stations.proofs.reader.read_body.Goals as goal
 use Rattle.stations.proofs.reader.read_body.Goals.{Else-not-is_reply}
 

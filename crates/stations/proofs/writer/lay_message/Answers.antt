@@ -4,7 +4,6 @@ use native.Mathlib.Omega.{arith}
 use mathlib.Core.List.{List, [], ◌∷◌}
 use lib.ListN.{length, take, length-append, length-take}
 use Rattle.stations.proofs.WriterLaws.{parts_laid}
-use borrow.Author.Rules.{rules}
 use Rattle.stations.proofs.writer.lay_message.Goals as goal
 use Rattle.stations.proofs.writer.lay_message.Goals.{After-tail_of-tail}
 

@@ -9,7 +9,6 @@ use Rattle.steps.proofs.KindLaws.{kind_numbered}
 use Rattle.stations.specs.Writer.{written_as}
 use Rattle.stations.specs.Private.{places, at_places}
 use Rattle.stations.proofs.WriterLaws.{gets, places_within, four_of, written_placed, wrote_same}
-use borrow.Author.Rules.{rules}
 use Rattle.stations.proofs.writer.write_call.Goals as goal
 use Rattle.stations.proofs.writer.write_call.Goals.{After-form_of-f}
 

@@ -7,7 +7,6 @@ use Rattle.steps.specs.declared.Form.{Form}
 use Rattle.steps.specs.Kinds.{is_unknown, kind_of, call_of}
 use Rattle.steps.specs.Calls.{outside}
 use Rattle.stations.proofs.WriterLaws.{few_singles, room_for, as_short, as_unknown, as_outside, as_inside, wrote_refused, wrote_accepted}
-use borrow.Author.Rules.{rules}
 use Rattle.stations.proofs.writer.write_kind.Goals as goal
 use Rattle.stations.proofs.writer.write_kind.Goals.{After-outside-number, Else-is_unknown}
 
