@@ -1,5 +1,7 @@
 -- Document 01, "Why a message is turned back": its table, a row a name.
-use Rattle.std.specs.Prelude.{ℕ, List, [], ◌∷◌, ◌++◌}
+use Rattle.std.specs.Prelude.{ℕ, List, [], ◌∷◌, ◌++◌, Result, Ok, Err}
+use Rattle.tables.specs.declared.refusals.Refusal.{Refusal}
+use Rattle.tables.specs.declared.refusals.Refusal.TheVariants.{CutShort, ForeignVersion, UnknownKind, WrongLength, BrokenTables, MisfitStore, OutOfRange, PageStands, NoPage, NoRight, NothingCurrent, NoCopy, FrameHeld, EightCopies, LastRecent, Stale, NoFrame, ShortBuffer, TooManyFrames, Retired}
 
 -- the message was carried out
 abbrev pub accepted : ℕ
@@ -95,3 +97,31 @@ message_numbers =
 -- all rows
 abbrev pub all_numbers : List ℕ
 all_numbers = message_numbers ++ (too_many_frames ∷ [])
+
+-- the number of each refusal: the row of its name
+abbrev pub refusal_number : Refusal → ℕ
+refusal_number CutShort = cut_short
+refusal_number ForeignVersion = foreign_version
+refusal_number UnknownKind = unknown_kind
+refusal_number WrongLength = wrong_length
+refusal_number BrokenTables = broken_tables
+refusal_number MisfitStore = misfit_store
+refusal_number OutOfRange = out_of_range
+refusal_number PageStands = page_stands
+refusal_number NoPage = no_page
+refusal_number NoRight = no_right
+refusal_number NothingCurrent = nothing_current
+refusal_number NoCopy = no_copy
+refusal_number FrameHeld = frame_held
+refusal_number EightCopies = eight_copies
+refusal_number LastRecent = last_recent
+refusal_number Stale = stale
+refusal_number NoFrame = no_frame
+refusal_number ShortBuffer = short_buffer
+refusal_number TooManyFrames = too_many_frames
+refusal_number Retired = retired
+
+-- the number of an answer: that of its refusal, and 0 where there is none
+abbrev pub answer_number : {A : Type 0} → Result A Refusal → ℕ
+answer_number (Ok x) = accepted
+answer_number (Err refusal) = refusal_number refusal

@@ -3,6 +3,7 @@
 #![tactic(auto)]
 
 mod record;
+mod refusals;
 mod register;
 mod rules;
 mod search;
@@ -12,6 +13,7 @@ ghost use Rattle.tables.specs.Model.{fresh_tables, made};
 ghost use Rattle.tables.specs.Changes.{after};
 
 use record::fresh_page;
+pub use refusals::Refusal;
 use register::{enter, occupy, vacate};
 
 // Number 19 of document 01's table.
