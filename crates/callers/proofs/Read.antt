@@ -13,7 +13,8 @@ use Rattle.steps.specs.declared.Call.{Call}
 use Rattle.steps.specs.declared.Place.{Place}
 use Rattle.steps.specs.Kinds.{tells, names, code, argument, call_of}
 use Rattle.steps.specs.Data.{formed}
-use Rattle.steps.specs.Steps.{Outcome, refuse, accept, mapped, Plan, decide_any}
+use Rattle.steps.specs.declared.Plan.{Plan}
+use Rattle.steps.specs.Steps.{Outcome, refuse, accept, mapped, decide_any}
 use Rattle.steps.specs.Effects.{State, Result, carried_out, step, data_of, place_of, read_place, read_call}
 use Rattle.steps.proofs.StoreLaws.{length_part}
 use Rattle.steps.proofs.DecideLaws.{IfAccepted, if_accepted}

@@ -36,7 +36,8 @@ use Rattle.steps.specs.declared.Call.{Call}
 use Rattle.steps.specs.declared.View.{View}
 use Rattle.steps.specs.Kinds.{station, page, names, is_read, code, among, has}
 use Rattle.steps.specs.Stores.{part, block, contents, zeros, lay_frames}
-use Rattle.steps.specs.Steps.{Outcome, refuse, accept, test, mapped, Plan, copy_at, currents, first_current, page_for, viewing, view_of, rules_number, decide_any}
+use Rattle.steps.specs.declared.Plan.{Plan}
+use Rattle.steps.specs.Steps.{Outcome, refuse, accept, test, mapped, copy_at, currents, first_current, page_for, viewing, view_of, rules_number, decide_any}
 use Rattle.steps.specs.Effects.{laid_frames, shown_of, stored, work_data, State, joined, Result, carried_out, step, left, data_of}
 use Rattle.steps.proofs.KindLaws.{kind_is}
 use Rattle.steps.proofs.Blocks.{block_lay_whole, block_lay_other, each_own, each_spared}

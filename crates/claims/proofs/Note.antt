@@ -24,7 +24,8 @@ use Rattle.steps.specs.declared.Call.{Call}
 use Rattle.steps.specs.declared.View.{View}
 use Rattle.steps.specs.Kinds.{page, names, is_read, code, among, has}
 use Rattle.steps.specs.Stores.{part, block, contents}
-use Rattle.steps.specs.Steps.{Outcome, refuse, accept, test, mapped, Plan, right_of, may, copy_at, currents, first_current, page_for, view_of}
+use Rattle.steps.specs.declared.Plan.{Plan}
+use Rattle.steps.specs.Steps.{Outcome, refuse, accept, test, mapped, right_of, may, copy_at, currents, first_current, page_for, view_of}
 use Rattle.steps.specs.Effects.{shown_of, work_data, State, joined, Result, carried_out, step, left}
 use Rattle.steps.specs.Promises.{state_of}
 use Rattle.steps.proofs.KindLaws.{kind_is}

@@ -32,7 +32,8 @@ use Rattle.steps.specs.declared.Lay.TheVariants.{Zeros}
 use Rattle.steps.specs.declared.Show.TheVariants as Show
 use Rattle.steps.specs.declared.Work.TheVariants.{Lays}
 use Rattle.steps.specs.Kinds.{station, page, names, kind_number, kinds, is_read, code, among, has, argument, call_of}
-use Rattle.steps.specs.Steps.{Outcome, refuse, accept, guarded, mapped, Plan, plan_of, no_work, showing, may, copy_at, currents, first_current, perform, decide_on, page_for, view_of, decide, number_of}
+use Rattle.steps.specs.declared.Plan.{Plan}
+use Rattle.steps.specs.Steps.{Outcome, refuse, accept, guarded, mapped, plan_of, no_work, showing, may, copy_at, currents, first_current, perform, decide_on, page_for, view_of, decide, number_of}
 use Rattle.steps.specs.Effects.{State, Result, carried_out, step, left}
 use Rattle.steps.proofs.KindLaws.{kind_is}
 use Rattle.steps.proofs.RangeLaws.{outside_listed}

@@ -15,7 +15,8 @@ use Rattle.steps.specs.declared.Call.{Call}
 use Rattle.steps.specs.declared.Work.{Work}
 use Rattle.steps.specs.declared.Work.TheVariants.{Shows, Lays}
 use Rattle.steps.specs.declared.Show.{Show}
-use Rattle.steps.specs.Steps.{page_for, Outcome, refuse, accept, Plan, rules_number, decide_any}
+use Rattle.steps.specs.declared.Plan.{Plan}
+use Rattle.steps.specs.Steps.{page_for, Outcome, refuse, accept, rules_number, decide_any}
 use Rattle.steps.specs.Effects.{frame_place, no_place, shown_at, work_at, place_of, read_place}
 use Rattle.steps.specs.Promises.{show_within, work_within}
 use Rattle.steps.proofs.DecideLaws.{IfAccepted, if_accepted, past_number, then_keeps, as_listed, PlanOk, decide_ok}

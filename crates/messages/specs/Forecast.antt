@@ -6,7 +6,8 @@ use Rattle.tables.specs.declared.Tables.{Tables}
 use Rattle.tables.specs.Numbers.{accepted, broken_tables}
 use Rattle.tables.specs.Rules.{frames_held, sound}
 use Rattle.steps.specs.declared.Call.{Call}
-use Rattle.steps.specs.Steps.{Outcome, Plan, decide, number_of}
+use Rattle.steps.specs.declared.Plan.{Plan}
+use Rattle.steps.specs.Steps.{Outcome, decide, number_of}
 use Rattle.steps.specs.Effects.{tables_left}
 use Rattle.steps.specs.Promises.{laid_of}
 use Rattle.messages.specs.declared.Parsed.{Parsed}

@@ -42,7 +42,8 @@ use Rattle.steps.specs.declared.Work.{Work}
 use Rattle.steps.specs.declared.Work.TheVariants.{Shows, Lays}
 use Rattle.steps.specs.Kinds.{offset, bytes, frame, names, tells, is_read, is_retire, code, among, has, least_length}
 use Rattle.steps.specs.Calls.{bad_span, outside}
-use Rattle.steps.specs.Steps.{Outcome, refuse, accept, test, guarded, Plan, planned, no_work, editing, retiring, showing, laying, clearing, may, owns, is_placed, copy_at, currents, recents, placed_count, first_current, lacks_right, lacks_owner, lacks_copy, copying, perform, decide_on, page_for, view_of, decide}
+use Rattle.steps.specs.declared.Plan.{Plan}
+use Rattle.steps.specs.Steps.{Outcome, refuse, accept, test, guarded, planned, no_work, editing, retiring, showing, laying, clearing, may, owns, is_placed, copy_at, currents, recents, placed_count, first_current, lacks_right, lacks_owner, lacks_copy, copying, perform, decide_on, page_for, view_of, decide}
 use Rattle.steps.specs.Data.{copy_marks_valid, each_is, formed}
 use Rattle.steps.specs.Effects.{copies_shown, laid_frames, shown_of, bytes_laid, work_data}
 use Rattle.steps.specs.Promises.{frame_within, lay_within, show_within, work_within}

@@ -1,44 +1,48 @@
--- The kinds and their numbers. In order: a number that is none of 2 to 12, as the last arm of a `match` has it; the
--- numbers of the kinds.
+-- The kinds and their numbers. In order: the kind with a number; the numbers of the kinds.
 use Prim.Native.Nat.{ℕ, ◌+◌, ◌-◌, ◌≤◌, ◌<◌}
 use mathlib.Core.Path.{◌≡◌, refl, sym, ap, ◌∙◌}
-use mathlib.Core.Bool.{Bool, true, false}
-use native.Mathlib.Decide.{dec_le}
+use mathlib.Core.Bool.{Bool, true, false, ◌||◌}
 use native.Mathlib.Omega.{arith}
 use lib.ListN.{length, get_or, get_or-eq_default}
-use lib.Dec.{eqb}
-use borrow.Author.Tests.{eqb-true, eqb-false, ltb-false}
+use lib.Dec.{eqb, ltb}
+use borrow.Author.Tests.{eqb-true, eqb-false, ltb-true, ltb-false}
+use Rattle.tables.specs.Numbers.{unknown_kind}
 use Rattle.tables.specs.Lists.{all, all_below}
 use Rattle.tables.proofs.ListLaws.{or_left, or_right, all_at, below_at}
 use Rattle.steps.specs.declared.Kind.{Kind}
 use Rattle.steps.specs.declared.Kind.TheVariants.{Create, DeletePage, Grant, Read, Write, MakeCopy, DeleteCopy, SetCurrent, RemoveCurrent, LookPage, LookFrame, Retire}
 use Rattle.steps.specs.Kinds.{kinds, kind_number, is_unknown, kind_of}
+use Rattle.steps.specs.Steps.{Outcome, refuse, accept, test}
+use Rattle.steps.specs.Promises.{kind_known}
 
--- n is none of 2 to 12, as the last arm has it
-abbrev pub NoneOfRows : ℕ → Type 0
-NoneOfRows n =
-    (((((((((((Unit {0} × (n ≡ 2 → ⊥)) × (n ≡ 3 → ⊥)) × (n ≡ 4 → ⊥)) × (n ≡ 5 → ⊥)) × (n ≡ 6 → ⊥)) × (n ≡ 7 → ⊥)) × (n ≡ 8 → ⊥))
-    × (n ≡ 9 → ⊥)) × (n ≡ 10 → ⊥)) × (n ≡ 11 → ⊥)) × (n ≡ 12 → ⊥))
+-- ---- the kind with a number
 
-pub kind_rest : (n : ℕ) → NoneOfRows n → kind_of n ≡ Create
+unknown_made : (n : ℕ) → is_unknown n ≡ true → kind_of n ≡ Create
 unfolding kinds
-kind_rest n r = go (dec_le n 1)
+unknown_made n e = go (eqb n 0) refl e
   where
-    above : (m : ℕ) → m ≤ n → (n ≡ m → ⊥) → m + 1 ≤ n
-    above m l e = omega arith
+    go : (b : Bool) → eqb n 0 ≡ b → (b || ltb (length kinds) n) ≡ true → kind_of n ≡ Create
+    go true z e = ap (λ (i : ℕ). get_or kinds i Create) (let none = eqb-true n 0 z in let first : n - 1 ≡ 0 = omega arith in first)
+    go false z e = get_or-eq_default kinds Create (let past = ltb-true (length kinds) n e in let last : 12 ≤ n - 1 = omega arith in last)
 
-    pred_le : 13 ≤ n → 12 ≤ n - 1
-    pred_le h = omega arith
+-- what an answer says of a number: its kind, or that no kind has it, and then its row is that of create
+module _ (n : ℕ) where
+  pub known_kind : {k : Kind} → accept k ≡ kind_known n → kind_of n ≡ k
+  known_kind {k} e = go (is_unknown n) e
+    where
+      go : (b : Bool) → accept k ≡ test b unknown_kind (accept (kind_of n)) → kind_of n ≡ k
+      go true e = cc
+      go false e = cc
 
-    go : Dec (n ≤ 1) → kind_of n ≡ Create
-    go (yes h) = ap (λ (i : ℕ). get_or kinds i Create) (let e : n - 1 ≡ 0 = omega arith in e)
-    go (no h) =
-        let two = above 2 (let b : 2 ≤ n = omega (arith, h) in b) r.0.0.0.0.0.0.0.0.0.0.1 in
-        let four = above 4 (above 3 two r.0.0.0.0.0.0.0.0.0.1) r.0.0.0.0.0.0.0.0.1 in
-        let six = above 6 (above 5 four r.0.0.0.0.0.0.0.1) r.0.0.0.0.0.0.1 in
-        let eight = above 8 (above 7 six r.0.0.0.0.0.1) r.0.0.0.0.1 in
-        let ten = above 10 (above 9 eight r.0.0.0.1) r.0.0.1 in
-        get_or-eq_default kinds Create (pred_le (above 12 (above 11 ten r.0.1) r.1))
+  pub no_kind : {m : ℕ} → refuse m ≡ kind_known n → is_unknown n ≡ true
+  no_kind {m} e = go (is_unknown n) e
+    where
+      go : (b : Bool) → refuse m ≡ test b unknown_kind (accept (kind_of n)) → b ≡ true
+      go true e = refl
+      go false e = cc
+
+  pub no_kind_made : {m : ℕ} → refuse m ≡ kind_known n → kind_of n ≡ Create
+  no_kind_made e = unknown_made n (no_kind e)
 
 -- ---- the numbers of the kinds
 

@@ -19,7 +19,8 @@ use Rattle.steps.specs.declared.Work.TheVariants.{Shows}
 use Rattle.steps.specs.declared.Show.TheVariants as Show
 use Rattle.steps.specs.declared.Decision.{Decision}
 use Rattle.steps.specs.Stores.{part, block}
-use Rattle.steps.specs.Steps.{Outcome, refuse, accept, mapped, Plan, first_current, page_for, view_of, rules_number, decide_any}
+use Rattle.steps.specs.declared.Plan.{Plan}
+use Rattle.steps.specs.Steps.{Outcome, refuse, accept, mapped, first_current, page_for, view_of, rules_number, decide_any}
 use Rattle.steps.specs.Effects.{shown_of, State, carried_out, step, data_of, frame_place, work_at, place_of, read_place}
 use Rattle.steps.specs.Promises.{decision_of, work_of, len_of, bytes_at, pointer_at, ReadPart}
 use Rattle.steps.specs.Private.{Room, PlaceIn}

@@ -21,7 +21,8 @@ use Rattle.steps.specs.declared.Lay.TheVariants.{Nothing, Zeros, ZerosEach, Dupl
 use Rattle.steps.specs.declared.Show.TheVariants as Show
 use Rattle.steps.specs.declared.Work.TheVariants.{Shows, Lays}
 use Rattle.steps.specs.Calls.{outside}
-use Rattle.steps.specs.Steps.{test, Plan, plan_of, no_work, editing, retiring, laying, may, owns, copy_at, currents, recents, placed_count, first_current, copying, perform, decide_on}
+use Rattle.steps.specs.declared.Plan.{Plan}
+use Rattle.steps.specs.Steps.{test, plan_of, no_work, editing, retiring, laying, may, owns, copy_at, currents, recents, placed_count, first_current, copying, perform, decide_on}
 use Rattle.steps.proofs.RangeLaws.{Ranged, ranged}
 use Rattle.steps.proofs.DecideLaws.{IfAccepted, IfDecided, if_accepted, past, past_number, past_nine, past_copy, then_keeps, as_listed, range_listed}
 

@@ -25,7 +25,8 @@ use Rattle.steps.specs.declared.Decision.{Decision}
 use Rattle.steps.specs.Kinds.{tells, least_length}
 use Rattle.steps.specs.Data.{formed}
 use Rattle.steps.specs.Stores.{fits, block, contents, zeros, lay_frames, over}
-use Rattle.steps.specs.Steps.{Outcome, refuse, accept, guarded, mapped, Plan, no_work, copy_at, page_for, decide, rules_number, decide_any, number_of}
+use Rattle.steps.specs.declared.Plan.{Plan}
+use Rattle.steps.specs.Steps.{Outcome, refuse, accept, guarded, mapped, no_work, copy_at, page_for, decide, rules_number, decide_any, number_of}
 use Rattle.steps.specs.Effects.{laid_frames, stored, work_data, State, joined, Result, carried_out, step, left, moved_by, laid_by, data_of}
 use Rattle.steps.specs.Promises.{state_of, decision_of, Lent, lent, work_within, within, carried, Stepped, settled}
 use Rattle.steps.specs.Private.{frames_in, DecisionTold}

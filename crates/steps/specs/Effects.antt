@@ -19,7 +19,8 @@ use Rattle.steps.specs.declared.Work.{Work}
 use Rattle.steps.specs.declared.Work.TheVariants.{Shows, Lays}
 use Rattle.steps.specs.Kinds.{call_of}
 use Rattle.steps.specs.Stores.{part, block, zeros, frames_of, lay_frames}
-use Rattle.steps.specs.Steps.{Outcome, refuse, accept, mapped, Plan, is_placed, page_for, decide_any}
+use Rattle.steps.specs.declared.Plan.{Plan}
+use Rattle.steps.specs.Steps.{Outcome, refuse, accept, mapped, is_placed, page_for, decide_any}
 
 abbrev pub bit : Bool → ℕ
 bit true = 1

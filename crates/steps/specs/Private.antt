@@ -1,12 +1,9 @@
 -- What the private functions of this layer ask of each other and promise. For the proofs alone: no exported contract
 -- names it.
-use Rattle.std.specs.Prelude.{ℕ, ◌+◌, ◌*◌, ◌/◌, ◌%◌, ◌≤◌, ◌<◌, Bool, true, cond, List, [], ◌∷◌, ◌≡◌, length, get_or, eqb}
+use Rattle.std.specs.Prelude.{ℕ, ◌+◌, ◌*◌, ◌/◌, ◌%◌, ◌≤◌, ◌<◌, Bool, true, cond, Option, Some, None, is_some, List, [], ◌∷◌, ◌≡◌, length, get_or}
 use Rattle.tables.specs.declared.Copy.{Copy}
 use Rattle.tables.specs.declared.Page.{Page}
-use Rattle.tables.specs.declared.Shared.{Shared}
 use Rattle.tables.specs.declared.Tables.{Tables}
-use Rattle.tables.specs.declared.Holder.{Holder}
-use Rattle.tables.specs.declared.Edit.{Edit}
 use Rattle.tables.specs.declared.Edit.TheVariants.{Kept}
 use Rattle.tables.specs.Model.{null_frame, copies_in_use, zero_copy, page_at}
 use Rattle.tables.specs.Rules.{is_recent, is_current}
@@ -14,14 +11,13 @@ use Rattle.steps.specs.declared.Kind.{Kind}
 use Rattle.steps.specs.declared.Call.{Call}
 use Rattle.steps.specs.declared.Which.{Which}
 use Rattle.steps.specs.declared.Which.TheVariants.{Current, Recent, Placed}
-use Rattle.steps.specs.declared.Work.{Work}
-use Rattle.steps.specs.declared.Verdict.{Verdict}
+use Rattle.steps.specs.declared.Plan.{Plan}
 use Rattle.steps.specs.declared.Decision.{Decision}
 use Rattle.steps.specs.declared.Place.{Place}
-use Rattle.steps.specs.Steps.{Outcome, refuse, accept, Plan, no_work, is_placed, copy_at, currents, first_current, decide_on, page_for, viewing, number_of}
+use Rattle.steps.specs.Steps.{plan_of, no_work, is_placed, currents, first_current, page_for}
 use Rattle.steps.specs.Stores.{lay_frame}
-use Rattle.steps.specs.Effects.{moves, tables_left}
-use Rattle.steps.specs.Promises.{laid_of, len_of, work_of, edit_of, retires_of, decision_on, settled}
+use Rattle.steps.specs.Effects.{moves, tables_after}
+use Rattle.steps.specs.Promises.{change_for, settled}
 
 -- ---- kinds
 
@@ -78,35 +74,23 @@ lay_each those st (c ∷ cs) o b = lay_each those (cond (those c) (lay_frame st 
 
 -- ---- what a call comes to
 
--- r is the number of the lowest-numbered CURRENT copy, or 8 where there is none
-pub record FirstCurrent (g : Page) (r : ℕ) : Type 0 where
-  pub none : 8 ≤ r → currents g ≡ 0
-  pub some : r < 8 → (1 ≤ currents g) × ((copy_at g r).frame ≡ first_current (copies_in_use g))
+-- r is the lowest-numbered CURRENT copy: there is none, or the page has it and it is on the frame that a read looks at
+abbrev pub FirstCurrent : Page → Option Copy → Type 0
+FirstCurrent g None = currents g ≡ 0
+FirstCurrent g (Some c) = (1 ≤ currents g) × (c.frame ≡ first_current (copies_in_use g))
 
--- an outcome as the code holds it
-abbrev pub verdict_with : ℕ → Edit → ℕ → ℕ → ℕ → Work → Verdict
-verdict_with number e f laid len w = record { number = number; edit = e; retires = f; laid = laid; len = len; work = w }
-
-abbrev pub verdict_of : Outcome Plan → Verdict
-verdict_of (refuse n) = verdict_with n Kept null_frame 0 0 no_work
-verdict_of (accept plan) = verdict_with 0 plan.edit plan.retires plan.laid plan.len plan.work
-
--- the decision of a call on page p, whose record is g, where the holder of its frame is h
-unfoldable pub decision_for : Shared → ℕ → Page → Holder → Call → ℕ → Decision
-decision_for a p g h c size = decision_on p g (decide_on (viewing a g h) c size)
-
--- 5 or 6 before a decision
-abbrev pub ruled : ℕ → Decision → Decision
-ruled number d = cond (eqb number 0) d (decision_on d.change.page d.before (refuse number))
+-- nothing changes, and nothing is shown, laid or filled
+abbrev pub no_plan : Plan
+no_plan = plan_of Kept null_frame 0 0 no_work
 
 -- ---- what a caller has of a decision
 
--- of a decision d of a call c on tables t that comes to o
-pub record DecisionTold (t : Tables) (c : Call) (o : Outcome Plan) (d : Decision) : Type 0 where
-  pub number_told : d.number ≡ number_of o
-  pub moved_told : d.moved ≡ moves (page_at t (page_for c)) (edit_of o) (retires_of o)
-  pub laid_told : d.laid ≡ laid_of o
-  pub len_told : d.len ≡ len_of o
-  pub work_told : d.work ≡ work_of o
-  pub tables_told : settled t d ≡ tables_left t c o
+-- of a decision d of a call c on tables t that comes to a plan
+pub record DecisionTold (t : Tables) (c : Call) (plan : Plan) (d : Decision) : Type 0 where
+  pub change_told : d.change ≡ change_for (page_for c) (page_at t (page_for c)) plan.edit plan.retires
+  pub moved_told : is_some d.change ≡ moves (page_at t (page_for c)) plan.edit plan.retires
+  pub laid_told : d.laid ≡ plan.laid
+  pub len_told : d.len ≡ plan.len
+  pub work_told : d.work ≡ plan.work
+  pub tables_told : settled t d ≡ tables_after t c plan
   pub before_told : d.before ≡ page_at t (page_for c)

@@ -1,15 +1,16 @@
 -- What the functions that this layer exports promise.
-use Rattle.std.specs.Prelude.{ℕ, ◌+◌, ◌-◌, ◌/◌, ◌%◌, ◌≡◌, Bool, true, not, ◌&&◌, ◌||◌, cond, List, [], ◌∷◌, ◌++◌, length, take, drop, leb, ltb, eqb}
+use Rattle.std.specs.Prelude.{ℕ, ◌+◌, ◌-◌, ◌/◌, ◌%◌, ◌≡◌, Bool, true, not, ◌&&◌, ◌||◌, cond, Option, Some, None, List, [], ◌∷◌, ◌++◌, length, take, drop, leb, ltb, eqb}
 use Rattle.tables.specs.declared.Copy.{Copy}
 use Rattle.tables.specs.declared.Page.{Page}
 use Rattle.tables.specs.declared.Tables.{Tables}
 use Rattle.tables.specs.declared.Edit.{Edit}
-use Rattle.tables.specs.declared.Edit.TheVariants.{Kept}
+use Rattle.tables.specs.declared.Change.{Change}
 use Rattle.tables.specs.Lists.{all}
 use Rattle.tables.specs.Model.{null_frame, copies_in_use, page_at}
-use Rattle.tables.specs.Numbers.{accepted, broken_tables}
+use Rattle.tables.specs.Numbers.{unknown_kind, broken_tables, answer_number}
 use Rattle.tables.specs.Rules.{is_current, frames_held, sound, frame_total}
 use Rattle.tables.specs.Changes.{changed, change_to, after}
+use Rattle.steps.specs.declared.Kind.{Kind}
 use Rattle.steps.specs.declared.Call.{Call}
 use Rattle.steps.specs.declared.Form.{Form}
 use Rattle.steps.specs.declared.Lay.{Lay}
@@ -17,13 +18,13 @@ use Rattle.steps.specs.declared.Lay.TheVariants.{Nothing, Zeros, ZerosEach, Dupl
 use Rattle.steps.specs.declared.Show.{Show}
 use Rattle.steps.specs.declared.Work.{Work}
 use Rattle.steps.specs.declared.Work.TheVariants.{Shows, Lays}
+use Rattle.steps.specs.declared.Plan.{Plan}
 use Rattle.steps.specs.declared.Decision.{Decision}
-use Rattle.steps.specs.declared.Held.{Held}
 use Rattle.steps.specs.declared.Done.{Done}
 use Rattle.steps.specs.declared.Place.{Place}
-use Rattle.steps.specs.Kinds.{kind_of, tells, least_length, most_length, call_of}
+use Rattle.steps.specs.Kinds.{is_unknown, kind_of, tells, least_length, most_length, call_of}
 use Rattle.steps.specs.Stores.{part, over}
-use Rattle.steps.specs.Steps.{Outcome, refuse, accept, Plan, no_work, is_placed, page_for, number_of}
+use Rattle.steps.specs.Steps.{Outcome, refuse, accept, test, mapped, is_placed, page_for, number_of}
 use Rattle.steps.specs.Effects.{stored, work_data, moves, State, Result, left, laid_by, data_of}
 
 -- the state of tables and two lent stores
@@ -32,15 +33,23 @@ state_of t fast slow = record { tables = t; fast = fast; slow = slow }
 
 -- ---- kinds
 
--- the form of the messages and replies of a kind, and the call of a message with the arguments a, b, c, d
-abbrev pub form_of : ℕ → ℕ → ℕ → ℕ → ℕ → Form
-form_of number a b c d =
+-- the kind with a number; 3 for a number that is no kind's
+abbrev pub kind_known : ℕ → Outcome Kind
+kind_known number = test (is_unknown number) unknown_kind (accept (kind_of number))
+
+-- the form of the messages and replies of a kind, and the call of a message with these arguments
+abbrev pub kind_form : Kind → List ℕ → Form
+kind_form k arguments =
     record {
-      least = least_length (kind_of number);
-      most = most_length (kind_of number);
-      tells = tells (kind_of number);
-      call = call_of (kind_of number) (a ∷ b ∷ c ∷ d ∷ []);
+      least = least_length k;
+      most = most_length k;
+      tells = tells k;
+      call = call_of k arguments;
     }
+
+-- the form of the kind with a number, where the arguments are a, b, c, d
+abbrev pub form_of : ℕ → ℕ → ℕ → ℕ → ℕ → Form
+form_of number a b c d = kind_form (kind_of number) (a ∷ b ∷ c ∷ d ∷ [])
 
 -- ---- what a call comes to
 
@@ -48,60 +57,49 @@ abbrev pub laid_of : Outcome Plan → ℕ
 laid_of (refuse n) = 0
 laid_of (accept plan) = plan.laid
 
-abbrev pub len_of : Outcome Plan → ℕ
-len_of (refuse n) = 0
-len_of (accept plan) = plan.len
+-- The change by which a plan moves the tables: edit e is made to page p, whose record is g, and frame f is retired, 255
+-- for none. There is none where the edit is seen at a glance to leave the record, and no frame is retired.
+abbrev pub change_for : ℕ → Page → Edit → ℕ → Option Change
+change_for p g e f = cond (moves g e f) (Some (change_to p (changed g e) f)) None
 
-abbrev pub work_of : Outcome Plan → Work
-work_of (refuse n) = no_work
-work_of (accept plan) = plan.work
-
-abbrev pub edit_of : Outcome Plan → Edit
-edit_of (refuse n) = Kept
-edit_of (accept plan) = plan.edit
-
-abbrev pub retires_of : Outcome Plan → ℕ
-retires_of (refuse n) = null_frame
-retires_of (accept plan) = plan.retires
-
--- a decision, with the record of page p before it and after
-abbrev pub decision_with : ℕ → Bool → ℕ → ℕ → ℕ → Page → Page → ℕ → Work → Decision
-decision_with number moved laid len p before becomes retires work =
+-- the decision of a plan on page p, whose record is g
+abbrev pub decision_on : ℕ → Page → Plan → Decision
+decision_on p g plan =
     record {
-      number = number;
-      moved = moved;
-      laid = laid;
-      len = len;
-      work = work;
-      change = change_to p becomes retires;
-      before = before;
+      laid = plan.laid;
+      len = plan.len;
+      work = plan.work;
+      change = change_for p g plan.edit plan.retires;
+      before = g;
     }
 
--- the decision of a call on page p, whose record is g, that comes to o. The tables need not be moved where the edit is
--- seen at a glance to leave them as they are.
-abbrev pub decision_on : ℕ → Page → Outcome Plan → Decision
-decision_on p g o =
-    decision_with (number_of o) (moves g (edit_of o) (retires_of o)) (laid_of o) (len_of o) p g (changed g (edit_of o))
-    (retires_of o) (work_of o)
+-- what a call c on tables t that comes to o is decided to be
+abbrev pub decision_of : Tables → Call → Outcome Plan → Outcome Decision
+decision_of t c o = mapped (decision_on (page_for c) (page_at t (page_for c))) o
 
--- the decision of a call c on tables t that comes to o
-abbrev pub decision_of : Tables → Call → Outcome Plan → Decision
-decision_of t c o = decision_on (page_for c) (page_at t (page_for c)) o
+-- the tables with a change, where there is one
+abbrev pub moved_to : Tables → Option Change → Tables
+moved_to t None = t
+moved_to t (Some change) = after t change
 
--- the tables after a decision: with its change put into them, where they move
+-- the tables after a decision
 abbrev pub settled : Tables → Decision → Tables
-settled t d = cond d.moved (after t d.change) t
+settled t d = moved_to t d.change
 
--- what a forecast begins with: 5 for broken tables; else 0, and how many frames are held
-abbrev pub held_in : Tables → Held
-held_in t =
-    record { number = cond (sound t) accepted broken_tables; held = cond (sound t) (frames_held t) 0 }
+-- what a forecast begins with: 5 for broken tables; else how many frames are held
+abbrev pub held_in : Tables → Outcome ℕ
+held_in t = test (not (sound t)) broken_tables (accept (frames_held t))
+
+-- how many frames are held after a change of a page, where so many were before, and g was the page's record
+abbrev pub held_with : ℕ → Page → Option Change → ℕ
+held_with held g None = held
+held_with held g (Some change) = held - frame_total g + frame_total change.becomes
 
 -- How many frames are held after a decision, where so many were before: the frames of the page's copies before the
 -- decision go, and those of its copies after the decision come. On sound tables that have so many frames held, and that
 -- the decision moves, that is `frames_held` of the tables after the decision (`held_settled`).
 abbrev pub held_after : ℕ → Decision → ℕ
-held_after held d = held - frame_total d.before + frame_total d.change.becomes
+held_after held d = held_with held d.before d.change
 
 -- ---- what was decided, carried out
 
@@ -170,7 +168,7 @@ carried d bs l =
 -- what `step` leaves of a call on state s that comes to o: the state s', and the data at the front of the buffer
 pub record Stepped (s : State) (o : Outcome Result) (out : List ℕ) (s' : State) (out' : List ℕ)
     (r : Done) : Type 0 where
-  pub number_told : r.number ≡ number_of o
+  pub number_told : answer_number r.answer ≡ number_of o
   pub laid_told : r.laid ≡ laid_by o
   pub len_told : r.len ≡ length (data_of o)
   pub state_out : s' ≡ left s o

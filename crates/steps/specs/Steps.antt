@@ -1,6 +1,7 @@
 -- Document 01, "The steps": what each is tested for, changes, lays and replies. Everything here is decided from the
 -- tables, the call and the number of a write's bytes.
-use Rattle.std.specs.Prelude.{ℕ, ◌+◌, ◌*◌, Bool, true, false, not, ◌&&◌, cond, List, [], ◌∷◌, length, get_or, leb, ltb, eqb}
+use Rattle.std.specs.Prelude.{ℕ, ◌+◌, ◌*◌, Bool, true, false, not, ◌&&◌, cond, List, [], ◌∷◌, Result, Ok, Err, length, get_or, leb, ltb, eqb}
+use Rattle.tables.specs.declared.refusals.Refusal.{Refusal}
 use Rattle.tables.specs.declared.Copy.{Copy}
 use Rattle.tables.specs.declared.Page.{Page}
 use Rattle.tables.specs.declared.Shared.{Shared}
@@ -9,7 +10,7 @@ use Rattle.tables.specs.declared.Holder.{Holder}
 use Rattle.tables.specs.declared.Edit.{Edit}
 use Rattle.tables.specs.declared.Edit.TheVariants.{Kept, Created, Deleted, Granted, Staled, Placed, Added, Removed, Marked}
 use Rattle.tables.specs.Lists.{count}
-use Rattle.tables.specs.Numbers.{accepted, broken_tables, misfit_store, page_stands, no_page, no_right, nothing_current, no_copy, frame_held, eight_copies, last_recent, stale, no_frame, retired}
+use Rattle.tables.specs.Numbers.{accepted, broken_tables, misfit_store, page_stands, no_page, no_right, nothing_current, no_copy, frame_held, eight_copies, last_recent, stale, no_frame, retired, refusal_number}
 use Rattle.tables.specs.Model.{frame_count, null_frame, is_null, copies_in_use, absent, zero_copy, page_at}
 use Rattle.tables.specs.Rules.{is_current, is_recent, sound}
 use Rattle.tables.specs.Search.{is_free, is_retired}
@@ -19,6 +20,7 @@ use Rattle.steps.specs.declared.Kind.TheVariants.{Create, DeletePage, Grant, Rea
 use Rattle.steps.specs.declared.Act.{Act}
 use Rattle.steps.specs.declared.Call.{Call}
 use Rattle.steps.specs.declared.View.{View}
+use Rattle.steps.specs.declared.Plan.{Plan}
 use Rattle.steps.specs.declared.Lay.{Lay}
 use Rattle.steps.specs.declared.Lay.TheVariants.{Nothing, Zeros, ZerosEach, Duplicate, Spread}
 use Rattle.steps.specs.declared.Show.{Show}
@@ -32,6 +34,11 @@ use Rattle.steps.specs.Rights.{allows}
 pub data Outcome (A : Type 0) : Type 0 where
   refuse : ℕ → Outcome A
   accept : A → Outcome A
+
+-- what an answer of the code says
+abbrev pub outcome_of : {A : Type 0} → Result A Refusal → Outcome A
+outcome_of (Ok a) = accept a
+outcome_of (Err refusal) = refuse (refusal_number refusal)
 
 -- turned back with number n where the test holds
 abbrev pub test : {A : Type 0} → Bool → ℕ → Outcome A → Outcome A
@@ -50,13 +57,6 @@ mapped f (accept a) = accept (f a)
 -- the length of its data, and what it shows or lays. "Every accepted reply states the bytes laid: 64 for make copy, for
 -- write its length times the number of current copies"; since request [2] of document 02, 64 also for each frame that a
 -- delete frees; else 0.
-pub record Plan : Type 0 where
-  pub edit : Edit
-  pub retires : ℕ
-  pub laid : ℕ
-  pub len : ℕ
-  pub work : Work
-
 abbrev pub plan_of : Edit → ℕ → ℕ → ℕ → Work → Plan
 plan_of e f laid len w = record { edit = e; retires = f; laid = laid; len = len; work = w }
 

@@ -2,15 +2,15 @@
 ghost use Rattle.std.specs.Prelude.{◌≡◌, ℕ, ◌≤◌};
 ghost use Rattle.steps.specs.declared.Kind.TheVariants.{Read, Write};
 ghost use Rattle.steps.specs.Rights.{allows};
-ghost use Rattle.steps.specs.Steps.{right_of, lacks_right, perform};
-ghost use Rattle.steps.specs.Private.{FirstCurrent, verdict_of};
+ghost use Rattle.tables.specs.Numbers.{answer_number};
+ghost use Rattle.steps.specs.Steps.{outcome_of, right_of, lacks_right, perform};
+ghost use Rattle.std.specs.List.{find};
+ghost use Rattle.tables.specs.Model.{copies_in_use};
+ghost use Rattle.tables.specs.Rules.{is_current};
 
-use crate::decisions::{laying, refused, showing};
 use crate::each::count_of;
-use crate::{
-    ACCEPTED, Act, Call, Lay, NO_PAGE, NO_RIGHT, NOTHING_CURRENT, Show, Verdict, View, Which,
-};
-use tables::{Edit, Page};
+use crate::{Act, Call, Lay, Plan, Show, View, Which};
+use tables::{Copy, Edit, Page, Refusal};
 
 // The right of a station at a page.
 fn right_of(page: Page, station: u8) -> u8
@@ -43,76 +43,62 @@ fn allows(right: u8, act: Act) -> bool
     }
 }
 
-// The number of the lowest-numbered CURRENT copy; 8 where there is none.
-fn first_current(page: Page) -> usize
-    ensures { FirstCurrent page result }
+// The lowest-numbered CURRENT copy.
+fn first_current(page: Page) -> Option<Copy>
+    ensures { result ≡ find is_current (copies_in_use page) }
 {
-    let n = page.in_use();
-    let mut j: usize = 0;
-    while j < n {
-        if page.copies[j].current {
-            return j;
-        }
-        j += 1;
-    }
-    8
+    page.copies_in_use().iter().find(|c| c.current).copied()
 }
 
-// 9 and 10 of an act on a page; 0 where the station may.
-fn lacks_right(page: Page, station: u8, act: Act) -> u8
-    ensures { result ≡ lacks_right page station act }
+// 9 and 10 of an act on a page.
+fn lacks_right(page: Page, station: u8, act: Act) -> Result<(), Refusal>
+    ensures { answer_number result ≡ lacks_right page station act }
 {
     if page.n == 0 {
-        return NO_PAGE;
+        return Err(Refusal::NoPage);
     }
     let right = right_of(page, station);
     if !allows(right, act) {
-        return NO_RIGHT;
+        return Err(Refusal::NoRight);
     }
-    ACCEPTED
+    Ok(())
 }
 
-pub(crate) fn read_page(view: View, call: Call) -> Verdict
-    ensures { (size : ℕ) → result ≡ verdict_of (perform view call size Read) }
+#[tactic(auto, unfolding(crate::specs::Steps::perform), using(crate::proofs::GuardLaws::guard_refused, crate::proofs::GuardLaws::guard_on))]
+pub(crate) fn read_page(view: View, call: Call) -> Result<Plan, Refusal>
+    ensures { (size : ℕ) → outcome_of result ≡ perform view call size Read }
 {
     let page = view.page;
-    let number = lacks_right(page, call.station, Act::Read);
-    if number != ACCEPTED {
-        return refused(number);
-    }
-    let k = first_current(page);
-    if k >= 8 {
-        return refused(NOTHING_CURRENT);
-    }
-    let c = page.copies[k];
-    showing(
+    lacks_right(page, call.station, Act::Read)?;
+    let Some(c) = first_current(page) else {
+        return Err(Refusal::NothingCurrent);
+    };
+    Ok(Plan::showing(
         call.count as usize,
         Show::Frame {
             frame: c.frame,
             offset: call.offset,
         },
-    )
+    ))
 }
 
-pub(crate) fn write_page(view: View, call: Call, size: usize) -> Verdict
+#[tactic(auto, unfolding(crate::specs::Steps::perform), using(crate::proofs::GuardLaws::guard_refused, crate::proofs::GuardLaws::guard_on))]
+pub(crate) fn write_page(view: View, call: Call, size: usize) -> Result<Plan, Refusal>
     requires { size ≤ 64 }
-    ensures { result ≡ verdict_of (perform view call size Write) }
+    ensures { outcome_of result ≡ perform view call size Write }
 {
     let page = view.page;
-    let number = lacks_right(page, call.station, Act::Write);
-    if number != ACCEPTED {
-        return refused(number);
-    }
+    lacks_right(page, call.station, Act::Write)?;
     let k = count_of(page, Which::Current);
     if k == 0 {
-        return refused(NOTHING_CURRENT);
+        return Err(Refusal::NothingCurrent);
     }
     let laid = size * k;
-    laying(
+    Ok(Plan::laying(
         Edit::Staled,
         laid as u16,
         Lay::Spread {
             offset: call.offset,
         },
-    )
+    ))
 }

@@ -1,16 +1,12 @@
 // Steps 6 to 9: the copies of a page.
 ghost use Rattle.std.specs.Prelude.{◌≡◌, ℕ};
+ghost use Rattle.tables.specs.Numbers.{answer_number};
 ghost use Rattle.steps.specs.declared.Kind.TheVariants.{MakeCopy, DeleteCopy, SetCurrent, RemoveCurrent};
-ghost use Rattle.steps.specs.Steps.{copy_at, lacks_copy, copying, perform};
-ghost use Rattle.steps.specs.Private.{verdict_of};
+ghost use Rattle.steps.specs.Steps.{accept, outcome_of, copy_at, lacks_copy, copying, perform};
 
-use crate::decisions::{clearing, editing, laying, refused};
 use crate::each::count_of;
-use crate::{
-    ACCEPTED, Call, EIGHT_COPIES, FRAME_HELD, LAST_RECENT, Lay, NO_COPY, NO_FRAME, NO_PAGE,
-    RETIRED, STALE, Verdict, View, Which,
-};
-use tables::{Copy, Edit, NULL_FRAME, Page};
+use crate::{Call, Lay, Plan, View, Which};
+use tables::{Copy, Edit, NULL_FRAME, Page, Refusal};
 
 // Copy k of the page.
 fn copy_at(page: Page, k: u8) -> Copy
@@ -27,28 +23,28 @@ fn copy_at(page: Page, k: u8) -> Copy
     }
 }
 
-// Numbers 9 and 12 of a step on copy k; 0 where the page has that copy.
-fn lacks_copy(page: Page, k: u8) -> u8
-    ensures { result ≡ lacks_copy page k }
+// 9 and 12 of a step on copy k.
+fn lacks_copy(page: Page, k: u8) -> Result<(), Refusal>
+    ensures { answer_number result ≡ lacks_copy page k }
 {
     if page.n == 0 {
-        return NO_PAGE;
+        return Err(Refusal::NoPage);
     }
     if k >= page.n {
-        return NO_COPY;
+        return Err(Refusal::NoCopy);
     }
-    ACCEPTED
+    Ok(())
 }
 
 // Copy c brought to a free frame.
-fn copied(c: Copy, frame: u8) -> Verdict
-    ensures { result ≡ verdict_of (copying c frame) }
+fn copied(c: Copy, frame: u8) -> Plan
+    ensures { accept result ≡ copying c frame }
 {
     let from = c.frame;
     if from == NULL_FRAME {
-        return laying(Edit::Placed { frame }, 64, Lay::Zeros { frame });
+        return Plan::laying(Edit::Placed { frame }, 64, Lay::Zeros { frame });
     }
-    laying(
+    Plan::laying(
         Edit::Added {
             frame,
             recent: c.recent,
@@ -58,76 +54,65 @@ fn copied(c: Copy, frame: u8) -> Verdict
     )
 }
 
-pub(crate) fn make_copy(view: View, call: Call) -> Verdict
-    ensures { (size : ℕ) → result ≡ verdict_of (perform view call size MakeCopy) }
+#[tactic(auto, unfolding(crate::specs::Steps::perform), using(crate::proofs::GuardLaws::guard_refused, crate::proofs::GuardLaws::guard_on))]
+pub(crate) fn make_copy(view: View, call: Call) -> Result<Plan, Refusal>
+    ensures { (size : ℕ) → outcome_of result ≡ perform view call size MakeCopy }
 {
     let page = view.page;
     let holder = view.holder;
-    let number = lacks_copy(page, call.copy);
-    if number != ACCEPTED {
-        return refused(number);
-    }
+    lacks_copy(page, call.copy)?;
     if holder.is_retired() {
-        return refused(RETIRED);
+        return Err(Refusal::Retired);
     }
     if !holder.is_free() {
-        return refused(FRAME_HELD);
+        return Err(Refusal::FrameHeld);
     }
     if page.n == 8 {
-        return refused(EIGHT_COPIES);
+        return Err(Refusal::EightCopies);
     }
-    let c = copy_at(page, call.copy);
-    copied(c, call.frame)
+    Ok(copied(copy_at(page, call.copy), call.frame))
 }
 
-pub(crate) fn delete_copy(view: View, call: Call) -> Verdict
-    ensures { (size : ℕ) → result ≡ verdict_of (perform view call size DeleteCopy) }
+#[tactic(auto, unfolding(crate::specs::Steps::perform), using(crate::proofs::GuardLaws::guard_refused, crate::proofs::GuardLaws::guard_on))]
+pub(crate) fn delete_copy(view: View, call: Call) -> Result<Plan, Refusal>
+    ensures { (size : ℕ) → outcome_of result ≡ perform view call size DeleteCopy }
 {
     let page = view.page;
-    let number = lacks_copy(page, call.copy);
-    if number != ACCEPTED {
-        return refused(number);
-    }
+    lacks_copy(page, call.copy)?;
     let c = copy_at(page, call.copy);
     let recents = count_of(page, Which::Recent);
     if c.recent & (recents == 1) {
-        return refused(LAST_RECENT);
+        return Err(Refusal::LastRecent);
     }
-    clearing(Edit::Removed { copy: call.copy }, c.frame)
+    Ok(Plan::clearing(Edit::Removed { copy: call.copy }, c.frame))
 }
 
-#[tactic(auto, using(crate::proofs::GuardLaws::set_current_stale, crate::proofs::GuardLaws::set_current_marks))]
-pub(crate) fn set_current(view: View, call: Call) -> Verdict
-    ensures { (size : ℕ) → result ≡ verdict_of (perform view call size SetCurrent) }
+#[tactic(auto, unfolding(crate::specs::Steps::perform), using(crate::proofs::GuardLaws::guard_refused, crate::proofs::GuardLaws::guard_on))]
+pub(crate) fn set_current(view: View, call: Call) -> Result<Plan, Refusal>
+    ensures { (size : ℕ) → outcome_of result ≡ perform view call size SetCurrent }
 {
     let page = view.page;
-    let number = lacks_copy(page, call.copy);
-    if number != ACCEPTED {
-        return refused(number);
-    }
+    lacks_copy(page, call.copy)?;
     let c = copy_at(page, call.copy);
     if c.frame == NULL_FRAME {
-        return refused(NO_FRAME);
+        return Err(Refusal::NoFrame);
     }
     if !c.recent {
-        return refused(STALE);
+        return Err(Refusal::Stale);
     }
-    editing(Edit::Marked {
+    Ok(Plan::editing(Edit::Marked {
         copy: call.copy,
         current: true,
-    })
+    }))
 }
 
-pub(crate) fn remove_current(view: View, call: Call) -> Verdict
-    ensures { (size : ℕ) → result ≡ verdict_of (perform view call size RemoveCurrent) }
+#[tactic(auto, unfolding(crate::specs::Steps::perform), using(crate::proofs::GuardLaws::guard_refused, crate::proofs::GuardLaws::guard_on))]
+pub(crate) fn remove_current(view: View, call: Call) -> Result<Plan, Refusal>
+    ensures { (size : ℕ) → outcome_of result ≡ perform view call size RemoveCurrent }
 {
-    let page = view.page;
-    let number = lacks_copy(page, call.copy);
-    if number != ACCEPTED {
-        return refused(number);
-    }
-    editing(Edit::Marked {
+    lacks_copy(view.page, call.copy)?;
+    Ok(Plan::editing(Edit::Marked {
         copy: call.copy,
         current: false,
-    })
+    }))
 }

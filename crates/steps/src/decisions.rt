@@ -1,12 +1,11 @@
 // What a call comes to, decided from the tables, the call and the number of a write's bytes: no store is needed.
 ghost use Rattle.std.specs.Prelude.{◌≡◌, ◌-◌, ◌≤◌, ◌<◌};
+ghost use Rattle.tables.specs.Numbers.{answer_number};
 ghost use Rattle.tables.specs.Model.{frame_count, page_at};
-ghost use Rattle.tables.specs.Changes.{changed};
-ghost use Rattle.tables.specs.Keep.{leaves_record};
 ghost use Rattle.steps.specs.declared.Kind.TheVariants.{Write};
-ghost use Rattle.steps.specs.Steps.{refuse, no_work, editing, retiring, showing, laying, clearing, perform, decide_on, page_for, decide, rules_number, decide_any};
-ghost use Rattle.steps.specs.Promises.{decision_with, decision_of, held_in, settled, held_after};
-ghost use Rattle.steps.specs.Private.{verdict_with, verdict_of, decision_for, ruled};
+ghost use Rattle.steps.specs.Steps.{accept, outcome_of, editing, retiring, showing, laying, clearing, perform, decide_on, page_for, decide, rules_number, decide_any};
+ghost use Rattle.steps.specs.Promises.{decision_on, decision_of, held_in, settled, held_after};
+ghost use Rattle.steps.specs.Private.{no_plan};
 
 use crate::access::{read_page, write_page};
 use crate::copies::{delete_copy, make_copy, remove_current, set_current};
@@ -14,112 +13,94 @@ use crate::frames::retire;
 use crate::looks::{look_frame, look_page};
 use crate::pages::{create, delete_page, grant};
 use crate::range::outside;
-use crate::{
-    ACCEPTED, BROKEN_TABLES, Call, Decision, Held, Kind, Lay, MISFIT_STORE, Show, Verdict, View,
-    Work,
-};
-use tables::{Change, Edit, Holder, NULL_FRAME, Page, Shared, Tables};
+use crate::{Call, Decision, Kind, Lay, Plan, Show, View, Work};
+use tables::{Change, Edit, NULL_FRAME, Page, Refusal, Shared, Tables};
 
-// A call that comes to a number, and to the rest where that is 0.
-fn verdict_of(number: u8, edit: Edit, retires: u8, laid: u16, len: usize, work: Work) -> Verdict
-    ensures { result ≡ verdict_with number edit retires laid len work }
-{
-    Verdict {
-        number,
-        retires,
-        laid,
-        len,
-        edit,
-        work,
+impl Plan {
+    // Nothing changes, and nothing is shown, laid or filled.
+    fn none() -> Plan
+        ensures { result ≡ no_plan }
+    {
+        Plan {
+            retires: NULL_FRAME,
+            edit: Edit::Kept,
+            laid: 0,
+            len: 0,
+            work: Work::Lays {
+                lay: Lay::Nothing,
+                clears: NULL_FRAME,
+            },
+        }
     }
-}
 
-// Nothing is shown, laid or filled.
-fn no_work() -> Work
-    ensures { result ≡ no_work }
-{
-    Work::Lays {
-        lay: Lay::Nothing,
-        clears: NULL_FRAME,
+    // Only the record changes.
+    pub(crate) fn editing(edit: Edit) -> Plan
+        ensures { accept result ≡ editing edit }
+    {
+        Plan {
+            edit,
+            ..Plan::none()
+        }
     }
-}
 
-// Turned back with a number of the papers' table.
-pub(crate) fn refused(number: u8) -> Verdict
-    ensures { result ≡ verdict_of (refuse number) }
-{
-    verdict_of(number, Edit::Kept, NULL_FRAME, 0, 0, no_work())
-}
+    // Only a frame is retired.
+    pub(crate) fn retiring(frame: u8) -> Plan
+        ensures { accept result ≡ retiring frame }
+    {
+        Plan {
+            retires: frame,
+            ..Plan::none()
+        }
+    }
 
-// Only the record changes.
-pub(crate) fn editing(edit: Edit) -> Verdict
-    ensures { result ≡ verdict_of (editing edit) }
-{
-    verdict_of(ACCEPTED, edit, NULL_FRAME, 0, 0, no_work())
-}
+    // So many bytes are shown, and nothing changes.
+    pub(crate) fn showing(len: usize, show: Show) -> Plan
+        ensures { accept result ≡ showing len show }
+    {
+        Plan {
+            len,
+            work: Work::Shows { show },
+            ..Plan::none()
+        }
+    }
 
-// Only a frame is retired.
-pub(crate) fn retiring(frame: u8) -> Verdict
-    ensures { result ≡ verdict_of (retiring frame) }
-{
-    verdict_of(ACCEPTED, Edit::Kept, frame, 0, 0, no_work())
-}
+    // So many bytes are laid, and the record changes.
+    pub(crate) fn laying(edit: Edit, laid: u16, lay: Lay) -> Plan
+        ensures { accept result ≡ laying edit laid lay }
+    {
+        Plan {
+            edit,
+            laid,
+            work: Work::Lays {
+                lay,
+                clears: NULL_FRAME,
+            },
+            ..Plan::none()
+        }
+    }
 
-// So many bytes are shown, and nothing changes.
-pub(crate) fn showing(len: usize, show: Show) -> Verdict
-    ensures { result ≡ verdict_of (showing len show) }
-{
-    verdict_of(
-        ACCEPTED,
-        Edit::Kept,
-        NULL_FRAME,
-        0,
-        len,
-        Work::Shows { show },
-    )
-}
-
-// So many bytes are laid, and the record changes.
-pub(crate) fn laying(edit: Edit, laid: u16, lay: Lay) -> Verdict
-    ensures { result ≡ verdict_of (laying edit laid lay) }
-{
-    verdict_of(
-        ACCEPTED,
-        edit,
-        NULL_FRAME,
-        laid,
-        0,
-        Work::Lays {
-            lay,
-            clears: NULL_FRAME,
-        },
-    )
-}
-
-// The record changes, and the frame that this frees is filled.
-pub(crate) fn clearing(edit: Edit, frame: u8) -> Verdict
-    ensures { result ≡ verdict_of (clearing edit frame) }
-{
-    verdict_of(
-        ACCEPTED,
-        edit,
-        NULL_FRAME,
-        64,
-        0,
-        Work::Lays {
-            lay: Lay::Nothing,
-            clears: frame,
-        },
-    )
+    // The record changes, and the frame that this frees is filled.
+    pub(crate) fn clearing(edit: Edit, frame: u8) -> Plan
+        ensures { accept result ≡ clearing edit frame }
+    {
+        Plan {
+            edit,
+            laid: 64,
+            work: Work::Lays {
+                lay: Lay::Nothing,
+                clears: frame,
+            },
+            ..Plan::none()
+        }
+    }
 }
 
 // The call on what it looks at: the tests of its kind. A write has 64 bytes at the most.
-fn perform(view: View, call: Call, size: usize) -> Verdict
+fn perform(view: View, call: Call, size: usize) -> Result<Plan, Refusal>
     requires { call.kind ≡ Write → size ≤ 64 }
-    ensures { result ≡ verdict_of (perform view call size call.kind) }
+    ensures { outcome_of result ≡ perform view call size call.kind }
 {
-    let kind = call.kind;
-    match kind {
+    match call.kind {
         Kind::Create => create(view, call),
         Kind::DeletePage => delete_page(view, call),
         Kind::Grant => grant(view, call),
@@ -130,19 +111,17 @@ fn perform(view: View, call: Call, size: usize) -> Verdict
         Kind::SetCurrent => set_current(view, call),
         Kind::RemoveCurrent => remove_current(view, call),
         Kind::LookPage => look_page(view),
-        Kind::LookFrame => look_frame(view),
+        Kind::LookFrame => Ok(look_frame(view)),
         Kind::Retire => retire(view, call),
     }
 }
 
 // The call on what it looks at: 7, and then the tests of its kind.
-fn decide_on(view: View, call: Call, size: usize) -> Verdict
-    ensures { result ≡ verdict_of (decide_on view call size) }
+#[tactic(auto, unfolding(crate::specs::Steps::decide_on), using(crate::proofs::GuardLaws::guard_refused, crate::proofs::GuardLaws::guard_on, crate::proofs::RangeLaws::write_short))]
+fn decide_on(view: View, call: Call, size: usize) -> Result<Plan, Refusal>
+    ensures { outcome_of result ≡ decide_on view call size }
 {
-    let number = outside(call, view.frames, size);
-    if number != ACCEPTED {
-        return refused(number);
-    }
+    outside(call, view.frames, size)?;
     perform(view, call, size)
 }
 
@@ -152,94 +131,26 @@ fn frame_count(shared: Shared) -> u16
     shared.p as u16 + shared.s as u16
 }
 
-// A decision, with the record of page p before it and after.
-fn decision_with(
-    number: u8,
-    moved: bool,
-    laid: u16,
-    len: usize,
-    page: u8,
-    before: Page,
-    becomes: Page,
-    retires: u8,
-    work: Work,
-) -> Decision
-    ensures { result ≡ decision_with number moved laid len page before becomes retires work }
+// The decision of a plan on page p, with the record of that page before it. The tables need not be moved where the
+// record is seen to stay and no frame is retired.
+fn decision_on(p: u8, before: Page, plan: Plan) -> Decision
+    ensures { result ≡ decision_on p before plan }
 {
+    let mut change = None;
+    if !(before.keeps(plan.edit) & (plan.retires == NULL_FRAME)) {
+        change = Some(Change {
+            page: p,
+            becomes: before.after(plan.edit),
+            retires: plan.retires,
+        });
+    }
     Decision {
-        number,
-        moved,
-        laid,
-        len,
-        change: Change {
-            page,
-            becomes,
-            retires,
-        },
+        laid: plan.laid,
+        len: plan.len,
+        work: plan.work,
+        change,
         before,
-        work,
     }
-}
-
-// The record after an edit, where it is known whether the record is seen to stay.
-fn edited(page: Page, kept: bool, edit: Edit) -> Page
-    requires { kept ≡ leaves_record page edit }
-    ensures { result ≡ changed page edit }
-{
-    if kept {
-        return page;
-    }
-    page.after(edit)
-}
-
-// The decision of a call on page p, with the record of that page after the call.
-fn decision_on(
-    shared: Shared,
-    p: u8,
-    page: Page,
-    holder: Holder,
-    call: Call,
-    size: usize,
-) -> Decision
-    ensures { result ≡ decision_for shared p page holder call size }
-{
-    let view = View {
-        frames: frame_count(shared),
-        page,
-        holder,
-    };
-    let v = decide_on(view, call, size);
-    let before = page;
-    let edit = v.edit;
-    let work = v.work;
-    let retires = v.retires;
-    let kept = before.keeps(edit);
-    let moved = !kept | (retires != NULL_FRAME);
-    let becomes = edited(before, kept, edit);
-    decision_with(
-        v.number, moved, v.laid, v.len, p, before, becomes, retires, work,
-    )
-}
-
-// A decision, or 5 or 6 before it.
-fn ruled(number: u8, d: Decision) -> Decision
-    ensures { result ≡ ruled number d }
-{
-    if number == ACCEPTED {
-        return d;
-    }
-    let before = d.before;
-    decision_with(
-        number,
-        false,
-        0,
-        0,
-        d.change.page,
-        before,
-        before,
-        NULL_FRAME,
-        no_work(),
-    )
 }
 
 // The page whose record a call is decided on.
@@ -258,54 +169,52 @@ fn page_at(tables: &Tables, i: usize) -> Page
 }
 
 // What a call comes to.
-fn decide_at(tables: &Tables, call: Call, size: usize) -> Decision
-    ensures { result ≡ decision_of tables.now call (decide tables.now call size) }
+fn decide_at(tables: &Tables, call: Call, size: usize) -> Result<Decision, Refusal>
+    ensures { outcome_of result ≡ decision_of tables.now call (decide tables.now call size) }
 {
-    let shared = tables.shared;
     let p = page_for(call);
     let page = page_at(tables, p as usize);
-    let holder = tables.registered(call.frame);
-    decision_on(shared, p, page, holder, call, size)
+    let view = View {
+        frames: frame_count(tables.shared),
+        page,
+        holder: tables.registered(call.frame),
+    };
+    let plan = decide_on(view, call, size)?;
+    Ok(decision_on(p, page, plan))
 }
 
 // What a call comes to on tables that keep the rules, with stores that fit. `size` is the number of a write's bytes.
-pub fn decide(tables: Tables, call: Call, size: usize) -> Decision
-    ensures { result ≡ decision_of tables call (decide tables call size) }
+pub fn decide(tables: Tables, call: Call, size: usize) -> Result<Decision, Refusal>
+    ensures { outcome_of result ≡ decision_of tables call (decide tables call size) }
 {
     decide_at(&tables, call, size)
 }
 
-// 5 or 6 for these tables and stores of these lengths, and else 0.
-pub fn rules(tables: Tables, fast_len: usize, slow_len: usize) -> u8
-    ensures { result ≡ rules_number tables fast_len slow_len }
+// 5 or 6 for these tables and stores of these lengths.
+pub fn rules(tables: Tables, fast_len: usize, slow_len: usize) -> Result<(), Refusal>
+    ensures { answer_number result ≡ rules_number tables fast_len slow_len }
 {
     if !tables.sound() {
-        return BROKEN_TABLES;
+        return Err(Refusal::BrokenTables);
     }
     let p = tables.shared.p as usize;
     let s = tables.shared.s as usize;
     if !((fast_len == 64 * p) & (slow_len == 64 * s)) {
-        return MISFIT_STORE;
+        return Err(Refusal::MisfitStore);
     }
-    ACCEPTED
+    Ok(())
 }
 
-// 5 for tables that break a rule; else 0, and how many frames are held. The test is `rules` with stores that fit: with
-// a second call of `sound` in the library the compiler no longer puts it into `rules`, and each answer copies the
+// 5 for tables that break a rule; else how many frames are held. The test is `rules` with stores that fit: with a
+// second call of `sound` in the library the compiler no longer puts it into `rules`, and each answer copies the
 // tables once more.
-pub fn held_in(tables: Tables) -> Held
-    ensures { result ≡ held_in tables }
+pub fn held_in(tables: Tables) -> Result<u8, Refusal>
+    ensures { outcome_of result ≡ held_in tables }
 {
     let p = tables.shared.p as usize;
     let s = tables.shared.s as usize;
-    let number = rules(tables, 64 * p, 64 * s);
-    if number != ACCEPTED {
-        return Held { number, held: 0 };
-    }
-    Held {
-        number,
-        held: tables.held() as u8,
-    }
+    rules(tables, 64 * p, 64 * s)?;
+    Ok(tables.held() as u8)
 }
 
 // Decides a call on any tables and for stores of any lengths: 5 and 6 first.
@@ -315,31 +224,22 @@ pub fn decide_any(
     size: usize,
     fast_len: usize,
     slow_len: usize,
-) -> Decision
-    ensures { result ≡ decision_of tables call (decide_any tables fast_len slow_len call size) }
+) -> Result<Decision, Refusal>
+    ensures { outcome_of result ≡ decision_of tables call (decide_any tables fast_len slow_len call size) }
 {
-    let number = rules(tables, fast_len, slow_len);
-    let d = decide_at(&tables, call, size);
-    ruled(number, d)
+    rules(tables, fast_len, slow_len)?;
+    decide_at(&tables, call, size)
 }
 
-// The tables with what was decided put into them, where it moves them. A caller that sees `moved` false can spare
-// the call. Small, so that it is part of its caller.
+// The tables with what was decided put into them, where it moves them. A caller that sees no change can spare the call.
+// Small, so that it is part of its caller.
 pub fn settle(tables: Tables, d: Decision) -> Tables
     ensures { result ≡ settled tables d }
 {
-    let change = d.change;
-    if d.moved {
-        return tables.after(change);
+    match d.change {
+        Some(change) => tables.after(change),
+        None => tables,
     }
-    tables
-}
-
-// The difference of two numbers, or 0 where the second is larger.
-fn less(x: u8, y: u8) -> u8
-    ensures { result ≡ x - y }
-{
-    if y < x { x - y } else { 0 }
 }
 
 // How many frames are held once what was decided is put into the tables, where so many were before: the frames of the
@@ -347,7 +247,10 @@ fn less(x: u8, y: u8) -> u8
 pub fn held_after(held: u8, d: Decision) -> u16
     ensures { result ≡ held_after held d }
 {
-    let before = d.before;
-    let becomes = d.change.becomes;
-    less(held, before.frame_total()) as u16 + becomes.frame_total() as u16
+    match d.change {
+        Some(change) => {
+            held.saturating_sub(d.before.frame_total()) as u16 + change.becomes.frame_total() as u16
+        }
+        None => held as u16,
+    }
 }

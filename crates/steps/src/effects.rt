@@ -151,17 +151,22 @@ pub fn step(
         (step (state_of tables fast.old slow.old) call bytes.now)
         out.old (state_of result.tables fast.new slow.new) out.new result }
 {
-    let d = decide_any(tables, call, bytes.len(), fast.len(), slow.len());
-    carry(d, bytes, fast, slow, out);
-    let mut left = tables;
-    if d.moved {
-        left = settle(tables, d);
-    }
-    Done {
-        number: d.number,
-        laid: d.laid,
-        len: d.len,
-        tables: left,
+    match decide_any(tables, call, bytes.len(), fast.len(), slow.len()) {
+        Ok(d) => {
+            carry(d, bytes, fast, slow, out);
+            Done {
+                answer: Ok(()),
+                laid: d.laid,
+                len: d.len,
+                tables: settle(tables, d),
+            }
+        }
+        Err(refusal) => Done {
+            answer: Err(refusal),
+            laid: 0,
+            len: 0,
+            tables,
+        },
     }
 }
 
@@ -198,23 +203,14 @@ pub fn read_place(
 ) -> Place
     ensures { result ≡ read_place tables fast slow (read_call station page offset count) }
 {
-    let call = Call {
-        kind: Kind::Read,
-        station,
-        page,
-        other: 0,
-        right: 0,
-        offset,
-        count,
-        copy: 0,
-        frame: 0,
-    };
-    let d = decide_any(tables, call, 0, fast, slow);
+    let asked = Kind::Read.form([station, page, offset, count]);
     let p = tables.shared.p as usize;
-    let work = d.work;
-    match work {
-        Work::Shows { show } => shown_place(p, show, d.len),
-        Work::Lays { lay: _, clears: _ } => no_place(),
+    match decide_any(tables, asked.call, 0, fast, slow) {
+        Ok(d) => match d.work {
+            Work::Shows { show } => shown_place(p, show, d.len),
+            Work::Lays { .. } => no_place(),
+        },
+        Err(_) => no_place(),
     }
 }
 

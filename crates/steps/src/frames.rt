@@ -1,22 +1,21 @@
 // Step 12: a frame is retired.
 ghost use Rattle.std.specs.Prelude.{◌≡◌, ℕ};
 ghost use Rattle.steps.specs.declared.Kind.TheVariants.{Retire};
-ghost use Rattle.steps.specs.Steps.{perform};
-ghost use Rattle.steps.specs.Private.{verdict_of};
+ghost use Rattle.steps.specs.Steps.{outcome_of, perform};
 
-use crate::decisions::{editing, refused, retiring};
-use crate::{Call, FRAME_HELD, Verdict, View};
-use tables::Edit;
+use crate::{Call, Plan, View};
+use tables::{Edit, Refusal};
 
-pub(crate) fn retire(view: View, call: Call) -> Verdict
-    ensures { (size : ℕ) → result ≡ verdict_of (perform view call size Retire) }
+#[tactic(auto, unfolding(crate::specs::Steps::perform), using(crate::proofs::GuardLaws::guard_refused, crate::proofs::GuardLaws::guard_on))]
+pub(crate) fn retire(view: View, call: Call) -> Result<Plan, Refusal>
+    ensures { (size : ℕ) → outcome_of result ≡ perform view call size Retire }
 {
     let holder = view.holder;
     if holder.is_retired() {
-        return editing(Edit::Kept);
+        return Ok(Plan::editing(Edit::Kept));
     }
     if !holder.is_free() {
-        return refused(FRAME_HELD);
+        return Err(Refusal::FrameHeld);
     }
-    retiring(call.frame)
+    Ok(Plan::retiring(call.frame))
 }

@@ -19,41 +19,10 @@ pub use effects::{carry, read, read_place, step};
 pub use kinds::{form_of, is_unknown, number_of};
 pub use range::outside;
 pub use stores::lay_bytes;
-use tables::{Change, Edit, Holder, Page, Tables};
-
-// The numbers of document 01's table, "Why a message is turned back", and of document 02.
-pub const ACCEPTED: u8 = 0;
-
-pub const BROKEN_TABLES: u8 = 5;
-
-pub const MISFIT_STORE: u8 = 6;
-
-pub const OUT_OF_RANGE: u8 = 7;
-
-pub const PAGE_STANDS: u8 = 8;
-
-pub const NO_PAGE: u8 = 9;
-
-pub const NO_RIGHT: u8 = 10;
-
-pub const NOTHING_CURRENT: u8 = 11;
-
-pub const NO_COPY: u8 = 12;
-
-pub const FRAME_HELD: u8 = 13;
-
-pub const EIGHT_COPIES: u8 = 14;
-
-pub const LAST_RECENT: u8 = 15;
-
-pub const STALE: u8 = 16;
-
-pub const NO_FRAME: u8 = 17;
-
-pub const RETIRED: u8 = 20;
+use tables::{Change, Edit, Holder, Page, Refusal, Tables};
 
 // The kinds of call, in the order of their numbers from 1 on.
-#[derive(Clone, Copy)]
+#[derive(Clone, Copy, Debug, PartialEq, Eq)]
 pub enum Kind {
     Create,
     DeletePage,
@@ -68,9 +37,6 @@ pub enum Kind {
     LookFrame,
     Retire,
 }
-
-// How many kinds there are.
-pub const KINDS: u8 = 12;
 
 // A step that is asked for, with its arguments; one that its kind does not name plays no part. The bytes of a write
 // come beside it.
@@ -165,11 +131,10 @@ pub enum Work {
     Lays { lay: Lay, clears: u8 },
 }
 
-// What a call comes to on what it looks at: its number, the frame that it retires, 255 for none, the bytes laid, the
-// length of its data, its edit of the page's record, and what it shows or lays.
+// What an accepted call does: the frame that it retires, 255 for none, its edit of the page's record, the bytes laid, the
+// length of its data, and what it shows or lays.
 #[derive(Clone, Copy)]
-pub struct Verdict {
-    pub number: u8,
+pub struct Plan {
     pub retires: u8,
     pub edit: Edit,
     pub laid: u16,
@@ -177,25 +142,16 @@ pub struct Verdict {
     pub work: Work,
 }
 
-// What a call comes to on the tables: its number, the bytes laid, the length of its data; whether the tables move, and
-// the change by which they do; what is to be shown or laid; and the page's record before the call, by which its copies
-// are found.
+// What an accepted call comes to on the tables: the bytes laid, the length of its data, what is to be shown or laid, the
+// change by which the tables move, none where they need not be moved, and the page's record before the call, by which
+// its copies are found.
 #[derive(Clone, Copy)]
 pub struct Decision {
-    pub number: u8,
-    pub moved: bool,
     pub laid: u16,
     pub len: usize,
     pub work: Work,
-    pub change: Change,
+    pub change: Option<Change>,
     pub before: Page,
-}
-
-// 5 for tables that break a rule; else 0, and how many frames are held.
-#[derive(Clone, Copy)]
-pub struct Held {
-    pub number: u8,
-    pub held: u8,
 }
 
 // A part of the fast store or of the slow one: so many bytes of it from `start` on.
@@ -206,10 +162,10 @@ pub struct Place {
     pub len: usize,
 }
 
-// What a call on tables and stores leaves.
+// What a call on tables and stores leaves: its answer, the bytes laid, the length of the data, and the tables.
 #[derive(Clone, Copy)]
 pub struct Done {
-    pub number: u8,
+    pub answer: Result<(), Refusal>,
     pub laid: u16,
     pub len: usize,
     pub tables: Tables,

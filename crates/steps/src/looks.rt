@@ -5,14 +5,12 @@ ghost use Rattle.tables.specs.Search.{shown};
 ghost use Rattle.steps.specs.declared.Kind.TheVariants.{LookPage, LookFrame};
 ghost use Rattle.steps.specs.declared.Call.{Call};
 ghost use Rattle.steps.specs.Stores.{over};
-ghost use Rattle.steps.specs.Steps.{perform};
+ghost use Rattle.steps.specs.Steps.{accept, outcome_of, perform};
 ghost use Rattle.steps.specs.Effects.{bit, copies_shown};
-ghost use Rattle.steps.specs.Private.{verdict_of};
 
-use crate::decisions::{refused, showing};
 use crate::stores::put;
-use crate::{NO_PAGE, Show, Verdict, View};
-use tables::{Copy, Holder, Page};
+use crate::{Plan, Show, View};
+use tables::{Copy, Holder, Page, Refusal};
 
 fn bit_of(b: bool) -> u8
     ensures { result ≡ bit b }
@@ -29,22 +27,24 @@ fn copy_shown(c: Copy) -> [u8; 3]
     [c.frame, current, recent]
 }
 
-pub(crate) fn look_page(view: View) -> Verdict
-    ensures { (c : Call) (size : ℕ) → result ≡ verdict_of (perform view c size LookPage) }
+#[tactic(auto, unfolding(crate::specs::Steps::perform), using(crate::proofs::GuardLaws::guard_refused, crate::proofs::GuardLaws::guard_on))]
+pub(crate) fn look_page(view: View) -> Result<Plan, Refusal>
+    ensures { (c : Call) (size : ℕ) → outcome_of result ≡ perform view c size LookPage }
 {
     let page = view.page;
     if page.n == 0 {
-        return refused(NO_PAGE);
+        return Err(Refusal::NoPage);
     }
     let n = page.in_use();
-    showing(1 + 3 * n, Show::Page)
+    Ok(Plan::showing(1 + 3 * n, Show::Page))
 }
 
-pub(crate) fn look_frame(view: View) -> Verdict
-    ensures { (c : Call) (size : ℕ) → result ≡ verdict_of (perform view c size LookFrame) }
+#[tactic(auto, unfolding(crate::specs::Steps::perform), using(crate::proofs::GuardLaws::guard_refused, crate::proofs::GuardLaws::guard_on))]
+pub(crate) fn look_frame(view: View) -> Plan
+    ensures { (c : Call) (size : ℕ) → accept result ≡ perform view c size LookFrame }
 {
     let holder = view.holder;
-    showing(3, Show::Holder { holder })
+    Plan::showing(3, Show::Holder { holder })
 }
 
 // Shows n and the copies of a page at the front of the buffer.

@@ -1,60 +1,56 @@
 // Steps 1 to 3: a page created or deleted, and a right granted.
 ghost use Rattle.std.specs.Prelude.{◌≡◌, ℕ};
+ghost use Rattle.tables.specs.Numbers.{answer_number};
 ghost use Rattle.steps.specs.declared.Kind.TheVariants.{Create, DeletePage, Grant};
-ghost use Rattle.steps.specs.Steps.{lacks_owner, perform};
-ghost use Rattle.steps.specs.Private.{verdict_of};
+ghost use Rattle.steps.specs.Steps.{outcome_of, lacks_owner, perform};
 
-use crate::decisions::{editing, laying, refused};
 use crate::each::count_of;
-use crate::{ACCEPTED, Call, Lay, NO_PAGE, NO_RIGHT, PAGE_STANDS, Verdict, View, Which};
-use tables::{Edit, Page};
+use crate::{Call, Lay, Plan, View, Which};
+use tables::{Edit, Page, Refusal};
 
-pub(crate) fn create(view: View, call: Call) -> Verdict
-    ensures { (size : ℕ) → result ≡ verdict_of (perform view call size Create) }
+#[tactic(auto, unfolding(crate::specs::Steps::perform), using(crate::proofs::GuardLaws::guard_refused, crate::proofs::GuardLaws::guard_on))]
+pub(crate) fn create(view: View, call: Call) -> Result<Plan, Refusal>
+    ensures { (size : ℕ) → outcome_of result ≡ perform view call size Create }
 {
     if view.page.n != 0 {
-        return refused(PAGE_STANDS);
+        return Err(Refusal::PageStands);
     }
-    editing(Edit::Created {
+    Ok(Plan::editing(Edit::Created {
         station: call.station,
-    })
+    }))
 }
 
-// 9 and 10 of a step that only the page's owner may take; 0 for the owner.
-fn lacks_owner(page: Page, station: u8) -> u8
-    ensures { result ≡ lacks_owner page station }
+// 9 and 10 of a step that only the page's owner may take.
+fn lacks_owner(page: Page, station: u8) -> Result<(), Refusal>
+    ensures { answer_number result ≡ lacks_owner page station }
 {
     if page.n == 0 {
-        return NO_PAGE;
+        return Err(Refusal::NoPage);
     }
     if page.owner != station {
-        return NO_RIGHT;
+        return Err(Refusal::NoRight);
     }
-    ACCEPTED
+    Ok(())
 }
 
-pub(crate) fn delete_page(view: View, call: Call) -> Verdict
-    ensures { (size : ℕ) → result ≡ verdict_of (perform view call size DeletePage) }
+#[tactic(auto, unfolding(crate::specs::Steps::perform), using(crate::proofs::GuardLaws::guard_refused, crate::proofs::GuardLaws::guard_on))]
+pub(crate) fn delete_page(view: View, call: Call) -> Result<Plan, Refusal>
+    ensures { (size : ℕ) → outcome_of result ≡ perform view call size DeletePage }
 {
     let page = view.page;
-    let number = lacks_owner(page, call.station);
-    if number != ACCEPTED {
-        return refused(number);
-    }
+    lacks_owner(page, call.station)?;
     let k = count_of(page, Which::Placed);
     let laid = 64 * k;
-    laying(Edit::Deleted, laid as u16, Lay::ZerosEach)
+    Ok(Plan::laying(Edit::Deleted, laid as u16, Lay::ZerosEach))
 }
 
-pub(crate) fn grant(view: View, call: Call) -> Verdict
-    ensures { (size : ℕ) → result ≡ verdict_of (perform view call size Grant) }
+#[tactic(auto, unfolding(crate::specs::Steps::perform), using(crate::proofs::GuardLaws::guard_refused, crate::proofs::GuardLaws::guard_on))]
+pub(crate) fn grant(view: View, call: Call) -> Result<Plan, Refusal>
+    ensures { (size : ℕ) → outcome_of result ≡ perform view call size Grant }
 {
-    let number = lacks_owner(view.page, call.station);
-    if number != ACCEPTED {
-        return refused(number);
-    }
-    editing(Edit::Granted {
+    lacks_owner(view.page, call.station)?;
+    Ok(Plan::editing(Edit::Granted {
         station: call.other,
         right: call.right,
-    })
+    }))
 }

@@ -1,8 +1,10 @@
 // Number 7: whether a call names something that is too large.
 ghost use Rattle.std.specs.Prelude.{◌≡◌, ◌||◌};
+ghost use Rattle.tables.specs.Numbers.{answer_number};
 ghost use Rattle.steps.specs.Calls.{name_outside, frame_outside, bad_span, span_outside, outside};
 
-use crate::{ACCEPTED, Call, Kind, OUT_OF_RANGE};
+use crate::{Call, Kind};
+use tables::Refusal;
 
 // Whether the offset is too large, the count is 0, or both together go past the page.
 fn bad_span(offset: u8, count: usize) -> bool
@@ -16,33 +18,30 @@ fn bad_span(offset: u8, count: usize) -> bool
 }
 
 // Whether a call names something too large, of so many frames. What its kind does not name plays no part.
+#[tactic(auto, unfolding(crate::specs::Kinds::names, crate::specs::Kinds::among, crate::specs::Kinds::code), using(crate::proofs::RangeLaws::or_one, crate::proofs::RangeLaws::or_two, crate::proofs::RangeLaws::or_span, crate::proofs::RangeLaws::or_frame))]
 fn is_outside(call: Call, frames: u16, size: usize) -> bool
     ensures { result ≡ (name_outside call || (frame_outside frames call || span_outside size call)) }
 {
     let owned = (call.station > 15) | (call.page > 63);
-    let kind = call.kind;
-    match kind {
-        Kind::Create => owned,
-        Kind::DeletePage => owned,
+    match call.kind {
+        Kind::Create | Kind::DeletePage => owned,
         Kind::Grant => owned | ((call.other > 15) | (call.right > 2)),
         Kind::Read => owned | bad_span(call.offset, call.count as usize),
         Kind::Write => owned | bad_span(call.offset, size),
         Kind::MakeCopy => (call.page > 63) | (call.frame as u16 >= frames),
-        Kind::DeleteCopy => call.page > 63,
-        Kind::SetCurrent => call.page > 63,
-        Kind::RemoveCurrent => call.page > 63,
-        Kind::LookPage => call.page > 63,
-        Kind::LookFrame => call.frame as u16 >= frames,
-        Kind::Retire => call.frame as u16 >= frames,
+        Kind::DeleteCopy | Kind::SetCurrent | Kind::RemoveCurrent | Kind::LookPage => call.page
+            > 63,
+        Kind::LookFrame | Kind::Retire => call.frame as u16 >= frames,
     }
 }
 
-// 7 where the call names something too large, and else 0.
-pub fn outside(call: Call, frames: u16, size: usize) -> u8
-    ensures { result ≡ outside frames size call }
+// 7 where the call names something too large.
+#[tactic(auto, using(crate::proofs::RangeLaws::outside_any, crate::proofs::RangeLaws::outside_none))]
+pub fn outside(call: Call, frames: u16, size: usize) -> Result<(), Refusal>
+    ensures { answer_number result ≡ outside frames size call }
 {
     if is_outside(call, frames, size) {
-        return OUT_OF_RANGE;
+        return Err(Refusal::OutOfRange);
     }
-    ACCEPTED
+    Ok(())
 }

@@ -20,7 +20,8 @@ use Rattle.tables.proofs.ChangeLaws.{after_same, after_other}
 use Rattle.steps.specs.declared.Kind.{Kind}
 use Rattle.steps.specs.declared.Call.{Call}
 use Rattle.steps.specs.Stores.{block}
-use Rattle.steps.specs.Steps.{Outcome, refuse, accept, test, guarded, mapped, Plan, decide}
+use Rattle.steps.specs.declared.Plan.{Plan}
+use Rattle.steps.specs.Steps.{Outcome, refuse, accept, test, guarded, mapped, decide}
 use Rattle.steps.specs.Effects.{State, joined, Result, carried_out, left}
 use Rattle.messages.specs.Replies.{reply}
 use Rattle.theorems.specs.Flat.{Flat, FlatPage, Slot, gone, here, slot_at, Reaction, silent, no, yes, unless, on_page, flat_kind, react, flat_left, answers_of, accepts}

@@ -18,7 +18,8 @@ use Rattle.tables.proofs.RuleLaws.{sound_of}
 use Rattle.tables.proofs.UsesLaws.{holders_at, holders_after}
 use Rattle.steps.specs.declared.Call.{Call}
 use Rattle.steps.specs.Stores.{part, block, zeros}
-use Rattle.steps.specs.Steps.{Outcome, refuse, accept, mapped, Plan, page_for}
+use Rattle.steps.specs.declared.Plan.{Plan}
+use Rattle.steps.specs.Steps.{Outcome, refuse, accept, mapped, page_for}
 use Rattle.steps.specs.Effects.{State, joined, carried_out, step, left}
 use Rattle.steps.proofs.StoreLaws.{part_right}
 use Rattle.steps.proofs.ClearLaws.{on, frees_clears}

@@ -26,7 +26,8 @@ use Rattle.steps.specs.declared.Kind.TheVariants.{Create, Grant}
 use Rattle.steps.specs.declared.Call.{Call}
 use Rattle.steps.specs.Kinds.{names, code, among, argument, call_of, values, value}
 use Rattle.steps.specs.Stores.{lay_frames}
-use Rattle.steps.specs.Steps.{Outcome, accept, mapped, Plan, plan_of, no_work, page_for, decide, perform, decide_on}
+use Rattle.steps.specs.declared.Plan.{Plan}
+use Rattle.steps.specs.Steps.{Outcome, accept, mapped, plan_of, no_work, page_for, decide, perform, decide_on}
 use Rattle.steps.specs.Effects.{laid_frames, State, carried_out, step, left}
 use Rattle.steps.specs.Promises.{state_of}
 use Rattle.steps.proofs.StepLaws.{Good, good_rules, rules_good, decide_ruled}

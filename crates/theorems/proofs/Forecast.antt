@@ -21,7 +21,8 @@ use Rattle.tables.proofs.ListLaws.{all_listed}
 use Rattle.tables.proofs.HeldLaws.{sum_set, sum_at}
 use Rattle.steps.specs.declared.Call.{Call}
 use Rattle.steps.specs.Stores.{fits}
-use Rattle.steps.specs.Steps.{Outcome, refuse, accept, mapped, Plan, decide, number_of}
+use Rattle.steps.specs.declared.Plan.{Plan}
+use Rattle.steps.specs.Steps.{Outcome, refuse, accept, mapped, decide, number_of}
 use Rattle.steps.specs.Effects.{State, tables_left, Result, carried_out, step, left, laid_by}
 use Rattle.steps.specs.Promises.{laid_of}
 use Rattle.steps.proofs.DecideLaws.{IfDecided, if_refused, call_numbers, decide_ok}

@@ -9,7 +9,8 @@ use lib.Dec.{ltb}
 use Rattle.tables.specs.Numbers.{short_buffer}
 use Rattle.tables.specs.Changes.{after}
 use Rattle.steps.specs.declared.Call.{Call}
-use Rattle.steps.specs.Steps.{Outcome, refuse, accept, test, mapped, Plan, decide_any}
+use Rattle.steps.specs.declared.Plan.{Plan}
+use Rattle.steps.specs.Steps.{Outcome, refuse, accept, test, mapped, decide_any}
 use Rattle.steps.specs.Effects.{State, Result, carried_out, step, left}
 use Rattle.steps.proofs.StepLaws.{step_long}
 use Rattle.messages.specs.declared.Parsed.{Parsed}

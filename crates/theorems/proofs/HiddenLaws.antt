@@ -21,7 +21,8 @@ use Rattle.tables.proofs.FreshLaws.{fresh_sound}
 use Rattle.steps.specs.declared.Call.{Call}
 use Rattle.steps.specs.Kinds.{names, kinds, is_read, kind_of, code, argument, call_of}
 use Rattle.steps.specs.Stores.{over}
-use Rattle.steps.specs.Steps.{Outcome, refuse, accept, test, mapped, Plan, decide_any, number_of}
+use Rattle.steps.specs.declared.Plan.{Plan}
+use Rattle.steps.specs.Steps.{Outcome, refuse, accept, test, mapped, decide_any, number_of}
 use Rattle.steps.specs.Effects.{State, Result, carried_out, step, left, moved_by, laid_by}
 use Rattle.steps.specs.Promises.{state_of}
 use Rattle.steps.proofs.DecideLaws.{IfAccepted, if_accepted, call_numbers}

@@ -1,7 +1,8 @@
 -- The bytes laid that a call states are those that its work lays: what is known of every plan says so of the accepted.
 use mathlib.Core.Path.{◌≡◌, refl}
 use Rattle.tables.specs.Model.{page_at}
-use Rattle.steps.specs.Steps.{Outcome, refuse, accept, mapped, Plan, page_for}
+use Rattle.steps.specs.declared.Plan.{Plan}
+use Rattle.steps.specs.Steps.{Outcome, refuse, accept, mapped, page_for}
 use Rattle.steps.specs.Effects.{laid_frames, bytes_laid, joined, carried_out, step, laid_by}
 use Rattle.steps.specs.Promises.{work_of}
 use Rattle.steps.proofs.DecideLaws.{IfAccepted, if_accepted}

@@ -35,7 +35,8 @@ use Rattle.steps.specs.declared.Lay.TheVariants.{Zeros, Duplicate}
 use Rattle.steps.specs.Kinds.{names, code, among}
 use Rattle.steps.specs.Calls.{outside}
 use Rattle.steps.specs.Stores.{block, lay_frame, contents, zeros, lay_frames}
-use Rattle.steps.specs.Steps.{Outcome, Plan, test, guarded, editing, retiring, laying, copy_at, recents, lacks_copy, copying, perform, decide_on, page_for, view_of}
+use Rattle.steps.specs.declared.Plan.{Plan}
+use Rattle.steps.specs.Steps.{Outcome, test, guarded, editing, retiring, laying, copy_at, recents, lacks_copy, copying, perform, decide_on, page_for, view_of}
 use Rattle.steps.specs.Effects.{laid_frames, State, joined, carried_out}
 use Rattle.steps.proofs.Blocks.{block_lay_whole, block_lay_other}
 use Rattle.steps.proofs.ClearLaws.{on}

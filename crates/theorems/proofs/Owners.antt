@@ -19,7 +19,8 @@ use Rattle.steps.specs.declared.Kind.TheVariants.{Create, DeletePage, Grant}
 use Rattle.steps.specs.declared.Call.{Call}
 use Rattle.steps.specs.Kinds.{names, code, among}
 use Rattle.steps.specs.Stores.{zeros, frames_of, lay_frames}
-use Rattle.steps.specs.Steps.{test, Plan, editing, owns, is_placed, perform, decide_on, page_for}
+use Rattle.steps.specs.declared.Plan.{Plan}
+use Rattle.steps.specs.Steps.{test, editing, owns, is_placed, perform, decide_on, page_for}
 use Rattle.steps.specs.Effects.{laid_frames, State, joined, carried_out}
 use Rattle.steps.proofs.Blocks.{each_other}
 use Rattle.steps.proofs.RangeLaws.{or_one}

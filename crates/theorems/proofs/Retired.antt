@@ -29,7 +29,8 @@ use Rattle.steps.specs.declared.Kind.TheVariants.{Retire}
 use Rattle.steps.specs.declared.Call.{Call}
 use Rattle.steps.specs.Kinds.{frame, names, code, among, has, is_retire}
 use Rattle.steps.specs.Stores.{block, zeros, lay_frames}
-use Rattle.steps.specs.Steps.{Outcome, refuse, accept, test, mapped, Plan, plan_of, no_work, page_for, view_of, rules_number, decide_any}
+use Rattle.steps.specs.declared.Plan.{Plan}
+use Rattle.steps.specs.Steps.{Outcome, refuse, accept, test, mapped, plan_of, no_work, page_for, view_of, rules_number, decide_any}
 use Rattle.steps.specs.Effects.{bit, laid_frames, State, joined, Result, carried_out, step, left}
 use Rattle.steps.proofs.KindLaws.{kind_is}
 use Rattle.steps.proofs.DecisionLaws.{page_near}

@@ -23,7 +23,8 @@ use Rattle.steps.specs.declared.Call.{Call}
 use Rattle.steps.specs.Kinds.{frame, names, code, among, has}
 use Rattle.steps.specs.Calls.{name_outside, span_outside}
 use Rattle.steps.specs.Stores.{fits}
-use Rattle.steps.specs.Steps.{Outcome, Plan, guarded, mapped, perform, decide_on, page_for, viewing, view_by, decide}
+use Rattle.steps.specs.declared.Plan.{Plan}
+use Rattle.steps.specs.Steps.{Outcome, guarded, mapped, perform, decide_on, page_for, viewing, view_by, decide}
 use Rattle.steps.specs.Effects.{State, carried_out, step}
 use Rattle.theorems.specs.Searched.{step_searched, AsSearched}
 

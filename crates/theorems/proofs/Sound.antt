@@ -6,7 +6,8 @@ use mathlib.Core.List.{List, [], ◌∷◌}
 use Rattle.tables.specs.Rules.{sound}
 use Rattle.tables.proofs.ChangeSound.{sound_after}
 use Rattle.steps.specs.declared.Call.{Call}
-use Rattle.steps.specs.Steps.{Outcome, refuse, accept, mapped, Plan, page_for}
+use Rattle.steps.specs.declared.Plan.{Plan}
+use Rattle.steps.specs.Steps.{Outcome, refuse, accept, mapped, page_for}
 use Rattle.steps.specs.Effects.{State, carried_out, step, left}
 use Rattle.steps.proofs.DecisionLaws.{page_near}
 use Rattle.steps.proofs.DecideLaws.{IfAccepted, if_accepted}
