@@ -104,8 +104,16 @@ impl Page {
     pub fn in_use(self) -> usize
         ensures { (result ≡ length (copies_in_use self)) × (result ≤ 8) }
     {
-        let n = self.n;
-        if n < 8 { n as usize } else { 8 }
+        self.copies_in_use().len()
+    }
+
+    // The copies that the page has, in their order.
+    pub fn copies_in_use(&self) -> &[Copy]
+        ensures items { result.now ≡ copies_in_use self.now }
+        ensures few { length result.now ≤ 8 }
+    {
+        let n = usize::from(self.n).min(8);
+        &self.copies[..n]
     }
 
     // On how many frames the copies of a page are, where the page keeps its rule: a null copy is alone.

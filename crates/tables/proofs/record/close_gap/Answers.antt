@@ -1,5 +1,5 @@
 -- `close_gap`: the entries after it moved down, and the last one fresh; a number with no entry changes nothing.
-use mathlib.Core.Path.{◌≡◌, sym, ◌∙◌}
+use mathlib.Core.Path.{◌≡◌, sym}
 use native.Mathlib.Omega.{arith}
 use lib.ListN.{length}
 use borrow.Author.Rules.{rules}

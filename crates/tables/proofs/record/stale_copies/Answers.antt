@@ -1,5 +1,4 @@
 -- `stale_copies`: what the closure makes of each entry is that entry made stale.
-use Prim.Native.Nat.{ℕ, ◌<◌}
 use mathlib.Core.Path.{◌≡◌, sym, ◌∙◌}
 use mathlib.Core.List.{map}
 use native.Mathlib.Omega.{arith}
