@@ -9,6 +9,7 @@ use native.Mathlib.Omega.{arith}
 use lib.ListN.{length, get_or, set, take, drop, take-append-drop}
 use lib.Dec.{eqb}
 use borrow.Author.Tests.{eqb-true}
+use Rattle.std.specs.List.{list_all}
 use Rattle.tables.specs.Lists.{all, count, all_below, listed}
 
 -- ---- tests joined
@@ -62,6 +63,12 @@ any_default (x ∷ xs) zero d e h = refl
 any_default (x ∷ xs) (suc i) d e h = any_default xs i d e (le_of_suc-le-suc h)
 
 -- ---- a test of every element
+
+-- the library's `all`, of an iterator, says the same
+pub all_is : {A : Type 0} (f : A → Bool) (l : List A) → list_all f l ≡ all f l
+unfolding all
+all_is f [] = refl
+all_is f (x ∷ xs) = ap (λ (b : Bool). f x && b) (all_is f xs)
 
 module _ {A : Type 0} (f : A → Bool) where
   -- what holds of every element holds of the first

@@ -29,7 +29,7 @@ pub(crate) const FREE_ENTRY: u16 = 65535;
 pub(crate) const RETIRED_ENTRY: u16 = 61680;
 
 // A copy entry: its frame, and the marks CURRENT and MOST RECENT.
-#[derive(Clone, Copy)]
+#[derive(Clone, Copy, Debug, PartialEq, Eq)]
 pub struct Copy {
     pub frame: u8,
     pub current: bool,
@@ -37,7 +37,7 @@ pub struct Copy {
 }
 
 // A page's record. The first n entries are in use; a page with n = 0 is absent.
-#[derive(Clone, Copy)]
+#[derive(Clone, Copy, Debug, PartialEq, Eq)]
 pub struct Page {
     pub rights: [u8; 16],
     pub copies: [Copy; 8],
@@ -46,7 +46,7 @@ pub struct Page {
 }
 
 // What all pages share: P, the number of fast frames, and S, that of slow ones.
-#[derive(Clone, Copy)]
+#[derive(Clone, Copy, Debug, PartialEq, Eq)]
 pub struct Shared {
     pub p: u8,
     pub s: u8,
@@ -54,7 +54,7 @@ pub struct Shared {
 
 // The tables: what is shared, the 64 pages, and the register, which says the state of each frame: the copy on it, as 8
 // × page + copy, that it is free, or that it is retired.
-#[derive(Clone, Copy)]
+#[derive(Clone, Copy, Debug, PartialEq, Eq)]
 pub struct Tables {
     pub shared: Shared,
     pub pages: [Page; 64],
@@ -62,14 +62,14 @@ pub struct Tables {
 }
 
 // What making tables answers: 0 or 19, and the tables.
-#[derive(Clone, Copy)]
+#[derive(Clone, Copy, Debug, PartialEq, Eq)]
 pub struct Made {
     pub number: u8,
     pub tables: Tables,
 }
 
 // A frame is held by the copy that is on it, free, or retired.
-#[derive(Clone, Copy)]
+#[derive(Clone, Copy, Debug, PartialEq, Eq)]
 pub enum Holder {
     At { page: u8, copy: u8 },
     Free,
@@ -77,7 +77,7 @@ pub enum Holder {
 }
 
 // What a step changes in a page's record.
-#[derive(Clone, Copy)]
+#[derive(Clone, Copy, Debug, PartialEq, Eq)]
 pub enum Edit {
     Kept,
     Created { station: u8 },
@@ -96,7 +96,7 @@ pub enum Edit {
 }
 
 // A change of the tables: what the record of a page becomes, and the frame that is retired, 255 for none.
-#[derive(Clone, Copy)]
+#[derive(Clone, Copy, Debug, PartialEq, Eq)]
 pub struct Change {
     pub page: u8,
     pub becomes: Page,

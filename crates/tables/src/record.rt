@@ -1,5 +1,6 @@
 // A page's record, fresh and after each edit that a step makes.
 ghost use Rattle.std.specs.Prelude.{◌≡◌, true, map, ◌-◌, ◌≤◌, length, set, get_or};
+ghost use Rattle.std.specs.List.{list_all};
 ghost use Rattle.tables.specs.Lists.{all};
 ghost use Rattle.tables.specs.Model.{fresh_copy, fresh_page, zero_copy, copies_in_use};
 ghost use Rattle.tables.specs.Changes.{created, stale_copy, new_copy, with_copy, with_copies, close_gap, with_current, changed};
@@ -64,67 +65,38 @@ fn created_page(station: u8) -> Page
 fn stale_copies(copies: [Copy; 8]) -> [Copy; 8]
     ensures { result ≡ map stale_copy copies }
 {
-    let mut cs = copies;
-    let mut j: usize = 0;
-    while j < 8 {
-        let c = cs[j];
-        cs[j] = Copy {
-            frame: c.frame,
-            current: c.current,
-            recent: c.recent & c.current,
-        };
-        j += 1;
-    }
-    cs
+    copies.map(|c| Copy {
+        recent: c.recent & c.current,
+        ..c
+    })
 }
 
 // The copy entries after entry k move down, and the last one is fresh.
-fn close_gap(copies: [Copy; 8], k: u8) -> [Copy; 8]
+fn close_gap(mut copies: [Copy; 8], k: u8) -> [Copy; 8]
     ensures { result ≡ close_gap copies k }
 {
-    let mut cs = copies;
-    let mut j = k as usize;
-    if j > 7 {
-        return cs;
+    let k = k as usize;
+    if k < 8 {
+        copies.copy_within(k + 1.., k);
+        copies[7] = fresh_copy();
     }
-    while j < 7 {
-        let c = cs[j + 1];
-        cs[j] = c;
-        j += 1;
-    }
-    cs[7] = fresh_copy();
-    cs
-}
-
-fn one_less(n: u8) -> u8
-    ensures { result ≡ n - 1 }
-{
-    if 0 < n { n - 1 } else { 0 }
+    copies
 }
 
 // Whether a write would leave every entry's MOST RECENT mark. All eight are compared at once.
 fn all_stay_recent(copies: [Copy; 8]) -> bool
-    ensures { result ≡ all stays_recent copies }
+    ensures { result ≡ list_all stays_recent copies }
 {
-    let mut ok = true;
-    let mut j: usize = 0;
-    while j < 8 {
-        let c = copies[j];
-        ok = ok & (c.current | !c.recent);
-        j += 1;
-    }
-    ok
+    copies.iter().all(|c| c.current | !c.recent)
 }
 
 fn current_is(copies: [Copy; 8], copy: u8, current: bool) -> bool
     ensures { result ≡ current_is copies copy current }
 {
-    let k = copy as usize;
-    if k > 7 {
-        return true;
+    match copies.get(copy as usize) {
+        Some(c) => c.current == current,
+        None => true,
     }
-    let c = copies[k];
-    (c.current & current) | (!c.current & !current)
 }
 
 impl Page {
@@ -132,8 +104,16 @@ impl Page {
     pub fn in_use(self) -> usize
         ensures { (result ≡ length (copies_in_use self)) × (result ≤ 8) }
     {
-        let n = self.n;
-        if n < 8 { n as usize } else { 8 }
+        self.copies_in_use().len()
+    }
+
+    // The copies that the page has, in their order.
+    pub fn copies_in_use(&self) -> &[Copy]
+        ensures items { result.now ≡ copies_in_use self.now }
+        ensures few { length result.now ≤ 8 }
+    {
+        let n = usize::from(self.n).min(8);
+        &self.copies[..n]
     }
 
     // On how many frames the copies of a page are, where the page keeps its rule: a null copy is alone.
@@ -188,7 +168,7 @@ impl Page {
         let cs = self.copies;
         let ds = close_gap(cs, copy);
         self.copies = ds;
-        self.n = one_less(self.n);
+        self.n = self.n.saturating_sub(1);
         self
     }
 

@@ -16,7 +16,6 @@ pub(crate) fn entry_for(page: u8, copy: u8) -> u16
 
 // Sets a frame's entry; 255 is no frame.
 pub(crate) fn enter(register: &mut [u16; 254], frame: u8, entry: u16)
-    requires { length register.old ≡ 254 }
     ensures { register.new ≡ set register.old frame entry }
 {
     let f = frame as usize;
@@ -27,27 +26,19 @@ pub(crate) fn enter(register: &mut [u16; 254], frame: u8, entry: u16)
 
 // The frames of the page's copies are free.
 pub(crate) fn vacate(register: &mut [u16; 254], page: Page)
-    requires { length register.old ≡ 254 }
     ensures { register.new ≡ vacated (copies_in_use page) register.old }
 {
-    let n = page.in_use();
-    let mut j: usize = 0;
-    while j < n {
-        enter(register, page.copies[j].frame, FREE_ENTRY);
-        j += 1;
+    for copy in page.copies_in_use() {
+        enter(register, copy.frame, FREE_ENTRY);
     }
 }
 
 // The copies of page p are on their frames.
 pub(crate) fn occupy(register: &mut [u16; 254], p: u8, page: Page)
-    requires { length register.old ≡ 254 }
     ensures { register.new ≡ occupied p 0 (copies_in_use page) register.old }
 {
-    let n = page.in_use();
-    let mut k: usize = 0;
-    while k < n {
-        enter(register, page.copies[k].frame, entry_for(p, k as u8));
-        k += 1;
+    for (k, copy) in page.copies_in_use().iter().enumerate() {
+        enter(register, copy.frame, entry_for(p, k as u8));
     }
 }
 

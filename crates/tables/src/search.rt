@@ -22,23 +22,13 @@ impl Holder {
     pub fn is_free(self) -> bool
         ensures { result ≡ is_free self }
     {
-        let h = self;
-        match h {
-            Holder::At { page: _, copy: _ } => false,
-            Holder::Free => true,
-            Holder::Retired => false,
-        }
+        self == Holder::Free
     }
 
     pub fn is_retired(self) -> bool
         ensures { result ≡ is_retired self }
     {
-        let h = self;
-        match h {
-            Holder::At { page: _, copy: _ } => false,
-            Holder::Free => false,
-            Holder::Retired => true,
-        }
+        self == Holder::Retired
     }
 }
 
@@ -47,24 +37,18 @@ impl Tables {
     pub fn search(self, frame: u8) -> Holder
         ensures { HolderIs (searched self frame) result }
     {
-        let mut i: usize = 0;
-        'pages: loop {
-            if i >= 64 {
-                break 'pages Holder::Free;
-            }
-            let g = self.pages[i];
-            let n = g.in_use();
-            let mut j: usize = 0;
-            while j < n {
-                if g.copies[j].frame == frame {
-                    break 'pages Holder::At {
-                        page: i as u8,
-                        copy: j as u8,
-                    };
+        'search: {
+            for (p, page) in self.pages.iter().enumerate() {
+                for (c, copy) in page.copies_in_use().iter().enumerate() {
+                    if copy.frame == frame {
+                        break 'search Holder::At {
+                            page: p as u8,
+                            copy: c as u8,
+                        };
+                    }
                 }
-                j += 1;
             }
-            i += 1;
+            Holder::Free
         }
     }
 

@@ -1,5 +1,7 @@
 -- `Page::keeps` answers what `leaves_record` says, case by case.
-use Rattle.tables.specs.Keep.{leaves_record}
+use mathlib.Core.Path.{◌∙◌}
+use Rattle.tables.specs.Keep.{stays_recent, leaves_record}
+use Rattle.tables.proofs.ListLaws.{all_is}
 use Rattle.tables.proofs.Page.keeps.Goals as goal
 
 pub returns-in-Kept : goal.returns-in-Kept
@@ -20,7 +22,7 @@ returns-in-Granted c = cc
 
 pub returns-in-Staled : goal.returns-in-Staled
 unfolding leaves_record
-returns-in-Staled c = cc
+returns-in-Staled c = rw c.in-Staled.is (c.all_stay_recent.ensures ∙ all_is stays_recent c.args.self.copies)
 
 pub returns-in-Placed : goal.returns-in-Placed
 unfolding leaves_record

@@ -4,24 +4,11 @@ use Prim.Native.Nat.{◌≤◌}
 use mathlib.Core.Path.{◌≡◌}
 use native.Mathlib.Omega.{arith}
 use lib.Seq.{set_out}
-use lib.ListN.{length, length-set}
+use lib.ListN.{length}
 use borrow.Author.Tests.{lt-ltb, le-ltb}
 use borrow.Author.Rules.{rules}
 use Rattle.tables.specs.Changes.{after}
-use Rattle.tables.proofs.RegisterLaws.{length_vacated}
 use Rattle.tables.proofs.Tables.after.Goals as goal
-
-pub vacate-requires : goal.vacate-requires
-vacate-requires c =
-    let t = c.args.self in
-    let l : length t.register ≡ 254 = search rules in
-    rw (c.enter.ensures, length-set) l
-
-pub occupy-requires : goal.occupy-requires
-occupy-requires c =
-    let t = c.args.self in
-    let l : length t.register ≡ 254 = search rules in
-    rw (c.vacate.ensures, length_vacated, c.enter.ensures, length-set) l
 
 pub returns-then-p-lt64 : goal.returns-then-p-lt64
 unfolding after

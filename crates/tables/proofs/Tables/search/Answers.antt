@@ -1,67 +1,40 @@
--- `Tables::search`. Outer loop: the answer is the search from page i on. Inner loop: from copy j of page i on, and then
+-- `Tables::search`. Outer loop: the answer is the search from page p on. Inner loop: from copy c of page p on, and then
 -- the pages after it.
-use mathlib.Core.Path.{◌≡◌, refl, sym, ◌∙◌}
+use mathlib.Core.Path.{sym, ◌∙◌}
 use native.Mathlib.Omega.{arith}
-use lib.ListN.{length}
 use borrow.Author.Tests.{eq-eqb, ne_eqb}
-use borrow.Author.Rules.{rules}
-use Rattle.tables.specs.Model.{page_at, copies_in_use, zero_page}
-use Rattle.tables.proofs.Loops.{drop_more, drop_end, use_more}
+use Rattle.tables.specs.Model.{zero_copy, zero_page}
 use Rattle.tables.specs.Search.{in_copies, in_pages}
+use Rattle.tables.proofs.Loops.{drop_more, drop_end}
 use Rattle.tables.proofs.HolderLaws.{tells_it}
 use Rattle.tables.proofs.Tables.search.Goals as goal
 
-pub pages-init : goal.pages-init
-pages-init c = (search rules, refl)
-
-pub loop-j-init : goal.loop-j-init
+pub loop-c-init : goal.loop-c-init
 unfolding in_pages
-loop-j-init c =
-    let t = c.args.self in
-    let i = c.pages.i in
-    let l : length t.pages ≡ 64 = search rules in (
-      omega arith,
-      c.in_use-n.ensures.0,
-      c.in_use-n.ensures.1,
-      search rules,
-      c.pages.invariant.1 ∙ rw (drop_more t.pages i zero_page (omega arith)),
-    )
+loop-c-init c =
+    let v = c.loop-p in
+    v.invariant ∙ rw (drop_more c.args.self.pages v.p zero_page (omega arith), c.copies_in_use-copy-items.ensures.items)
 
-pub loop-j-preserved : goal.loop-j-preserved
+pub loop-c-preserved : goal.loop-c-preserved
 unfolding in_copies
-loop-j-preserved c =
-    let t = c.args.self in
-    let i = c.pages.i in
-    let j = c.loop-j.j in
-    let g = page_at t i in
-    let v = c.loop-j.invariant in (
-      v.0,
-      v.1,
-      v.2,
-      search rules,
-      v.4 ∙ rw (use_more g j (omega arith), ne_eqb _ _ c.if-g-j.false),
-    )
+loop-c-preserved c =
+    let v = c.loop-c in
+    v.invariant ∙ rw (drop_more c.copies_in_use-copy-items.result.now v.c zero_copy (omega arith), ne_eqb _ _ c.if-copy-frame.false)
 
-pub pages-preserved : goal.pages-preserved
+pub loop-p-preserved : goal.loop-p-preserved
 unfolding in_copies
-pages-preserved c =
-    let g = page_at c.args.self c.pages.i in
-    let v = c.loop-j.invariant in
-    (search rules, v.4 ∙ rw (drop_end (copies_in_use g) c.loop-j.j (omega arith)))
+loop-p-preserved c =
+    let v = c.loop-c in
+    v.invariant ∙ rw (drop_end c.copies_in_use-copy-items.result.now v.c (omega arith))
 
-pub returns-then-i-ge64 : goal.returns-then-i-ge64
+pub returns-then-copy-frame : goal.returns-then-copy-frame
+unfolding in_copies
+returns-then-copy-frame c =
+    let v = c.loop-c in
+    tells_it (sym (v.invariant ∙ rw (drop_more c.copies_in_use-copy-items.result.now v.c zero_copy (omega arith), eq-eqb _ _ c.if-copy-frame.true)))
+
+pub returns-after-loop-p : goal.returns-after-loop-p
 unfolding in_pages
-returns-then-i-ge64 c =
-    let t = c.args.self in
-    let l : length t.pages ≡ 64 = search rules in
-    tells_it (sym (c.pages.invariant.1 ∙ rw (drop_end t.pages c.pages.i (omega arith))))
-
-pub returns-then-g-j : goal.returns-then-g-j
-unfolding in_copies
-returns-then-g-j c =
-    let t = c.args.self in
-    let i = c.pages.i in
-    let j = c.loop-j.j in
-    let g = page_at t i in
-    let v = c.loop-j.invariant in
-    tells_it (sym (v.4 ∙ rw (use_more g j (omega arith), eq-eqb _ _ c.if-g-j.true)))
+returns-after-loop-p c =
+    let v = c.loop-p in
+    tells_it (sym (v.invariant ∙ rw (drop_end c.args.self.pages v.p (omega arith))))

@@ -1,29 +1,24 @@
--- `vacate`. What is to be done from copy j on, on the register now, gives the whole.
+-- `vacate`. One copy more at each turn, and none left at the end.
 use mathlib.Core.Path.{refl, sym, ◌∙◌}
-use native.Mathlib.Omega.{arith}
-use lib.ListN.{length-set}
-use borrow.Author.Rules.{rules}
-use Rattle.tables.specs.Model.{copies_in_use}
 use Rattle.tables.specs.Register.{vacated}
-use Rattle.tables.proofs.Loops.{use_more, drop_end}
+use Rattle.tables.specs.Model.{zero_copy}
+use Rattle.tables.proofs.Loops.{drop_more, drop_end}
+use native.Mathlib.Omega.{arith}
 use Rattle.tables.proofs.register.vacate.Goals as goal
 
-pub loop-j-init : goal.loop-j-init
-loop-j-init c = (c.in_use-n.ensures.0, c.in_use-n.ensures.1, search rules, c.requires, refl)
+pub loop-copy-init : goal.loop-copy-init
+loop-copy-init c = refl
 
-pub enter-requires : goal.enter-requires
-enter-requires c = c.loop-j.invariant.3
-
-pub loop-j-preserved : goal.loop-j-preserved
+pub loop-copy-preserved : goal.loop-copy-preserved
 unfolding vacated
-loop-j-preserved c =
-    let g = c.args.page in
-    let v = c.loop-j in
-    (v.invariant.0, v.invariant.1, search rules, rw (c.enter.ensures, length-set) v.invariant.3, v.invariant.4 ∙ rw (use_more g v.j (omega arith), c.enter.ensures))
+loop-copy-preserved c =
+    let v = c.loop-copy in
+    let m = drop_more c.copies_in_use-copy-items.result.now v.copy-index zero_copy (omega arith) in
+    v.invariant ∙ rw (m, c.enter.ensures)
 
 pub returns : goal.returns
 unfolding vacated
 returns c =
-    let g = c.args.page in
-    let v = c.loop-j in
-    sym (v.invariant.4 ∙ rw (drop_end (copies_in_use g) v.j (omega arith)))
+    let v = c.loop-copy in
+    let items = c.copies_in_use-copy-items in
+    sym (rw (← items.ensures.items) (v.invariant ∙ rw (drop_end items.result.now v.copy-index (omega arith))))

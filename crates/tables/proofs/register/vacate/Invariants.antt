@@ -1,13 +1,8 @@
--- `vacate`. What is to be done from copy j on, on the register now, gives the whole.
-use Prim.Native.Nat.{◌-◌, ◌≤◌}
+-- `vacate`. What is left to do to the register from this copy on makes of it what all of it makes of the first one.
 use mathlib.Core.Path.{◌≡◌}
-use lib.ListN.{length, drop}
-use Rattle.tables.specs.Model.{copies_in_use}
+use lib.ListN.{drop}
 use Rattle.tables.specs.Register.{vacated}
 use Rattle.tables.proofs.register.vacate.Given as goal
 
-abbrev pub invariant-loop-j : goal.invariant-loop-j
-invariant-loop-j l = (l.n ≡ length (copies_in_use l.page)) × (l.n ≤ 8) × (l.j ≤ l.n) × (length l.register ≡ 254) × (vacated (copies_in_use l.page) l.initial.register ≡ vacated (drop l.j (copies_in_use l.page)) l.register)
-
-abbrev pub decreases-loop-j : goal.decreases-loop-j
-decreases-loop-j l = l.n - l.j
+abbrev pub invariant-loop-copy : goal.invariant-loop-copy
+invariant-loop-copy l = vacated l.copy-items l.fn.register ≡ vacated (drop l.copy-index l.copy-items) l.register
