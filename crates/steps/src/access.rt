@@ -47,7 +47,7 @@ fn allows(right: u8, act: Act) -> bool
 fn first_current(page: Page) -> Option<Copy>
     ensures { result ≡ find is_current (copies_in_use page) }
 {
-    page.copies_in_use().iter().find(|c| c.current).copied()
+    page.copies_in_use().iter().copied().find(|c| c.current)
 }
 
 // 9 and 10 of an act on a page.
