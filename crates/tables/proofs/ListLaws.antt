@@ -9,7 +9,8 @@ use native.Mathlib.Omega.{arith}
 use lib.ListN.{length, get_or, set, take, drop, take-append-drop}
 use lib.Dec.{eqb}
 use borrow.Author.Tests.{eqb-true}
-use Rattle.std.specs.List.{list_all}
+use Rattle.std.proofs.lemmas.List.Sums.{sum_by-cons}
+use Rattle.std.specs.List.{list_all, count_by}
 use Rattle.tables.specs.Lists.{all, count, all_below, listed}
 
 -- ---- tests joined
@@ -136,6 +137,12 @@ all_imp f g [] h e = refl
 all_imp f g (x ∷ xs) h e = and_intro (h x (and_left (f x) (all f xs) e)) (all_imp f g xs h (and_right (f x) (all f xs) e))
 
 -- ---- of how many elements
+
+-- the library's `count`, of a filtered iterator, says the same
+pub count_is : {A : Type 0} (f : A → Bool) (l : List A) → count_by f l ≡ count f l
+unfolding count
+count_is f [] = refl
+count_is f (x ∷ xs) = sum_by-cons (λ x. cond (f x) 1 0) x xs ∙ ap (λ (n : ℕ). cond (f x) 1 0 + n) (count_is f xs)
 
 module _ {A : Type 0} (f : A → Bool) where
   -- an element of which the test holds counts

@@ -9,7 +9,7 @@ ghost use Rattle.tables.specs.Keep.{leaves_record, stays_recent, current_is};
 
 use crate::{Copy, Edit, NULL_FRAME, Page};
 
-fn fresh_copy() -> Copy
+pub(crate) fn fresh_copy() -> Copy
     ensures { result ≡ fresh_copy }
 {
     Copy {
