@@ -1,5 +1,5 @@
 // The test of the table rules: one pass over the pages, and the entries of the register counted.
-ghost use Rattle.std.specs.Prelude.{◌≡◌, false, ◌&&◌, ◌≤◌, drop, count_by};
+ghost use Rattle.std.specs.Prelude.{◌≡◌, true, false, ◌&&◌, ◌≤◌, drop, fold, count_by};
 ghost use Rattle.std.specs.List.{list_all};
 ghost use Rattle.tables.specs.Model.{copies_in_use};
 ghost use Rattle.tables.specs.Rules.{is_fresh, copy_rule, at_most, absent_rule, standing_rule, sound, frame_totals};
@@ -19,9 +19,9 @@ struct Frames<'a> {
 
 // Whether each right is at most `top`; one vector comparison in the compiled code.
 fn rights_ok(rights: &[u8; 16], top: u8) -> bool
-    ensures { result ≡ list_all (at_most top) rights.now }
+    ensures { result ≡ fold (λ ok right. ok && at_most top right) true rights.now }
 {
-    rights.iter().all(|right| *right <= top)
+    rights.iter().fold(true, |ok, right| ok & (*right <= top))
 }
 
 // Whether all these entries are as in fresh tables.
@@ -32,9 +32,11 @@ fn unused_ok(copies: &[Copy]) -> bool
 }
 
 fn none_retired(entries: &[u16]) -> bool
-    ensures { result ≡ list_all not_retired entries.now }
+    ensures { result ≡ fold (λ ok e. ok && not_retired e) true entries.now }
 {
-    entries.iter().all(|e| *e != RETIRED_ENTRY)
+    entries
+        .iter()
+        .fold(true, |ok, e| ok & (*e != RETIRED_ENTRY))
 }
 
 fn absent_ok(page: &Page) -> bool
@@ -102,11 +104,11 @@ impl Frames<'_> {
     }
 
     // How many entries of the register are this one; vector comparisons in the compiled code.
-    fn entries_of(&self, entry: u16) -> usize
-        ensures { (result ≡ count_by (is_entry entry) self.now.register.now) × (result ≤ 254) }
+    fn entries_of(&self, entry: u16) -> u16
+        ensures { result ≡ count_by (is_entry entry) self.now.register.now }
     {
         let register = self.register;
-        register.iter().filter(|e| **e == entry).count()
+        register.iter().map(|e| u16::from(*e == entry)).sum()
     }
 
     // Of pages whose copies are on so many frames and are named: every other entry is that of a free frame, or of a
@@ -116,11 +118,11 @@ impl Frames<'_> {
         requires { held ≤ 16320 }
         ensures { result ≡ others_ok self.now.limit held self.now.register.now }
     {
-        let free = self.entries_of(FREE_ENTRY);
+        let free = usize::from(self.entries_of(FREE_ENTRY));
         if held + free == 254 {
             return true;
         }
-        let retired = self.entries_of(RETIRED_ENTRY);
+        let retired = usize::from(self.entries_of(RETIRED_ENTRY));
         if held + free + retired != 254 {
             return false;
         }
