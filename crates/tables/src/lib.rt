@@ -102,13 +102,13 @@ pub struct Change {
 }
 
 // Fresh tables of P fast and S slow frames.
+#[tactic(auto, unfolding(crate::specs::Model::fresh_tables))]
 fn fresh_tables(p: u8, s: u8) -> Tables
     ensures { result ≡ fresh_tables p s }
 {
-    let g = fresh_page();
     Tables {
         shared: Shared { p, s },
-        pages: [g; 64],
+        pages: [fresh_page(); 64],
         register: [FREE_ENTRY; 254],
     }
 }
@@ -130,6 +130,7 @@ impl Tables {
     }
 
     // The tables after a change; a page number above 63 changes no page, and a frame number above 253 retires none.
+    #[tactic(auto, unfolding(crate::specs::Changes::after))]
     pub fn after(mut self, change: Change) -> Tables
         ensures { result ≡ after self change }
     {
