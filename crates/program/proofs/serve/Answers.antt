@@ -1,7 +1,7 @@
 -- One buffer takes all replies of the run.
 use Rattle.std.proofs.Common.{length, take, ap, sym, ◌∙◌, arith}
 use lib.Seq.{take_at}
-use Rattle.tables.specs.declared.Made.{Made}
+use Rattle.tables.specs.Model.{Made}
 use Rattle.steps.specs.Promises.{state_of}
 use Rattle.messages.specs.Run.{run, joined_replies}
 use Rattle.messages.proofs.JoinLaws.{whole_replies}
