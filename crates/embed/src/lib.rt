@@ -22,7 +22,7 @@ pub use lent::{put_back, tables_of};
 use messages::{answer, fill, forecast, run};
 use stations::{read_reply, write_kind};
 use steps::{BROKEN_TABLES, read_place, rules};
-use tables::Tables;
+use tables::{TOO_MANY_FRAMES, Tables};
 
 // The version of what C and Rust see: these functions, what they do, and the tables as bytes.
 const MAJOR: u32 = 5;

@@ -22,15 +22,6 @@ module _ {A : Type 0} where
   pub rest_from : (l : List A) (m n k : ℕ) → k ≡ n → length l ≡ m → take (m - k) (drop k l) ≡ drop n l
   rest_from l m n k e h = rw e (take_all (m - n) (drop n l) (rw (length-drop n l, h) (omega arith)))
 
-  -- the same in the first n elements
-  pub first_more : (n : ℕ) (l : List A) (j : ℕ) (d : A) → j < n → n ≤ length l → drop j (take n l) ≡ get_or l j d ∷ drop (j + 1) (take n l)
-  first_more n l j d h k =
-      let m : j < length (take n l) = simp length-take (omega arith) in
-      drop_more (take n l) j d m ∙ ap {B = List A} (λ (x : A). x ∷ drop (j + 1) (take n l)) (get_or-take n l j d h)
-
-  pub first_end : (n : ℕ) (l : List A) (j : ℕ) → n ≤ j → drop j (take n l) ≡ []
-  first_end n l j h = drop_end (take n l) j (simp length-take (omega arith))
-
 -- an index of a copy in use is below n
 pub use_low : (g : Page) (j : ℕ) → j < length (copies_in_use g) → j < g.n
 use_low g j h =
