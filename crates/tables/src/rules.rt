@@ -85,7 +85,8 @@ impl Frames<'_> {
     }
 
     fn standing_ok(&self, p: u8, page: &Page) -> bool
-        ensures { result ≡ (standing_rule self.now.limit page.now && entries_are self.now.register.now p 0 (copies_in_use page.now)) }
+        ensures { result ≡ (standing_rule self.now.limit page.now
+            && entries_are self.now.register.now p 0 (copies_in_use page.now)) }
     {
         if page.owner > 15 || !rights_ok(&page.rights, 2) || page.n > 8 {
             return false;
