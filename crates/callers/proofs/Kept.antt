@@ -10,9 +10,8 @@ use lib.ListN.{length}
 use lib.Dec.{leb}
 use borrow.Author.Tests.{leb-true, eqb-true, eq-eqb}
 use Rattle.tables.specs.declared.Tables.{Tables}
-use Rattle.tables.specs.declared.Made.{Made}
 use Rattle.tables.specs.Numbers.{accepted, broken_tables, too_many_frames}
-use Rattle.tables.specs.Model.{fresh_tables}
+use Rattle.tables.specs.Model.{Made, fresh_tables}
 use Rattle.tables.specs.Rules.{sound}
 use Rattle.tables.proofs.ListLaws.{and_intro}
 use Rattle.tables.proofs.FreshLaws.{fresh_sound}

@@ -18,8 +18,7 @@ const FIGURES_SIZE: usize = 2 + NUMBERS;
 fn no_tables() -> Tables
     ensures { result ≡ no_tables }
 {
-    let made = Tables::fresh(0, 0);
-    let mut t = made.tables;
+    let mut t = Tables::fresh(0, 0).unwrap_or_else(|refused| refused.instead);
     t.shared.p = 255;
     t
 }

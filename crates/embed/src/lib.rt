@@ -22,7 +22,7 @@ pub use lent::{put_back, tables_of};
 use messages::{answer, fill, forecast, run};
 use stations::{read_reply, write_kind};
 use steps::{BROKEN_TABLES, read_place, rules};
-use tables::Tables;
+use tables::{TOO_MANY_FRAMES, Tables};
 
 // The version of what C and Rust see: these functions, what they do, and the tables as bytes.
 const MAJOR: u32 = 5;
@@ -46,9 +46,12 @@ pub fn reel_fresh(p: u8, s: u8, tables: &mut [u8]) -> u8
     if tables.len() != TABLES_SIZE {
         return BROKEN_TABLES;
     }
-    let made = Tables::fresh(p, s);
-    put_tables(made.tables, tables);
-    made.number
+    let (number, fresh) = match Tables::fresh(p, s) {
+        Ok(fresh) => (0, fresh),
+        Err(refused) => (TOO_MANY_FRAMES, refused.instead),
+    };
+    put_tables(fresh, tables);
+    number
 }
 
 // Tests the tables and the lengths of both stores: 0, 5 or 6.

@@ -38,13 +38,12 @@ fn serve(file: &[u8], fast: &mut [u8], slow: &mut [u8], out: &mut [u8]) -> usize
     ensures prefix_len { IsPrefixLen result out.new }
     ensures out_after { take result out.new ≡ output file.now fast.old slow.old }
 {
-    let made = Tables::fresh(4, 4);
+    let fresh = Tables::fresh(4, 4).unwrap_or_else(|refused| refused.instead);
     let none = Tally {
         messages: 0,
         refusals: 0,
         laid: 0,
     };
-    let fresh = made.tables;
     let done = fill(fresh, fast, slow, file, 0, out, none);
     done.used
 }

@@ -1,11 +1,14 @@
 -- Fresh tables meet the table rules, and no frame of theirs is used.
+use Rattle.std.specs.Prelude.{MatchResult, Result, Ok, Err}
+use Rattle.tables.specs.declared.Tables.{Tables}
+use Rattle.tables.specs.declared.TooManyFrames.{TooManyFrames}
 use Prim.Native.Nat.{ℕ, zero, suc, ◌+◌, ◌≤◌}
 use mathlib.Core.Bool.{true}
 use mathlib.Core.Path.{◌≡◌, refl}
 use native.Mathlib.Omega.{arith}
 use lib.ListN.{replicate, length-replicate, get_or-replicate}
 use Rattle.tables.specs.Lists.{count}
-use Rattle.tables.specs.Model.{free_entry, copies_in_use, fresh_page, fresh_tables, zero_page, on_frame}
+use Rattle.tables.specs.Model.{free_entry, copies_in_use, fresh_page, fresh_tables, zero_page, on_frame, made_by}
 use Rattle.tables.specs.Rules.{uses, holders, sound}
 use Rattle.tables.proofs.HolderLaws.{nobody}
 use Rattle.tables.proofs.RuleLaws.{fresh_page_ok, of_sound}
@@ -40,3 +43,9 @@ fresh_sound p s hp hs =
             entry_ok = λ f h. rw (get_or-replicate 254 f free_entry free_entry h, nobody f 0 (replicate 64 fresh_page) (uses_fresh f 64));
           };
     })
+
+-- what `unwrap_or_else` takes of the answer, where the closure gives the tables that stand in place of those refused
+pub taken : {X : TooManyFrames → Type 0} (r : Result Tables TooManyFrames) (t : Tables) → MatchResult r (λ (made : Tables). t ≡ made) X
+    → ((e : TooManyFrames) → X e → t ≡ e.instead) → t ≡ (made_by r).tables
+taken (Ok made) t h by = h
+taken (Err e) t h by = by e h

@@ -101,5 +101,5 @@ pub tells_it : {h r : Holder} → r ≡ h → HolderIs h r
 tells_it e = record { case = e; values = ap shown e }
 
 -- which so tells whether the frame is free
-pub told_free : (t : Tables) (f : ℕ) {h : Holder} → h ≡ holder_of t f → HolderIs (holder_of t f) h × (is_free h ≡ free t f)
-told_free t f e = (tells_it e, ap is_free e ∙ sym (free_holder t f))
+pub told_free : (t : Tables) (f : ℕ) {h : Holder} → h ≡ holder_of t f → is_free h ≡ free t f
+told_free t f e = ap is_free e ∙ sym (free_holder t f)

@@ -7,9 +7,9 @@ use native.Mathlib.Decide.{ℕ_discrete}
 use native.Mathlib.Nat.{not-suc-le-zero, le_of_suc-le-suc, zero-add}
 use native.Mathlib.Omega.{arith}
 use lib.Dec.{ltb, eqb}
-use lib.ListN.{length, get_or, set, length-set, get_or-eq_default}
+use lib.ListN.{length, get_or, set, length-set}
 use lib.Seq.{get_or-set_same, get_or-set_other, set_out, set-get_or, ext_get_or}
-use borrow.Author.Tests.{eqb-true, eqb-false, eq-eqb, ne_eqb, lt-ltb, ltb-true, ltb-false}
+use borrow.Author.Tests.{eqb-true, eqb-false, eq-eqb, ne_eqb, lt-ltb, ltb-true}
 use Rattle.tables.specs.declared.Copy.{Copy}
 use Rattle.tables.specs.declared.Page.{Page}
 use Rattle.tables.specs.declared.Tables.{Tables}
@@ -187,21 +187,6 @@ named_entry (At p k) low =
     rw (lt-ltb (8 * p + k) 512 (omega (arith, low.0, low.1)), d, m)
 named_entry Free low = refl
 named_entry Retired low = absurd low
-
--- the holder of frame f by the entry e, as the code comes to it: a number past the register has none
-abbrev pub by_entry : ℕ → ℕ → Holder
-by_entry e f = cond (ltb f 254) (holder_of_entry e) Free
-
-pub by_entry_lem : (t : Tables) (f : ℕ) → length t.register ≡ 254 → by_entry (get_or t.register (f % 254) free_entry) f ≡ registered t f
-by_entry_lem t f long = go (ltb f 254) refl
-  where
-    go : (near : Bool) → ltb f 254 ≡ near → cond near (holder_of_entry (get_or t.register (f % 254) free_entry)) Free ≡ registered t f
-    go true e =
-        let h = ltb-true f 254 e in
-        ap (λ (i : ℕ). holder_of_entry (get_or t.register i free_entry)) (let m : f % 254 ≡ f = omega arith in m)
-    go false e =
-        let h = ltb-false f 254 e in
-        rw (get_or-eq_default t.register free_entry {n = f} (rw long (omega arith)))
 
 -- and is below 512 where it names a copy
 pub entry_low : (h : Holder) → Low 64 h → is_free h ≡ false → entry_of h < 512

@@ -1,10 +1,10 @@
 -- Document 01, "The tables and the two stores": the tables as values.
-use Rattle.std.specs.Prelude.{ℕ, ◌+◌, Bool, false, ◌&&◌, cond, List, [], replicate, get_or, take, leb, eqb}
+use Rattle.std.specs.Prelude.{ℕ, ◌+◌, Bool, false, ◌&&◌, cond, List, [], replicate, get_or, take, leb, eqb, Result, Ok, Err}
 use Rattle.tables.specs.declared.Copy.{Copy}
 use Rattle.tables.specs.declared.Page.{Page}
 use Rattle.tables.specs.declared.Shared.{Shared}
 use Rattle.tables.specs.declared.Tables.{Tables}
-use Rattle.tables.specs.declared.Made.{Made}
+use Rattle.tables.specs.declared.TooManyFrames.{TooManyFrames}
 use Rattle.tables.specs.Numbers.{accepted, too_many_frames}
 
 -- "P fast frames and S slow frames .. numbered 0 to P+S-1"
@@ -80,11 +80,21 @@ fresh_tables p s =
 abbrev pub with_pages : Tables → List Page → List ℕ → Tables
 with_pages t gs r = record { shared = t.shared; pages = gs; register = r }
 
+-- what making tables answers: 0 or 19, and the tables
+pub record Made : Type 0 where
+  pub number : ℕ
+  pub tables : Tables
+
 -- 19: "fresh with P or S above 127; returns fresh tables with P = S = 0"
 abbrev pub made : ℕ → ℕ → Made
 made p s =
     cond (leb p 127 && leb s 127) (record { number = accepted; tables = fresh_tables p s })
     (record { number = too_many_frames; tables = fresh_tables 0 0 })
+
+-- what the code's answer says
+abbrev pub made_by : Result Tables TooManyFrames → Made
+made_by (Ok t) = record { number = accepted; tables = t }
+made_by (Err e) = record { number = too_many_frames; tables = e.instead }
 
 -- ---- one page of the tables
 

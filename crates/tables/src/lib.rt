@@ -9,7 +9,7 @@ mod rules;
 mod search;
 
 ghost use Rattle.std.specs.Prelude.{◌≡◌};
-ghost use Rattle.tables.specs.Model.{fresh_tables, made};
+ghost use Rattle.tables.specs.Model.{fresh_tables, made, made_by};
 ghost use Rattle.tables.specs.Changes.{after};
 
 use record::fresh_page;
@@ -61,11 +61,10 @@ pub struct Tables {
     pub register: [u16; 254],
 }
 
-// What making tables answers: 0 or 19, and the tables.
+// Tables of so many frames are not made, number 19: the fresh tables that stand in their place have no frames.
 #[derive(Clone, Copy, Debug, PartialEq, Eq)]
-pub struct Made {
-    pub number: u8,
-    pub tables: Tables,
+pub struct TooManyFrames {
+    pub instead: Tables,
 }
 
 // A frame is held by the copy that is on it, free, or retired.
@@ -104,34 +103,32 @@ pub struct Change {
 }
 
 // Fresh tables of P fast and S slow frames.
+#[tactic(auto, unfolding(crate::specs::Model::fresh_tables))]
 fn fresh_tables(p: u8, s: u8) -> Tables
     ensures { result ≡ fresh_tables p s }
 {
-    let g = fresh_page();
     Tables {
         shared: Shared { p, s },
-        pages: [g; 64],
+        pages: [fresh_page(); 64],
         register: [FREE_ENTRY; 254],
     }
 }
 
 impl Tables {
-    pub fn fresh(p: u8, s: u8) -> Made
-        ensures { result ≡ made p s }
+    // Fresh tables of P fast and S slow frames, neither above 127.
+    pub fn fresh(p: u8, s: u8) -> Result<Tables, TooManyFrames>
+        ensures { made_by result ≡ made p s }
     {
-        if (p <= 127) & (s <= 127) {
-            return Made {
-                number: 0,
-                tables: fresh_tables(p, s),
-            };
+        if p <= 127 && s <= 127 {
+            return Ok(fresh_tables(p, s));
         }
-        Made {
-            number: TOO_MANY_FRAMES,
-            tables: fresh_tables(0, 0),
-        }
+        Err(TooManyFrames {
+            instead: fresh_tables(0, 0),
+        })
     }
 
     // The tables after a change; a page number above 63 changes no page, and a frame number above 253 retires none.
+    #[tactic(auto, unfolding(crate::specs::Changes::after))]
     pub fn after(mut self, change: Change) -> Tables
         ensures { result ≡ after self change }
     {

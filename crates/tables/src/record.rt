@@ -9,7 +9,7 @@ ghost use Rattle.tables.specs.Keep.{leaves_record, stays_recent, current_is};
 
 use crate::{Copy, Edit, NULL_FRAME, Page};
 
-fn fresh_copy() -> Copy
+pub(crate) fn fresh_copy() -> Copy
     ensures { result ≡ fresh_copy }
 {
     Copy {
@@ -19,63 +19,57 @@ fn fresh_copy() -> Copy
     }
 }
 
+#[tactic(auto, unfolding(crate::specs::Model::fresh_page))]
 pub(crate) fn fresh_page() -> Page
     ensures { result ≡ fresh_page }
 {
-    let c = fresh_copy();
     Page {
         rights: [0; 16],
-        copies: [c; 8],
+        copies: [fresh_copy(); 8],
         owner: 0,
         n: 0,
     }
 }
 
 // The rights with one station's changed.
-fn with_right(rights: [u8; 16], station: u8, right: u8) -> [u8; 16]
+fn with_right(mut rights: [u8; 16], station: u8, right: u8) -> [u8; 16]
     ensures { result ≡ set rights station right }
 {
-    let mut rs = rights;
-    let s = station as usize;
+    let s = usize::from(station);
     if s < 16 {
-        rs[s] = right;
+        rights[s] = right;
     }
-    rs
+    rights
 }
 
+#[tactic(auto, unfolding(crate::specs::Changes::created))]
 fn created_page(station: u8) -> Page
     ensures { result ≡ created station }
 {
-    let rights = with_right([1; 16], station, 2);
-    let c = fresh_copy();
-    let mut copies = [c; 8];
-    copies[0] = Copy {
-        frame: NULL_FRAME,
-        current: false,
-        recent: true,
-    };
+    let mut copies = [fresh_copy(); 8];
+    copies[0].recent = true;
     Page {
-        rights: rights,
-        copies: copies,
+        rights: with_right([1; 16], station, 2),
+        copies,
         owner: station,
         n: 1,
     }
 }
 
-fn stale_copies(copies: [Copy; 8]) -> [Copy; 8]
+fn stale_copies(mut copies: [Copy; 8]) -> [Copy; 8]
     ensures { result ≡ map stale_copy copies }
 {
-    copies.map(|c| Copy {
-        recent: c.recent & c.current,
-        ..c
-    })
+    for c in &mut copies {
+        c.recent &= c.current;
+    }
+    copies
 }
 
 // The copy entries after entry k move down, and the last one is fresh.
 fn close_gap(mut copies: [Copy; 8], k: u8) -> [Copy; 8]
     ensures { result ≡ close_gap copies k }
 {
-    let k = k as usize;
+    let k = usize::from(k);
     if k < 8 {
         copies.copy_within(k + 1.., k);
         copies[7] = fresh_copy();
@@ -93,10 +87,9 @@ fn all_stay_recent(copies: [Copy; 8]) -> bool
 fn current_is(copies: [Copy; 8], copy: u8, current: bool) -> bool
     ensures { result ≡ current_is copies copy current }
 {
-    match copies.get(copy as usize) {
-        Some(c) => c.current == current,
-        None => true,
-    }
+    copies
+        .get(usize::from(copy))
+        .is_none_or(|c| c.current == current)
 }
 
 impl Page {
@@ -129,9 +122,7 @@ impl Page {
     fn staled(mut self) -> Page
         ensures { result ≡ with_copies self self.n (map stale_copy self.copies) }
     {
-        let cs = self.copies;
-        let ds = stale_copies(cs);
-        self.copies = ds;
+        self.copies = stale_copies(self.copies);
         self
     }
 
@@ -139,7 +130,7 @@ impl Page {
         ensures { result ≡ with_copies self self.n (set self.copies 0 (new_copy frame true)) }
     {
         self.copies[0] = Copy {
-            frame: frame,
+            frame,
             current: false,
             recent: true,
         };
@@ -153,9 +144,9 @@ impl Page {
         if n < 8 {
             let k = n as usize;
             self.copies[k] = Copy {
-                frame: frame,
+                frame,
                 current: false,
-                recent: recent,
+                recent,
             };
             self.n = n + 1;
         }
@@ -165,9 +156,7 @@ impl Page {
     fn without_copy(mut self, copy: u8) -> Page
         ensures { result ≡ with_copies self (self.n - 1) (close_gap self.copies copy) }
     {
-        let cs = self.copies;
-        let ds = close_gap(cs, copy);
-        self.copies = ds;
+        self.copies = close_gap(self.copies, copy);
         self.n = self.n.saturating_sub(1);
         self
     }
@@ -176,19 +165,15 @@ impl Page {
         ensures { result ≡ with_copies self self.n
             (set self.copies copy (with_current (get_or self.copies copy zero_copy) current)) }
     {
-        let k = copy as usize;
+        let k = usize::from(copy);
         if k < 8 {
-            let c = self.copies[k];
-            self.copies[k] = Copy {
-                frame: c.frame,
-                current: current,
-                recent: c.recent,
-            };
+            self.copies[k].current = current;
         }
         self
     }
 
     // The record after an edit. Each arm stores into `self`, so that the record stays where it is.
+    #[tactic(auto, unfolding(crate::specs::Changes::changed))]
     pub fn after(mut self, edit: Edit) -> Page
         ensures { result ≡ changed self edit }
     {
@@ -201,10 +186,7 @@ impl Page {
                 self = fresh_page();
             }
             Edit::Granted { station, right } => {
-                let s = station as usize;
-                if s < 16 {
-                    self.rights[s] = right;
-                }
+                self.rights = with_right(self.rights, station, right);
             }
             Edit::Staled => {
                 self = self.staled();
@@ -226,26 +208,20 @@ impl Page {
     }
 
     // Whether the edit is seen at a glance to leave the record as it is: the tables then need not be moved for it.
+    #[tactic(auto, unfolding(crate::specs::Keep::leaves_record))]
     pub fn keeps(self, edit: Edit) -> bool
         ensures { result ≡ leaves_record self edit }
     {
-        let copies = self.copies;
         match edit {
             Edit::Kept => true,
-            Edit::Created { station: _ } => false,
-            Edit::Deleted => false,
-            Edit::Granted {
-                station: _,
-                right: _,
-            } => false,
-            Edit::Staled => all_stay_recent(copies),
-            Edit::Placed { frame: _ } => false,
-            Edit::Added {
-                frame: _,
-                recent: _,
-            } => false,
-            Edit::Removed { copy: _ } => false,
-            Edit::Marked { copy, current } => current_is(copies, copy, current),
+            Edit::Staled => all_stay_recent(self.copies),
+            Edit::Marked { copy, current } => current_is(self.copies, copy, current),
+            Edit::Created { .. }
+            | Edit::Deleted
+            | Edit::Granted { .. }
+            | Edit::Placed { .. }
+            | Edit::Added { .. }
+            | Edit::Removed { .. } => false,
         }
     }
 }

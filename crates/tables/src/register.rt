@@ -11,14 +11,14 @@ use crate::{FREE_ENTRY, Holder, Page, RETIRED_ENTRY, Tables};
 pub(crate) fn entry_for(page: u8, copy: u8) -> u16
     ensures { result ≡ entry_for page copy }
 {
-    8 * page as u16 + copy as u16
+    8 * u16::from(page) + u16::from(copy)
 }
 
 // Sets a frame's entry; 255 is no frame.
 pub(crate) fn enter(register: &mut [u16; 254], frame: u8, entry: u16)
     ensures { register.new ≡ set register.old frame entry }
 {
-    let f = frame as usize;
+    let f = usize::from(frame);
     if f < 254 {
         register[f] = entry;
     }
@@ -42,24 +42,16 @@ pub(crate) fn occupy(register: &mut [u16; 254], p: u8, page: Page)
     }
 }
 
-// The holder of a frame by its entry; a number past the register has none.
-fn holder_by(entry: u16, frame: u8) -> Holder
-    ensures { result ≡ cond (ltb frame 254) (holder_of_entry entry) Free }
-{
-    if frame >= 254 {
-        return Holder::Free;
-    }
-    Holder::of_entry(entry)
-}
-
 impl Tables {
     // The copy on a frame, or that it is retired, by the register. Behind a reference, so that the tables are not
     // copied.
     pub fn registered(&self, frame: u8) -> Holder
         ensures { HolderIs (registered self.now frame) result }
     {
-        let entry = self.register[(frame % 254) as usize];
-        holder_by(entry, frame)
+        match self.register.get(usize::from(frame)) {
+            Some(entry) => Holder::of_entry(*entry),
+            None => Holder::Free,
+        }
     }
 }
 

@@ -11,8 +11,7 @@ impl Holder {
     pub fn bytes(self) -> [u8; 3]
         ensures { result ≡ shown self }
     {
-        let h = self;
-        match h {
+        match self {
             Holder::At { page, copy } => [1, page, copy],
             Holder::Free => [0, 255, 255],
             Holder::Retired => [2, 255, 255],
@@ -56,12 +55,7 @@ impl Tables {
     fn retired_at(self, frame: u8) -> bool
         ensures { result ≡ retired_at self frame }
     {
-        let f = frame as usize;
-        if f < 254 {
-            self.register[f] == RETIRED_ENTRY
-        } else {
-            false
-        }
+        self.register.get(usize::from(frame)) == Some(&RETIRED_ENTRY)
     }
 
     // The copy on the frame by the search, or that the frame is retired.

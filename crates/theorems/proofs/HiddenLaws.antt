@@ -11,10 +11,9 @@ use lib.Seq.{take_at, drop_at}
 use lib.Dec.{leb, ltb, eqb}
 use borrow.Author.Tests.{leb-true, eqb-true, eqb-false, not-true}
 use Rattle.tables.specs.declared.Tables.{Tables}
-use Rattle.tables.specs.declared.Made.{Made}
 use Rattle.tables.specs.Lists.{all}
 use Rattle.tables.specs.Numbers.{accepted, broken_tables, misfit_store, short_buffer, too_many_frames}
-use Rattle.tables.specs.Model.{fresh_tables, made}
+use Rattle.tables.specs.Model.{Made, fresh_tables, made}
 use Rattle.tables.specs.Rules.{sound}
 use Rattle.tables.proofs.ListLaws.{and_intro, and_left, and_right, all_listed}
 use Rattle.tables.proofs.FreshLaws.{fresh_sound}

@@ -10,7 +10,7 @@ pub returns-then-k-lt8 : goal.returns-then-k-lt8
 returns-then-k-lt8 c =
     let a = c.args in
     let n : length a.copies ≡ 8 = search rules in
-    rw (c.copy_within.ensures.after, c.fresh_copy.ensures) (gap_closed a.copies a.k 7 (omega arith) (omega arith))
+    rw (c.copy_within.ensures.after, c.from-k.ensures, c.fresh_copy.ensures) (gap_closed a.copies a.k 7 (omega arith) (omega arith))
 
 pub returns-else-k-lt8 : goal.returns-else-k-lt8
 returns-else-k-lt8 c =
