@@ -1,6 +1,6 @@
 -- Laws of the tests over a list, `all`, `count`, `all_below` and `listed`, and of tests joined by `&&` and `||`.
 use Prim.Native.Nat.{ℕ, zero, suc, ◌+◌, ◌≤◌, ◌<◌, zero-le, suc-le-suc}
-use mathlib.Core.Bool.{Bool, true, false, ◌&&◌, ◌||◌, cond, and_assoc, true≢false, false≢true}
+use mathlib.Core.Bool.{Bool, true, false, ◌&&◌, ◌||◌, cond, and_assoc, and-true, true≢false, false≢true}
 use mathlib.Core.List.{List, [], ◌∷◌, ◌++◌, map}
 use mathlib.Core.Logic.{⊎_elim}
 use mathlib.Core.Path.{◌≡◌, refl, sym, ap, ◌∙◌}
@@ -9,7 +9,8 @@ use native.Mathlib.Omega.{arith}
 use lib.ListN.{length, get_or, set, take, drop, take-append-drop}
 use lib.Dec.{eqb}
 use borrow.Author.Tests.{eqb-true}
-use Rattle.std.specs.List.{list_all}
+use Rattle.std.proofs.lemmas.List.Sums.{sum_by-cons}
+use Rattle.std.specs.List.{fold, list_all, count_by}
 use Rattle.tables.specs.Lists.{all, count, all_below, listed}
 
 -- ---- tests joined
@@ -63,6 +64,15 @@ any_default (x ∷ xs) zero d e h = refl
 any_default (x ∷ xs) (suc i) d e h = any_default xs i d e (le_of_suc-le-suc h)
 
 -- ---- a test of every element
+
+-- the library's `fold` with `&` from b on
+folded_from : {A : Type 0} (f : A → Bool) (b : Bool) (l : List A) → fold (λ (ok : Bool) (x : A). ok && f x) b l ≡ (b && all f l)
+unfolding all
+folded_from f b [] = sym (and-true b)
+folded_from f b (x ∷ xs) = folded_from f (b && f x) xs ∙ and_assoc b (f x) (all f xs)
+
+pub all_folded : {A : Type 0} (f : A → Bool) (l : List A) → fold (λ (ok : Bool) (x : A). ok && f x) true l ≡ all f l
+all_folded f l = folded_from f true l
 
 -- the library's `all`, of an iterator, says the same
 pub all_is : {A : Type 0} (f : A → Bool) (l : List A) → list_all f l ≡ all f l
@@ -136,6 +146,12 @@ all_imp f g [] h e = refl
 all_imp f g (x ∷ xs) h e = and_intro (h x (and_left (f x) (all f xs) e)) (all_imp f g xs h (and_right (f x) (all f xs) e))
 
 -- ---- of how many elements
+
+-- the library's `count`, of a filtered iterator, says the same
+pub count_is : {A : Type 0} (f : A → Bool) (l : List A) → count_by f l ≡ count f l
+unfolding count
+count_is f [] = refl
+count_is f (x ∷ xs) = sum_by-cons (λ x. cond (f x) 1 0) x xs ∙ ap (λ (n : ℕ). cond (f x) 1 0 + n) (count_is f xs)
 
 module _ {A : Type 0} (f : A → Bool) where
   -- an element of which the test holds counts

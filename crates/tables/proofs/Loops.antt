@@ -1,11 +1,11 @@
 -- A loop that goes through a list, or the copies of a page: at index j what is left is `drop j` of it.
-use Prim.Native.Nat.{ℕ, ◌+◌, ◌≤◌, ◌<◌}
+use Prim.Native.Nat.{ℕ, ◌+◌, ◌-◌, ◌≤◌, ◌<◌}
 use mathlib.Core.Path.{◌≡◌, ap, ◌∙◌}
 use mathlib.Core.List.{List, [], ◌∷◌}
 use native.Mathlib.Numerals.{add-one}
 use native.Mathlib.Omega.{arith}
-use lib.ListN.{length, get_or, take, drop, length-take, drop_of_length-le}
-use lib.Seq.{drop-cons, get_or-take}
+use lib.ListN.{length, get_or, take, drop, length-take, length-drop, drop_of_length-le}
+use lib.Seq.{drop-cons, get_or-take, take_all}
 use Rattle.tables.specs.declared.Copy.{Copy}
 use Rattle.tables.specs.declared.Page.{Page}
 use Rattle.tables.specs.Model.{copies_in_use, zero_copy}
@@ -17,6 +17,10 @@ module _ {A : Type 0} where
 
   pub drop_end : (l : List A) (j : ℕ) → length l ≤ j → drop j l ≡ []
   drop_end l j h = drop_of_length-le l h
+
+  -- what `&l[k..]` holds, where l has m elements and k is n
+  pub rest_from : (l : List A) (m n k : ℕ) → k ≡ n → length l ≡ m → take (m - k) (drop k l) ≡ drop n l
+  rest_from l m n k e h = rw e (take_all (m - n) (drop n l) (rw (length-drop n l, h) (omega arith)))
 
   -- the same in the first n elements
   pub first_more : (n : ℕ) (l : List A) (j : ℕ) (d : A) → j < n → n ≤ length l → drop j (take n l) ≡ get_or l j d ∷ drop (j + 1) (take n l)

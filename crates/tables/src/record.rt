@@ -9,7 +9,7 @@ ghost use Rattle.tables.specs.Keep.{leaves_record, stays_recent, current_is};
 
 use crate::{Copy, Edit, NULL_FRAME, Page};
 
-fn fresh_copy() -> Copy
+pub(crate) fn fresh_copy() -> Copy
     ensures { result ≡ fresh_copy }
 {
     Copy {
@@ -62,13 +62,13 @@ fn created_page(station: u8) -> Page
     }
 }
 
-fn stale_copies(copies: [Copy; 8]) -> [Copy; 8]
+fn stale_copies(mut copies: [Copy; 8]) -> [Copy; 8]
     ensures { result ≡ map stale_copy copies }
 {
-    copies.map(|c| Copy {
-        recent: c.recent & c.current,
-        ..c
-    })
+    for c in &mut copies {
+        c.recent &= c.current;
+    }
+    copies
 }
 
 // The copy entries after entry k move down, and the last one is fresh.

@@ -1,6 +1,6 @@
--- `Tables::sound`. What the pass says of the pages is what it says of those from i on; `held` and the frames of those
--- are the frames of all.
-use Prim.Native.Nat.{◌+◌}
+-- `Tables::sound`. What the pass says of the pages is what it says of those from page p on; `held` and the frames of
+-- those are the frames of all.
+use Prim.Native.Nat.{◌+◌, ◌≤◌}
 use mathlib.Core.Bool.{true, false}
 use mathlib.Core.Path.{◌≡◌, refl, sym, ◌∙◌}
 use native.Mathlib.Nat.{zero-add, add-zero, add_assoc}
@@ -14,17 +14,18 @@ use Rattle.tables.specs.PrivatePass.{scan_pages}
 use Rattle.tables.proofs.Loops.{drop_more, drop_end}
 use Rattle.tables.proofs.ScanLaws.{scan_rules}
 use Rattle.tables.proofs.Tables.sound.Goals as goal
+use Rattle.tables.proofs.Tables.sound.Goals.{then-fast-gt127-via-then-fast-gt127, then-fast-gt127-via-else-fast-gt127+then-slow-gt127}
 
 pub returns-then-fast-gt127 : goal.returns-then-fast-gt127
 unfolding sound sizes_rule
-returns-then-fast-gt127 c = sym (rw (lt-leb _ _ c.if-fast-gt127.true))
+returns-then-fast-gt127 c =
+    elim c.then-fast-gt127.branch [
+      | then-fast-gt127-via-then-fast-gt127 w ↦ sym (rw (lt-leb _ _ w.if-fast-gt127.true))
+      | then-fast-gt127-via-else-fast-gt127+then-slow-gt127 w ↦ sym (rw (le-leb _ _ w.if-fast-gt127.false, lt-leb _ _ w.if-slow-gt127.true))
+    ]
 
-pub returns-then-slow-gt127 : goal.returns-then-slow-gt127
-unfolding sound sizes_rule
-returns-then-slow-gt127 c = sym (rw (le-leb _ _ c.if-fast-gt127.false, lt-leb _ _ c.if-slow-gt127.true))
-
-pub loop-i-init : goal.loop-i-init
-loop-i-init c = (search rules, refl, omega arith, search rules, refl, sym (zero-add _))
+pub loop-p-init : goal.loop-p-init
+loop-p-init c = (omega arith, refl, sym (zero-add _))
 
 pub returns-then-not-page_ok : goal.returns-then-not-page_ok
 unfolding sound sizes_rule pages_rule none_shared holders scan_pages
@@ -32,28 +33,24 @@ returns-then-not-page_ok c =
     let t = c.args.self in
     let l : length t.pages ≡ 64 = search rules in
     let r : length t.register ≡ 254 = search rules in
-    let v = c.loop-i in
+    let v = c.loop-p in
     let e = sym c.page_ok.ensures ∙ c.if-not-page_ok.true in
+    let few : t.shared.p + t.shared.s ≤ 254 = omega arith in
     let z : scan_pages (t.shared.p + t.shared.s) t.register 0 t.pages ≡ false =
-    v.invariant.4 ∙ rw (drop_more t.pages v.i zero_page (omega arith), e) in
+    v.invariant.1 ∙ rw (drop_more t.pages v.p zero_page (omega arith), e) in
     sym
     (rw (le-leb _ _ c.if-fast-gt127.false, le-leb _ _ c.if-slow-gt127.false, eq-eqb _ _ l)
-    (sym (scan_rules (t.shared.p + t.shared.s) v.invariant.2 t.pages t.register l r) ∙ rw z))
+    (sym (scan_rules (t.shared.p + t.shared.s) few t.pages t.register l r) ∙ rw z))
 
-pub loop-i-preserved : goal.loop-i-preserved
+pub loop-p-preserved : goal.loop-p-preserved
 unfolding scan_pages frame_totals
-loop-i-preserved c =
-    let t = c.args.self in
-    let l : length t.pages ≡ 64 = search rules in
-    let v = c.loop-i in
-    let m = drop_more t.pages v.i zero_page (omega arith) in
+loop-p-preserved c =
+    let v = c.loop-p in
+    let m = drop_more c.args.self.pages v.p zero_page (omega arith) in
     let e = sym c.page_ok.ensures ∙ c.if-not-page_ok.false in (
-      search rules,
-      v.invariant.1,
-      v.invariant.2,
       omega arith,
-      v.invariant.4 ∙ rw (m, e),
-      v.invariant.5 ∙ rw (m, c.frame_total.ensures) (sym (add_assoc _ _ _)),
+      v.invariant.1 ∙ rw (m, e),
+      v.invariant.2 ∙ rw (m, c.from-held.ensures, c.frame_total.ensures) (sym (add_assoc _ _ _)),
     )
 
 pub returns : goal.returns
@@ -62,11 +59,12 @@ returns c =
     let t = c.args.self in
     let l : length t.pages ≡ 64 = search rules in
     let r : length t.register ≡ 254 = search rules in
-    let v = c.loop-i in
-    let end = drop_end t.pages v.i (omega arith) in
-    let z : scan_pages (t.shared.p + t.shared.s) t.register 0 t.pages ≡ true = v.invariant.4 ∙ rw end in
-    let h : frame_totals t.pages ≡ v.held = v.invariant.5 ∙ rw end (add-zero _) in
+    let v = c.loop-p in
+    let few : t.shared.p + t.shared.s ≤ 254 = omega arith in
+    let end = drop_end t.pages v.p (omega arith) in
+    let z : scan_pages (t.shared.p + t.shared.s) t.register 0 t.pages ≡ true = v.invariant.1 ∙ rw end in
+    let h : frame_totals t.pages ≡ v.held = v.invariant.2 ∙ rw end (add-zero _) in
     c.others_ok.ensures
     ∙ sym
     (rw (le-leb _ _ c.if-fast-gt127.false, le-leb _ _ c.if-slow-gt127.false, eq-eqb _ _ l)
-    (sym (scan_rules (t.shared.p + t.shared.s) v.invariant.2 t.pages t.register l r) ∙ rw (z, h)))
+    (sym (scan_rules (t.shared.p + t.shared.s) few t.pages t.register l r) ∙ rw (z, h)))
