@@ -10,7 +10,7 @@ use Rattle.tables.specs.declared.Copy.{Copy}
 use Rattle.tables.specs.declared.Page.{Page}
 use Rattle.tables.specs.Model.{copies_in_use, zero_copy}
 use Rattle.tables.proofs.ListLaws.{and_intro}
-use Rattle.tables.proofs.Loops.{drop_end, use_more}
+use Rattle.tables.proofs.Loops.{drop_end, drop_more, use_more}
 use Rattle.steps.specs.Data.{is_mark, copy_marks_valid, each_is}
 use Rattle.steps.specs.Stores.{splice}
 use Rattle.steps.specs.Effects.{bit, copies_shown}
@@ -29,22 +29,23 @@ module _ (g : Page) (j : ℕ) where
     unfolding lay_each
     lay_ended st all h r = sym (ap (λ (cs : List Copy). lay_each those st cs o b) (drop_end (copies_in_use g) j h)) ∙ r
 
-  -- ---- the entries that show the copies, three bytes each
-  pub entries_turn : (out out' all : List ℕ) → j < length (copies_in_use g) → 1 + 3 * j + 3 ≤ length out
-      → out' ≡ splice out (1 + 3 * j) (copies_shown (get_or g.copies j zero_copy ∷ []))
-      → splice out (1 + 3 * j) (copies_shown (drop j (copies_in_use g))) ≡ all → splice out' (1 + 3 * (j + 1)) (copies_shown (drop (j + 1) (copies_in_use g))) ≡ all
+-- ---- the entries that show the copies, three bytes each
+module _ (cs : List Copy) (j : ℕ) where
+  pub entries_turn : (out out' all : List ℕ) → j < length cs → 1 + 3 * j + 3 ≤ length out
+      → out' ≡ splice out (1 + 3 * j) (copies_shown (get_or cs j zero_copy ∷ []))
+      → splice out (1 + 3 * j) (copies_shown (drop j cs)) ≡ all → splice out' (1 + 3 * (j + 1)) (copies_shown (drop (j + 1) cs)) ≡ all
   unfolding copies_shown
   entries_turn out out' all h w e r =
-      let b = copies_shown (get_or g.copies j zero_copy ∷ []) in
+      let b = copies_shown (get_or cs j zero_copy ∷ []) in
       let s : 1 + 3 * (j + 1) ≡ 1 + 3 * j + 3 = omega arith in
       rw (e, s)
-      (splice_next out (1 + 3 * j) b (copies_shown (drop (j + 1) (copies_in_use g))) w
-      ∙ sym (ap (λ (cs : List Copy). splice out (1 + 3 * j) (copies_shown cs)) (use_more g j h)) ∙ r)
+      (splice_next out (1 + 3 * j) b (copies_shown (drop (j + 1) cs)) w
+      ∙ sym (ap (λ (cs : List Copy). splice out (1 + 3 * j) (copies_shown cs)) (drop_more cs j zero_copy h)) ∙ r)
 
-  pub entries_ended : (out all : List ℕ) → length (copies_in_use g) ≤ j → splice out (1 + 3 * j) (copies_shown (drop j (copies_in_use g))) ≡ all → out ≡ all
+  pub entries_ended : (out all : List ℕ) → length cs ≤ j → splice out (1 + 3 * j) (copies_shown (drop j cs)) ≡ all → out ≡ all
   unfolding copies_shown
   entries_ended out all h r =
-      sym (splice_none out (1 + 3 * j)) ∙ sym (ap (λ (cs : List Copy). splice out (1 + 3 * j) (copies_shown cs)) (drop_end (copies_in_use g) j h)) ∙ r
+      sym (splice_none out (1 + 3 * j)) ∙ sym (ap (λ (cs : List Copy). splice out (1 + 3 * j) (copies_shown cs)) (drop_end cs j h)) ∙ r
 
 pub length_shown : (cs : List Copy) → length (copies_shown cs) ≡ 3 * length cs
 unfolding copies_shown

@@ -20,10 +20,7 @@ fn span_within(offset: u8, count: usize) -> bool
     ensures { result ≡ leb (offset + count) 64 }
 {
     let o = offset as usize;
-    if o > 64 {
-        return false;
-    }
-    count <= 64 - o
+    o <= 64 && count <= 64 - o
 }
 
 // Whether what is laid lies within stores of so many frames, where a write has `size` bytes.

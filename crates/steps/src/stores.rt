@@ -12,35 +12,31 @@ use crate::{Place, Which};
 use tables::{Copy, Page};
 
 // Lays all of src into dst from index at on.
+#[tactic(auto, using(crate::proofs::StoreLaws::put_span))]
 pub(crate) fn put(dst: &mut [u8], at: usize, src: &[u8])
     requires { at + length src.now ≤ length dst.old }
     ensures { dst.new ≡ splice dst.old at src.now }
 {
-    let mut j = 0;
-    while j < src.len() {
-        dst[at + j] = src[j];
-        j += 1;
-    }
+    dst[at..at + src.len()].copy_from_slice(src);
 }
 
 // Puts src into dst from `at` on, for any lengths: where src does not fit, dst is left as it was.
 pub fn lay_bytes(dst: &mut [u8], at: usize, src: &[u8])
     ensures { dst.new ≡ spliced_within dst.old at src.now }
 {
-    if at <= dst.len() {
-        if src.len() <= dst.len() - at {
-            put(dst, at, src);
-        }
+    if at <= dst.len() && src.len() <= dst.len() - at {
+        put(dst, at, src);
     }
 }
 
 // The 64 bytes of s from index at on. Through a local array a frame is moved by a fixed 64-byte copy.
+#[tactic(auto, using(crate::proofs::StoreLaws::part_span))]
 fn block_at(s: &[u8], at: usize) -> [u8; 64]
     requires { at + 64 ≤ length s.now }
     ensures { result ≡ part s.now at 64 }
 {
     let mut b = [0u8; 64];
-    put(&mut b, 0, &s[at..at + 64]);
+    b.copy_from_slice(&s[at..at + 64]);
     b
 }
 
