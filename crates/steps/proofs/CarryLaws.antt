@@ -6,7 +6,6 @@ use mathlib.Core.Bool.{Bool, true, false, not, ◌&&◌, ◌||◌}
 use mathlib.Core.List.{List, ◌++◌}
 use native.Mathlib.Omega.{arith}
 use lib.ListN.{length, get_or}
-use lib.Seq.{get_or-take}
 use lib.Dec.{ltb, eqb}
 use borrow.Author.Tests.{ltb-true, ltb-false, eqb-true, le-leb, lt-leb, not-true, not-false}
 use Rattle.tables.specs.declared.Copy.{Copy}
@@ -14,7 +13,6 @@ use Rattle.tables.specs.declared.Page.{Page}
 use Rattle.tables.specs.Lists.{all}
 use Rattle.tables.specs.Model.{copies_in_use, zero_copy}
 use Rattle.tables.proofs.ListLaws.{or_left, or_right, all_at}
-use Rattle.tables.proofs.Loops.{use_low}
 use Rattle.steps.specs.declared.Work.{Work}
 use Rattle.steps.specs.declared.Decision.{Decision}
 use Rattle.steps.specs.Stores.{over}
@@ -33,10 +31,10 @@ module _ (x y : List ℕ) (whole : WholeFrames x) where
 
   -- so is that of each copy which lies within
   pub room_each : (those : Copy → Bool) (g : Page) → all (frame_within those (frames_in x y)) (copies_in_use g) ≡ true
-      → RoomEach those x y (length x / 64) g
+      → RoomEach (λ (c : Copy). those c ≡ true) x y (length x / 64) g
   room_each those g e i h u =
-      room_at _ (within_low those (frames_in x y) (get_or g.copies i zero_copy)
-      (rw (get_or-take g.n g.copies i zero_copy (use_low g i h)) at (all_at (frame_within those (frames_in x y)) (copies_in_use g) i zero_copy e h)) u)
+      room_at _ (within_low those (frames_in x y) (get_or (copies_in_use g) i zero_copy)
+      (all_at (frame_within those (frames_in x y)) (copies_in_use g) i zero_copy e h) u)
 
 -- a frame that is filled lies within stores of the same lengths
 pub fill_fits : (x y x' y' : List ℕ) (f : ℕ) → length x' ≡ length x → length y' ≡ length y → WholeFrames x

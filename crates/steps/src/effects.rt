@@ -7,12 +7,10 @@ ghost use Rattle.steps.specs.Promises.{state_of, lent, lay_within, show_within, 
 ghost use Rattle.steps.specs.Private.{WholeFrames, frames_in};
 
 use crate::decisions::{decide_any, settle};
-use crate::each::frames_within;
+use crate::each::{frames_within, is_placed};
 use crate::looks::{show_holder, show_page};
-use crate::stores::{
-    clear_frame, clear_page, copy_frame, frame_part, frame_place, lay_each, part_at, put,
-};
-use crate::{Call, Decision, Done, Kind, Lay, Place, Show, Which, Work};
+use crate::stores::{clear_frame, copy_frame, frame_part, frame_place, lay_each, part_at, put};
+use crate::{Call, Decision, Done, Kind, Lay, Place, Show, Work};
 use tables::{NULL_FRAME, Page, Tables};
 
 // Whether so many bytes from an offset on lie within a page.
@@ -30,10 +28,10 @@ fn lay_within(page: Page, lay: Lay, frames: usize, size: usize) -> bool
     match lay {
         Lay::Nothing => true,
         Lay::Zeros { frame } => (frame as usize) < frames,
-        Lay::ZerosEach => frames_within(page, Which::Placed, frames),
+        Lay::ZerosEach => frames_within(&page, is_placed, frames),
         Lay::Duplicate { from, to } => ((from as usize) < frames) & ((to as usize) < frames),
         Lay::Spread { offset } => {
-            span_within(offset, size) & frames_within(page, Which::Current, frames)
+            span_within(offset, size) && frames_within(&page, |c| c.current, frames)
         }
     }
 }
@@ -86,10 +84,10 @@ fn lay_in(page: Page, lay: Lay, bytes: &[u8], fast: &mut [u8], slow: &mut [u8])
     match lay {
         Lay::Nothing => {}
         Lay::Zeros { frame } => clear_frame(fast, slow, p, frame as usize),
-        Lay::ZerosEach => clear_page(fast, slow, p, page),
+        Lay::ZerosEach => lay_each(fast, slow, p, &page, is_placed, 0, &[0; 64]),
         Lay::Duplicate { from, to } => copy_frame(fast, slow, p, from as usize, to as usize),
         Lay::Spread { offset } => {
-            lay_each(fast, slow, p, page, Which::Current, offset as usize, bytes);
+            lay_each(fast, slow, p, &page, |c| c.current, offset as usize, bytes);
         }
     }
 }

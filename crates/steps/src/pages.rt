@@ -8,8 +8,9 @@ ghost use Rattle.tables.specs.Model.{copies_in_use};
 ghost use Rattle.steps.specs.declared.Kind.TheVariants.{Create, DeletePage, Grant};
 ghost use Rattle.steps.specs.Steps.{outcome_of, is_placed, lacks_owner, perform};
 
+use crate::each::is_placed;
 use crate::{Call, Lay, Plan, View};
-use tables::{Edit, NULL_FRAME, Page, Refusal};
+use tables::{Edit, Page, Refusal};
 
 pub(crate) fn create(view: View, call: Call) -> Result<Plan, Refusal>
     ensures { (size : ℕ) → outcome_of result ≡ perform view call size Create }
@@ -39,7 +40,10 @@ fn lacks_owner(page: Page, station: u8) -> Result<(), Refusal>
 fn placed_count(page: &Page) -> usize
     ensures { (result ≡ count_by is_placed (copies_in_use page.now)) × (result ≤ 8) }
 {
-    page.copies_in_use().iter().filter(|c| c.frame != NULL_FRAME).count()
+    page.copies_in_use()
+        .iter()
+        .filter(|c| is_placed(**c))
+        .count()
 }
 
 pub(crate) fn delete_page(view: View, call: Call) -> Result<Plan, Refusal>

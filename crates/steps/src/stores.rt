@@ -1,14 +1,13 @@
 // The two lent stores: frame f is in the fast one where f is below p, and else in the slow one.
-ghost use Rattle.std.specs.Prelude.{◌≡◌, true, [], ◌∷◌, ◌++◌, ◌+◌, ◌≤◌, length};
+ghost use Rattle.std.specs.Prelude.{◌≡◌, Bool, true, ◌++◌, ◌+◌, ◌≤◌, length};
+ghost use Rattle.tables.specs.declared.Copy.{Copy};
 ghost use Rattle.tables.specs.Model.{copies_in_use};
 ghost use Rattle.steps.specs.Stores.{part, splice, spliced_within, block, lay_frame, zeros};
-ghost use Rattle.steps.specs.Steps.{is_placed};
 ghost use Rattle.steps.specs.Effects.{frame_place};
 ghost use Rattle.steps.specs.Promises.{bytes_at, pointer_at};
-ghost use Rattle.steps.specs.Private.{chosen, Room, RoomEach, PlaceIn, lay_each};
+ghost use Rattle.steps.specs.Private.{Room, RoomEach, PlaceIn, Tells, lay_each};
 
-use crate::each::is_chosen;
-use crate::{Place, Which};
+use crate::Place;
 use tables::{Copy, Page};
 
 // Lays all of src into dst from index at on.
@@ -147,57 +146,26 @@ pub(crate) fn part_at<'a>(fast: &'a [u8], slow: &'a [u8], place: Place) -> &'a [
     }
 }
 
-// Lays src into the copy's frame where `which` names the copy.
-fn lay_copy(
+// Lays src into the frame of each copy of the page that is meant.
+pub(crate) fn lay_each<F: Fn(Copy) -> bool>(
     fast: &mut [u8],
     slow: &mut [u8],
     p: usize,
-    c: Copy,
-    which: Which,
+    page: &Page,
+    meant: F,
     offset: usize,
     src: &[u8],
 )
-    requires room { chosen which c ≡ true → Room fast.old slow.old p c.frame }
+    requires callable { F.IsAlwaysCallable meant }
+    requires room_each { RoomEach (λ c. F.post meant c true) fast.old slow.old p page.now }
     requires src_bound { offset + length src.now ≤ 64 }
-    ensures { fast.new ++ slow.new ≡ lay_each (chosen which)
-        (fast.old ++ slow.old) (c ∷ []) offset src.now }
+    ensures { (those : Copy → Bool) → Tells (F.post meant) those
+        → fast.new ++ slow.new ≡ lay_each those (fast.old ++ slow.old)
+        (copies_in_use page.now) offset src.now }
 {
-    if is_chosen(c, which) {
-        let f = c.frame as usize;
-        lay_frame(fast, slow, p, f, offset, src);
+    for c in page.copies_in_use() {
+        if meant(*c) {
+            lay_frame(fast, slow, p, c.frame as usize, offset, src);
+        }
     }
-}
-
-// Lays src into the frame of each copy of the page that `which` names.
-pub(crate) fn lay_each(
-    fast: &mut [u8],
-    slow: &mut [u8],
-    p: usize,
-    page: Page,
-    which: Which,
-    offset: usize,
-    src: &[u8],
-)
-    requires room_each { RoomEach (chosen which) fast.old slow.old p page }
-    requires src_bound { offset + length src.now ≤ 64 }
-    ensures { fast.new ++ slow.new ≡ lay_each (chosen which)
-        (fast.old ++ slow.old) (copies_in_use page) offset src.now }
-{
-    let n = page.in_use();
-    let mut j: usize = 0;
-    while j < n {
-        let c = page.copies[j];
-        lay_copy(fast, slow, p, c, which, offset, src);
-        j += 1;
-    }
-}
-
-// Sets the frame of each copy of the page that has one to zeros, in one pass.
-pub(crate) fn clear_page(fast: &mut [u8], slow: &mut [u8], p: usize, page: Page)
-    requires { RoomEach is_placed fast.old slow.old p page }
-    ensures { fast.new ++ slow.new ≡ lay_each is_placed (fast.old ++ slow.old)
-        (copies_in_use page) 0 zeros }
-{
-    let zeros = [0u8; 64];
-    lay_each(fast, slow, p, page, Which::Placed, 0, &zeros);
 }

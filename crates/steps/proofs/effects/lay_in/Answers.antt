@@ -4,7 +4,7 @@ use mathlib.Core.Bool.{Bool}
 use Prim.Native.Nat.{◌+◌}
 use lib.ListN.{length}
 use lib.Dec.{ltb, leb}
-use borrow.Author.Tests.{ltb-true, leb-true}
+use borrow.Author.Tests.{ltb-true}
 use Rattle.tables.specs.Rules.{is_current}
 use Rattle.tables.proofs.ListLaws.{and_left, and_right}
 use Rattle.steps.specs.declared.Lay.{Lay}
@@ -18,6 +18,7 @@ use Rattle.steps.proofs.CarryLaws.{room_at, room_each}
 use mathlib.Core.List.{List}
 use Prim.Native.Nat.{ℕ}
 use Rattle.tables.specs.declared.Page.{Page}
+use Rattle.std.proofs.Common.{rules}
 use Rattle.steps.proofs.effects.lay_in.Goals as goal
 
 -- what is lent fits a lay
@@ -30,11 +31,11 @@ clear_frame-requires c =
     let e = sym (ap (fits a.page a.bytes.now a.fast.now a.slow.now) c.in-Zeros.is) ∙ c.requires.lay_value in
     room_at a.fast.now a.slow.now c.requires.whole_frames _ (ltb-true _ _ e)
 
-pub clear_page-requires : goal.clear_page-requires
-clear_page-requires c =
+pub lay_each-requires-clause-room_each : goal.lay_each-requires-clause-room_each
+lay_each-requires-clause-room_each c i h u =
     let a = c.args in
     room_each a.fast.now a.slow.now c.requires.whole_frames is_placed a.page
-    (sym (ap (fits a.page a.bytes.now a.fast.now a.slow.now) c.in-ZerosEach.is) ∙ c.requires.lay_value)
+    (sym (ap (fits a.page a.bytes.now a.fast.now a.slow.now) c.in-ZerosEach.is) ∙ c.requires.lay_value) i h (search rules)
 
 pub copy_frame-requires : goal.copy_frame-requires
 copy_frame-requires c =
@@ -47,16 +48,13 @@ copy_frame-requires c =
       room_2 = at _ (ltb-true _ _ (and_right (ltb w.from (frames_in a.fast.now a.slow.now)) _ e));
     }
 
-pub lay_each-requires : goal.lay_each-requires
-lay_each-requires c =
+pub lay_each-requires-in-Spread-clause-room_each : goal.lay_each-requires-in-Spread-clause-room_each
+lay_each-requires-in-Spread-clause-room_each c i h u =
     let a = c.args in
     let w = c.in-Spread in
-    let e = sym (ap (fits a.page a.bytes.now a.fast.now a.slow.now) w.is) ∙ c.requires.lay_value in
-    record {
-      room_each = room_each a.fast.now a.slow.now c.requires.whole_frames is_current a.page
-          (and_right (leb (w.offset + length a.bytes.now) 64) _ e);
-      src_bound = leb-true _ 64 (and_left _ _ e);
-    }
+    room_each a.fast.now a.slow.now c.requires.whole_frames is_current a.page
+    (and_right (leb (w.offset + length a.bytes.now) 64) _
+    (sym (ap (fits a.page a.bytes.now a.fast.now a.slow.now) w.is) ∙ c.requires.lay_value)) i h (search rules)
 
 pub returns-in-Nothing : goal.returns-in-Nothing
 unfolding laid_frames lay_frames
@@ -68,7 +66,7 @@ returns-in-Zeros c = rw c.in-Zeros.is c.clear_frame.ensures
 
 pub returns-in-ZerosEach : goal.returns-in-ZerosEach
 unfolding laid_frames
-returns-in-ZerosEach c = rw c.in-ZerosEach.is (c.clear_page.ensures ∙ lay_each_is is_placed _ _ _ _)
+returns-in-ZerosEach c = rw c.in-ZerosEach.is (c.lay_each.ensures is_placed (λ c answer h. search rules) ∙ lay_each_is is_placed _ _ _ _)
 
 pub returns-in-Duplicate : goal.returns-in-Duplicate
 unfolding laid_frames lay_frames
@@ -76,4 +74,4 @@ returns-in-Duplicate c = rw c.in-Duplicate.is c.copy_frame.ensures
 
 pub returns-in-Spread : goal.returns-in-Spread
 unfolding laid_frames
-returns-in-Spread c = rw c.in-Spread.is (c.lay_each.ensures ∙ lay_each_is is_current _ _ _ _)
+returns-in-Spread c = rw c.in-Spread.is (c.lay_each-in-Spread.ensures is_current (λ c answer h. search rules) ∙ lay_each_is is_current _ _ _ _)
