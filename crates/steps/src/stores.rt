@@ -1,11 +1,11 @@
-// The two lent stores: frame f is in the fast one where f is below p, and else in the slow one.
-ghost use Rattle.std.specs.Prelude.{◌≡◌, Bool, true, ◌++◌, ◌+◌, ◌≤◌, length};
+// The two lent stores: frame f is in the fast one where f is below P, and else in the slow one.
+ghost use Rattle.std.specs.Prelude.{◌≡◌, Bool, true, ◌++◌, ◌+◌, ◌<◌, ◌≤◌, length};
 ghost use Rattle.tables.specs.declared.Copy.{Copy};
 ghost use Rattle.tables.specs.Model.{copies_in_use};
 ghost use Rattle.steps.specs.Stores.{part, splice, spliced_within, block, lay_frame, zeros};
 ghost use Rattle.steps.specs.Effects.{frame_place};
 ghost use Rattle.steps.specs.Promises.{bytes_at, pointer_at};
-ghost use Rattle.steps.specs.Private.{Room, RoomEach, PlaceIn, Tells, lay_each};
+ghost use Rattle.steps.specs.Private.{PlaceIn, Tells, WholeFrames, EachBelow, Same, bytes_of, frames_lent, lay_each};
 
 use crate::Place;
 use tables::{Copy, Page};
@@ -28,85 +28,87 @@ pub fn lay_bytes(dst: &mut [u8], at: usize, src: &[u8])
     }
 }
 
-// The 64 bytes of s from index at on. Through a local array a frame is moved by a fixed 64-byte copy.
-#[tactic(auto, using(crate::proofs::StoreLaws::part_span))]
-fn block_at(s: &[u8], at: usize) -> [u8; 64]
-    requires { at + 64 ≤ length s.now }
-    ensures { result ≡ part s.now at 64 }
-{
-    let mut b = [0u8; 64];
-    b.copy_from_slice(&s[at..at + 64]);
-    b
+// The two lent stores as one: the bytes of the fast store, and then those of the slow one.
+#[derive(Drop)]
+pub(crate) struct Stores<'a> {
+    pub fast: &'a mut [u8],
+    pub slow: &'a mut [u8],
 }
 
-// The bytes of a frame.
-fn load(fast: &[u8], slow: &[u8], p: usize, frame: usize) -> [u8; 64]
-    requires { Room fast.now slow.now p frame }
-    ensures { result ≡ block (fast.now ++ slow.now) frame }
-{
-    if frame < p {
-        block_at(fast, 64 * frame)
-    } else {
-        block_at(slow, 64 * (frame - p))
+impl Stores<'_> {
+    // Bytes of a frame, as a part of the store that has them.
+    pub(crate) fn part(&self, frame: u8, offset: u8, len: usize) -> &[u8]
+        requires whole { WholeFrames self.now }
+        requires low { frame < frames_lent self.now }
+        requires span { offset + len ≤ 64 }
+        ensures bytes { result.now ≡ part (block (bytes_of self.now) frame) offset len }
+        ensures len { length result.now ≡ len }
+    {
+        let place = frame_place(self.fast.len() / 64, frame, offset, len);
+        part_at(self.fast, self.slow, place)
     }
-}
 
-// Lays src into a frame from an offset on.
-fn lay_frame(fast: &mut [u8], slow: &mut [u8], p: usize, frame: usize, offset: usize, src: &[u8])
-    requires room { Room fast.old slow.old p frame }
-    requires src_bound { offset + length src.now ≤ 64 }
-    ensures { fast.new ++ slow.new
-        ≡ lay_frame (fast.old ++ slow.old) frame offset
-        src.now }
-{
-    if frame < p {
-        put(fast, 64 * frame + offset, src);
-    } else {
-        put(slow, 64 * (frame - p) + offset, src);
+    // Lays src into a frame from an offset on.
+    fn lay(&mut self, frame: u8, offset: u8, src: &[u8])
+        requires whole { WholeFrames self.old }
+        requires low { frame < frames_lent self.old }
+        requires span { offset + length src.now ≤ 64 }
+        ensures same { Same self.old self.new }
+        ensures laid { bytes_of self.new ≡ lay_frame (bytes_of self.old) frame offset src.now }
+    {
+        let place = frame_place(self.fast.len() / 64, frame, offset, src.len());
+        if place.slow {
+            put(self.slow, place.start, src);
+        } else {
+            put(self.fast, place.start, src);
+        }
     }
-}
 
-// Sets a frame to zeros.
-pub(crate) fn clear_frame(fast: &mut [u8], slow: &mut [u8], p: usize, frame: usize)
-    requires { Room fast.old slow.old p frame }
-    ensures { fast.new ++ slow.new
-        ≡ lay_frame (fast.old ++ slow.old) frame 0 zeros }
-{
-    let z = [0u8; 64];
-    lay_frame(fast, slow, p, frame, 0, &z);
-}
+    // Sets a frame to zeros.
+    pub(crate) fn clear(&mut self, frame: u8)
+        requires whole { WholeFrames self.old }
+        requires low { frame < frames_lent self.old }
+        ensures same { Same self.old self.new }
+        ensures laid { bytes_of self.new ≡ lay_frame (bytes_of self.old) frame 0 zeros }
+    {
+        self.lay(frame, 0, &[0; 64]);
+    }
 
-// Copies a frame onto another, in either store or across.
-pub(crate) fn copy_frame(fast: &mut [u8], slow: &mut [u8], p: usize, from: usize, to: usize)
-    requires room { Room fast.old slow.old p from }
-    requires room_2 { Room fast.old slow.old p to }
-    ensures { fast.new ++ slow.new
-        ≡ lay_frame (fast.old ++ slow.old) to 0
-        (block (fast.old ++ slow.old) from) }
-{
-    let b = load(&fast[..], &slow[..], p, from);
-    lay_frame(fast, slow, p, to, 0, &b);
-}
+    // Copies a frame onto another, in either store or across. Through a local array it is moved by a fixed 64-byte copy.
+    pub(crate) fn copy(&mut self, from: u8, to: u8)
+        requires whole { WholeFrames self.old }
+        requires from_low { from < frames_lent self.old }
+        requires to_low { to < frames_lent self.old }
+        ensures same { Same self.old self.new }
+        ensures laid { bytes_of self.new ≡ lay_frame (bytes_of self.old) to 0 (block (bytes_of self.old) from) }
+    {
+        let mut block = [0; 64];
+        block.copy_from_slice(self.part(from, 0, 64));
+        self.lay(to, 0, &block);
+    }
 
-// Bytes of a frame, as a part of the store that has them.
-pub(crate) fn frame_part<'a>(
-    fast: &'a [u8],
-    slow: &'a [u8],
-    p: usize,
-    frame: usize,
-    offset: usize,
-    count: usize,
-) -> &'a [u8]
-    requires room { Room fast.now slow.now p frame }
-    requires count_bound { offset + count ≤ 64 }
-    ensures { result.now ≡ part (block (fast.now ++ slow.now) frame) offset count }
-{
-    if frame < p {
-        let a = 64 * frame + offset;
-        &fast[a..a + count]
-    } else {
-        let a = 64 * (frame - p) + offset;
-        &slow[a..a + count]
+    // Lays src into the frame of each copy of the page that is meant.
+    pub(crate) fn lay_each<F: Fn(Copy) -> bool>(
+        &mut self,
+        page: &Page,
+        meant: F,
+        offset: u8,
+        src: &[u8],
+    )
+        requires callable { F.IsAlwaysCallable meant }
+        requires whole { WholeFrames self.old }
+        requires low { EachBelow (λ c. F.post meant c true) (frames_lent self.old) page.now }
+        requires span { offset + length src.now ≤ 64 }
+        ensures same { Same self.old self.new }
+        ensures laid { (those : Copy → Bool) → Tells (F.post meant) those
+            → bytes_of self.new ≡ lay_each those (bytes_of self.old) (copies_in_use page.now) offset
+            src.now }
+    {
+        for c in page.copies_in_use() {
+            if meant(*c) {
+                self.lay(c.frame, offset, src);
+            }
+        }
     }
 }
 
@@ -143,29 +145,5 @@ pub(crate) fn part_at<'a>(fast: &'a [u8], slow: &'a [u8], place: Place) -> &'a [
         &slow[start..end]
     } else {
         &fast[start..end]
-    }
-}
-
-// Lays src into the frame of each copy of the page that is meant.
-pub(crate) fn lay_each<F: Fn(Copy) -> bool>(
-    fast: &mut [u8],
-    slow: &mut [u8],
-    p: usize,
-    page: &Page,
-    meant: F,
-    offset: usize,
-    src: &[u8],
-)
-    requires callable { F.IsAlwaysCallable meant }
-    requires room_each { RoomEach (λ c. F.post meant c true) fast.old slow.old p page.now }
-    requires src_bound { offset + length src.now ≤ 64 }
-    ensures { (those : Copy → Bool) → Tells (F.post meant) those
-        → fast.new ++ slow.new ≡ lay_each those (fast.old ++ slow.old)
-        (copies_in_use page.now) offset src.now }
-{
-    for c in page.copies_in_use() {
-        if meant(*c) {
-            lay_frame(fast, slow, p, c.frame as usize, offset, src);
-        }
     }
 }
