@@ -6,7 +6,6 @@ use mathlib.Core.Bool.{Bool, true, false, not, ◌&&◌, ◌||◌}
 use mathlib.Core.List.{List, ◌++◌}
 use native.Mathlib.Omega.{arith}
 use lib.ListN.{length, get_or}
-use lib.Seq.{get_or-take}
 use lib.Dec.{ltb, eqb}
 use borrow.Author.Tests.{ltb-true, ltb-false, eqb-true, le-leb, lt-leb, not-true, not-false}
 use Rattle.tables.specs.declared.Copy.{Copy}
@@ -14,33 +13,31 @@ use Rattle.tables.specs.declared.Page.{Page}
 use Rattle.tables.specs.Lists.{all}
 use Rattle.tables.specs.Model.{copies_in_use, zero_copy}
 use Rattle.tables.proofs.ListLaws.{or_left, or_right, all_at}
-use Rattle.tables.proofs.Loops.{use_low}
 use Rattle.steps.specs.declared.Work.{Work}
 use Rattle.steps.specs.declared.Decision.{Decision}
 use Rattle.steps.specs.Stores.{over}
 use Rattle.steps.specs.Effects.{stored, work_data}
 use Rattle.steps.specs.Promises.{lent, frame_within, clear_within, work_within, carried}
-use Rattle.steps.specs.Private.{Room, RoomEach, WholeFrames, frames_in}
+use Rattle.steps.specs.Private.{Room, EachBelow, frames_in}
 use Rattle.steps.proofs.StoreLaws.{taken_apart}
 use Rattle.steps.proofs.Blocks.{within_low}
 
 -- ---- what is lent
 
-module _ (x y : List ℕ) (whole : WholeFrames x) where
-  -- a frame below the limit is in one of the stores
-  pub room_at : (f : ℕ) → f < frames_in x y → Room x y (length x / 64) f
-  room_at f h = let e = whole in record { split = omega arith; there = omega arith }
+-- a frame below the limit is in one of the stores
+pub room_at : (x y : List ℕ) → length x % 64 ≡ 0 → (f : ℕ) → f < frames_in x y → Room x y (length x / 64) f
+room_at x y whole f h = record { split = omega arith; there = omega arith }
 
-  -- so is that of each copy which lies within
-  pub room_each : (those : Copy → Bool) (g : Page) → all (frame_within those (frames_in x y)) (copies_in_use g) ≡ true
-      → RoomEach those x y (length x / 64) g
-  room_each those g e i h u =
-      room_at _ (within_low those (frames_in x y) (get_or g.copies i zero_copy)
-      (rw (get_or-take g.n g.copies i zero_copy (use_low g i h)) at (all_at (frame_within those (frames_in x y)) (copies_in_use g) i zero_copy e h)) u)
+-- the frame of each copy that lies within is below the limit
+pub each_below : (those : Copy → Bool) (limit : ℕ) (g : Page) → all (frame_within those limit) (copies_in_use g) ≡ true
+    → EachBelow (λ (c : Copy). those c ≡ true) limit g
+each_below those limit g e i h u =
+    within_low those limit (get_or (copies_in_use g) i zero_copy)
+    (all_at (frame_within those limit) (copies_in_use g) i zero_copy e h) u
 
 -- a frame that is filled lies within stores of the same lengths
-pub fill_fits : (x y x' y' : List ℕ) (f : ℕ) → length x' ≡ length x → length y' ≡ length y → WholeFrames x
-    → clear_within (frames_in x y) f ≡ true → WholeFrames x' × (clear_within (frames_in x' y') f ≡ true)
+pub fill_fits : (x y x' y' : List ℕ) (f : ℕ) → length x' ≡ length x → length y' ≡ length y → length x % 64 ≡ 0
+    → clear_within (frames_in x y) f ≡ true → (length x' % 64 ≡ 0) × (clear_within (frames_in x' y') f ≡ true)
 fill_fits x y x' y' f p q w e =
     (ap (λ (n : ℕ). n % 64) p ∙ w, ap₂ (λ (m n : ℕ). clear_within (m / 64 + n / 64) f) p q ∙ e)
 
@@ -62,7 +59,7 @@ module _ (x out : List ℕ) (fit : unfit x out ≡ false) where
   pub out_long : 64 ≤ length out
   out_long = ltb-false (length out) 64 (or_left (ltb (length out) 64) _ fit)
 
-  pub whole_frames : WholeFrames x
+  pub whole_frames : length x % 64 ≡ 0
   whole_frames = eqb-true (length x % 64) 0 (not-false _ (or_right (ltb (length out) 64) _ fit))
 
 -- ---- what is left

@@ -2,49 +2,49 @@
 -- the frames of some copies; the entries that show the copies.
 use Prim.Native.Nat.{ℕ, ◌+◌, ◌*◌, ◌≤◌, ◌<◌}
 use mathlib.Core.Path.{◌≡◌, refl, sym, ap, ◌∙◌}
-use mathlib.Core.Bool.{Bool, true, false}
+use mathlib.Core.Bool.{Bool, true, false, cond}
 use mathlib.Core.List.{List, [], ◌∷◌}
 use native.Mathlib.Omega.{arith}
 use lib.ListN.{length, drop, get_or}
 use Rattle.tables.specs.declared.Copy.{Copy}
-use Rattle.tables.specs.declared.Page.{Page}
-use Rattle.tables.specs.Model.{copies_in_use, zero_copy}
+use Rattle.tables.specs.Model.{zero_copy}
 use Rattle.tables.proofs.ListLaws.{and_intro}
-use Rattle.tables.proofs.Loops.{drop_end, use_more}
+use Rattle.tables.proofs.Loops.{drop_end, drop_more}
 use Rattle.steps.specs.Data.{is_mark, copy_marks_valid, each_is}
-use Rattle.steps.specs.Stores.{splice}
+use Rattle.steps.specs.Stores.{splice, lay_frame}
 use Rattle.steps.specs.Effects.{bit, copies_shown}
 use Rattle.steps.specs.Private.{lay_each}
 use Rattle.steps.proofs.StoreLaws.{splice_next, splice_none}
 
-module _ (g : Page) (j : ℕ) where
-  -- ---- bytes laid into the frame of each copy that is one of `those`
-  module _ (those : Copy → Bool) (o : ℕ) (b : List ℕ) where
-    pub lay_turn : (st st' all : List ℕ) → j < length (copies_in_use g) → st' ≡ lay_each those st (get_or g.copies j zero_copy ∷ []) o b
-        → lay_each those st (drop j (copies_in_use g)) o b ≡ all → lay_each those st' (drop (j + 1) (copies_in_use g)) o b ≡ all
-    unfolding lay_each
-    lay_turn st st' all h e r = rw e (sym (ap (λ (cs : List Copy). lay_each those st cs o b) (use_more g j h)) ∙ r)
+-- ---- bytes laid into the frame of each copy that is one of `those`
+module _ (cs : List Copy) (j : ℕ) (those : Copy → Bool) (o : ℕ) (b : List ℕ) where
+  pub lay_turn : (st st' all : List ℕ) → j < length cs
+      → st' ≡ cond (those (get_or cs j zero_copy)) (lay_frame st (get_or cs j zero_copy).frame o b) st
+      → lay_each those st (drop j cs) o b ≡ all → lay_each those st' (drop (j + 1) cs) o b ≡ all
+  unfolding lay_each
+  lay_turn st st' all h e r = rw e (sym (ap (λ (cs : List Copy). lay_each those st cs o b) (drop_more cs j zero_copy h)) ∙ r)
 
-    pub lay_ended : (st all : List ℕ) → length (copies_in_use g) ≤ j → lay_each those st (drop j (copies_in_use g)) o b ≡ all → st ≡ all
-    unfolding lay_each
-    lay_ended st all h r = sym (ap (λ (cs : List Copy). lay_each those st cs o b) (drop_end (copies_in_use g) j h)) ∙ r
+  pub lay_ended : (st all : List ℕ) → length cs ≤ j → lay_each those st (drop j cs) o b ≡ all → st ≡ all
+  unfolding lay_each
+  lay_ended st all h r = sym (ap (λ (cs : List Copy). lay_each those st cs o b) (drop_end cs j h)) ∙ r
 
-  -- ---- the entries that show the copies, three bytes each
-  pub entries_turn : (out out' all : List ℕ) → j < length (copies_in_use g) → 1 + 3 * j + 3 ≤ length out
-      → out' ≡ splice out (1 + 3 * j) (copies_shown (get_or g.copies j zero_copy ∷ []))
-      → splice out (1 + 3 * j) (copies_shown (drop j (copies_in_use g))) ≡ all → splice out' (1 + 3 * (j + 1)) (copies_shown (drop (j + 1) (copies_in_use g))) ≡ all
+-- ---- the entries that show the copies, three bytes each
+module _ (cs : List Copy) (j : ℕ) where
+  pub entries_turn : (out out' all : List ℕ) → j < length cs → 1 + 3 * j + 3 ≤ length out
+      → out' ≡ splice out (1 + 3 * j) (copies_shown (get_or cs j zero_copy ∷ []))
+      → splice out (1 + 3 * j) (copies_shown (drop j cs)) ≡ all → splice out' (1 + 3 * (j + 1)) (copies_shown (drop (j + 1) cs)) ≡ all
   unfolding copies_shown
   entries_turn out out' all h w e r =
-      let b = copies_shown (get_or g.copies j zero_copy ∷ []) in
+      let b = copies_shown (get_or cs j zero_copy ∷ []) in
       let s : 1 + 3 * (j + 1) ≡ 1 + 3 * j + 3 = omega arith in
       rw (e, s)
-      (splice_next out (1 + 3 * j) b (copies_shown (drop (j + 1) (copies_in_use g))) w
-      ∙ sym (ap (λ (cs : List Copy). splice out (1 + 3 * j) (copies_shown cs)) (use_more g j h)) ∙ r)
+      (splice_next out (1 + 3 * j) b (copies_shown (drop (j + 1) cs)) w
+      ∙ sym (ap (λ (cs : List Copy). splice out (1 + 3 * j) (copies_shown cs)) (drop_more cs j zero_copy h)) ∙ r)
 
-  pub entries_ended : (out all : List ℕ) → length (copies_in_use g) ≤ j → splice out (1 + 3 * j) (copies_shown (drop j (copies_in_use g))) ≡ all → out ≡ all
+  pub entries_ended : (out all : List ℕ) → length cs ≤ j → splice out (1 + 3 * j) (copies_shown (drop j cs)) ≡ all → out ≡ all
   unfolding copies_shown
   entries_ended out all h r =
-      sym (splice_none out (1 + 3 * j)) ∙ sym (ap (λ (cs : List Copy). splice out (1 + 3 * j) (copies_shown cs)) (drop_end (copies_in_use g) j h)) ∙ r
+      sym (splice_none out (1 + 3 * j)) ∙ sym (ap (λ (cs : List Copy). splice out (1 + 3 * j) (copies_shown cs)) (drop_end cs j h)) ∙ r
 
 pub length_shown : (cs : List Copy) → length (copies_shown cs) ≡ 3 * length cs
 unfolding copies_shown

@@ -1,5 +1,4 @@
--- A read as a part of a store. In order: bytes of a frame as a part of the store that has them; the place that a
--- decision shows; the place of a read, which lies within its store and has the data of the step.
+-- A read as a part of a store. In order: the bytes at a place; the place that a decision shows; the place of a read, which lies within its store and has the data of the step.
 use Prim.Native.Nat.{ℕ, ◌+◌, ◌-◌, ◌*◌, ◌≤◌, ◌<◌, zero-le}
 use mathlib.Core.Path.{◌≡◌, refl, sym, ap, subst, ◌∙◌}
 use mathlib.Core.Bool.{Bool, true, false, cond}
@@ -25,32 +24,12 @@ use Rattle.steps.specs.Effects.{shown_of, State, carried_out, step, data_of, fra
 use Rattle.steps.specs.Promises.{decision_on, decision_of, bytes_at, pointer_at, ReadPart}
 use Rattle.steps.specs.Private.{Room, PlaceIn}
 use Rattle.steps.proofs.DecisionLaws.{refused_by}
-use Rattle.steps.proofs.StoreLaws.{length_part, part_fast, part_slow, part_block}
+use Rattle.steps.proofs.StoreLaws.{length_part, frame_in, frame_bytes}
 use Rattle.steps.proofs.DecideLaws.{IfAccepted, if_accepted, past_number}
 use Rattle.steps.proofs.PlanLaws.{read_shows}
 use Rattle.steps.proofs.StepLaws.{fit_lengths, rules_listed, Sure, sure}
 
--- ---- bytes of a frame
-
-module _ (x y : List ℕ) (p f o n : ℕ) (room : Room x y p f) (span : o + n ≤ 64) where
-  -- they lie within the store that has them
-  frame_in : PlaceIn (frame_place p f o n) x y
-  frame_in = go (ltb f p) refl
-    where
-      go : (b : Bool) → ltb f p ≡ b
-          → PlaceIn (cond b (record { slow = false; start = 64 * f + o; len = n }) (record { slow = true; start = 64 * (f - p) + o; len = n })) x y
-      go true e = let h = ltb-true f p e in let r = room.split in omega arith
-      go false e = let h = ltb-false f p e in let r = room.split in let k = room.there in omega arith
-
-  -- and are a part of the frame in the joined stores
-  frame_bytes : bytes_at (frame_place p f o n) x y ≡ part (block (x ++ y) f) o n
-  frame_bytes = go (ltb f p) refl ∙ sym (part_block x y p f room.split o n room.there span)
-    where
-      go : (b : Bool) → ltb f p ≡ b
-          → bytes_at (cond b (record { slow = false; start = 64 * f + o; len = n }) (record { slow = true; start = 64 * (f - p) + o; len = n })) x y
-          ≡ part (x ++ y) (64 * f + o) n
-      go true e = part_fast x y p f room.split o n (ltb-true f p e) span
-      go false e = part_slow x y p f room.split o n (ltb-false f p e)
+-- ---- the bytes at a place
 
 -- as many as the place says
 length_bytes : (place : Place) (x y : List ℕ) → PlaceIn place x y → length (bytes_at place x y) ≡ place.len

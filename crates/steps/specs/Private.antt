@@ -1,20 +1,18 @@
 -- What the private functions of this layer ask of each other and promise. For the proofs alone: no exported contract
 -- names it.
-use Rattle.std.specs.Prelude.{ℕ, ◌+◌, ◌*◌, ◌/◌, ◌%◌, ◌≤◌, ◌<◌, Bool, true, cond, is_some, List, [], ◌∷◌, ◌≡◌, length, get_or}
+use Rattle.std.specs.Prelude.{ℕ, ◌+◌, ◌*◌, ◌/◌, ◌%◌, ◌≤◌, ◌<◌, Bool, cond, is_some, List, [], ◌∷◌, ◌++◌, ◌≡◌, length, get_or}
 use Rattle.tables.specs.declared.Copy.{Copy}
 use Rattle.tables.specs.declared.Page.{Page}
 use Rattle.tables.specs.declared.Tables.{Tables}
 use Rattle.tables.specs.declared.Edit.TheVariants.{Kept}
 use Rattle.tables.specs.Model.{null_frame, copies_in_use, zero_copy, page_at}
-use Rattle.tables.specs.Rules.{is_recent, is_current}
 use Rattle.steps.specs.declared.Kind.{Kind}
 use Rattle.steps.specs.declared.Call.{Call}
-use Rattle.steps.specs.declared.Which.{Which}
-use Rattle.steps.specs.declared.Which.TheVariants.{Current, Recent, Placed}
 use Rattle.steps.specs.declared.Plan.{Plan}
 use Rattle.steps.specs.declared.Decision.{Decision}
 use Rattle.steps.specs.declared.Place.{Place}
-use Rattle.steps.specs.Steps.{plan_of, no_work, is_placed, page_for}
+use Rattle.steps.specs.declared.stores.Stores.{Stores}
+use Rattle.steps.specs.Steps.{plan_of, no_work, page_for}
 use Rattle.steps.specs.Stores.{lay_frame}
 use Rattle.steps.specs.Effects.{moves, tables_after}
 use Rattle.steps.specs.Promises.{change_for, settled}
@@ -43,29 +41,42 @@ pub record Room (fast slow : List ℕ) (p f : ℕ) : Type 0 where
   pub split : length fast ≡ 64 * p
   pub there : 64 * f + 64 ≤ length fast + length slow
 
--- the frame of each copy of page g of which `those` holds stands in one of the two stores
-abbrev pub RoomEach : (Copy → Bool) → List ℕ → List ℕ → ℕ → Page → Type 0
-RoomEach those fast slow p g =
-    (i : ℕ) → i < length (copies_in_use g) → those (get_or g.copies i zero_copy) ≡ true
-    → Room fast slow p (get_or g.copies i zero_copy).frame
-
 -- a place lies within its store
 abbrev pub PlaceIn : Place → List ℕ → List ℕ → Type 0
 PlaceIn place fast slow = place.start + place.len ≤ length (cond place.slow slow fast)
-
--- the fast store is a whole number of frames
-abbrev pub WholeFrames : List ℕ → Type 0
-WholeFrames fast = length fast % 64 ≡ 0
 
 -- how many frames two stores have
 abbrev pub frames_in : List ℕ → List ℕ → ℕ
 frames_in fast slow = length fast / 64 + length slow / 64
 
--- the copies that `Which` names
-abbrev pub chosen : Which → Copy → Bool
-chosen Current = is_current
-chosen Recent = is_recent
-chosen Placed = is_placed
+-- of the two stores that are lent: all their bytes, and how many frames they have
+abbrev pub bytes_of : Stores → List ℕ
+bytes_of s = s.fast.now ++ s.slow.now
+
+abbrev pub frames_lent : Stores → ℕ
+frames_lent s = frames_in s.fast.now s.slow.now
+
+-- the fast store is a whole number of frames
+abbrev pub WholeFrames : Stores → Type 0
+WholeFrames s = length s.fast.now % 64 ≡ 0
+
+-- the same two stores, as long as before
+abbrev pub Same : Stores → Stores → Type 0
+Same s s' =
+    (s'.fast.ghost_name ≡ s.fast.ghost_name)
+    × (s'.slow.ghost_name ≡ s.slow.ghost_name)
+    × (length s'.fast.now ≡ length s.fast.now)
+    × (length s'.slow.now ≡ length s.slow.now)
+
+-- the frame of each copy of page g that is meant is below the limit
+abbrev pub EachBelow : (Copy → Type 0) → ℕ → Page → Type 0
+EachBelow meant limit g =
+    (i : ℕ) → i < length (copies_in_use g) → meant (get_or (copies_in_use g) i zero_copy)
+    → (get_or (copies_in_use g) i zero_copy).frame < limit
+
+-- what a closure answers of a copy is whether the copy is one of `those`
+abbrev pub Tells : (Copy → Bool → Type 0) → (Copy → Bool) → Type 0
+Tells answers those = (c : Copy) (answer : Bool) → answers c answer → answer ≡ those c
 
 -- the stores with b laid, from offset o on, into the frame of each copy that is one of `those`: as the loop goes
 unfoldable pub lay_each : (Copy → Bool) → List ℕ → List Copy → ℕ → List ℕ → List ℕ

@@ -1,17 +1,16 @@
 // Steps 4 and 5: a station reads and writes.
-#![tactic(auto, unfolding(crate::specs::Steps::perform), using(crate::proofs::GuardLaws::guards))]
+#![tactic(auto, unfolding(crate::specs::Steps::perform), using(crate::proofs::GuardLaws::guards, tables::proofs::ListLaws::count_is))]
 
 ghost use Rattle.std.specs.Prelude.{◌≡◌, ℕ, ◌≤◌};
 ghost use Rattle.steps.specs.declared.Kind.TheVariants.{Read, Write};
 ghost use Rattle.steps.specs.Rights.{allows};
 ghost use Rattle.tables.specs.Numbers.{answer_number};
 ghost use Rattle.steps.specs.Steps.{outcome_of, right_of, lacks_right, perform};
-ghost use Rattle.std.specs.List.{find};
+ghost use Rattle.std.specs.List.{find, count_by};
 ghost use Rattle.tables.specs.Model.{copies_in_use};
 ghost use Rattle.tables.specs.Rules.{is_current};
 
-use crate::each::count_of;
-use crate::{Act, Call, Lay, Plan, Show, View, Which};
+use crate::{Act, Call, Lay, Plan, Show, View};
 use tables::{Copy, Edit, Page, Refusal};
 
 // The right of a station at a page.
@@ -51,6 +50,13 @@ fn first_current(page: Page) -> Option<Copy>
     page.copies_in_use().iter().copied().find(|c| c.current)
 }
 
+// How many copies are CURRENT.
+fn currents(page: &Page) -> usize
+    ensures { (result ≡ count_by is_current (copies_in_use page.now)) × (result ≤ 8) }
+{
+    page.copies_in_use().iter().filter(|c| c.current).count()
+}
+
 // 9 and 10 of an act on a page.
 fn lacks_right(page: Page, station: u8, act: Act) -> Result<(), Refusal>
     ensures { answer_number result ≡ lacks_right page station act }
@@ -88,7 +94,7 @@ pub(crate) fn write_page(view: View, call: Call, size: usize) -> Result<Plan, Re
 {
     let page = view.page;
     lacks_right(page, call.station, Act::Write)?;
-    let k = count_of(page, Which::Current);
+    let k = currents(&page);
     if k == 0 {
         return Err(Refusal::NothingCurrent);
     }

@@ -1,13 +1,15 @@
 // Steps 6 to 9: the copies of a page.
-#![tactic(auto, unfolding(crate::specs::Steps::perform), using(crate::proofs::GuardLaws::guards))]
+#![tactic(auto, unfolding(crate::specs::Steps::perform), using(crate::proofs::GuardLaws::guards, tables::proofs::ListLaws::count_is))]
 
 ghost use Rattle.std.specs.Prelude.{◌≡◌, ℕ};
+ghost use Rattle.std.specs.List.{count_by};
 ghost use Rattle.tables.specs.Numbers.{answer_number};
+ghost use Rattle.tables.specs.Model.{copies_in_use};
+ghost use Rattle.tables.specs.Rules.{is_recent};
 ghost use Rattle.steps.specs.declared.Kind.TheVariants.{MakeCopy, DeleteCopy, SetCurrent, RemoveCurrent};
 ghost use Rattle.steps.specs.Steps.{accept, outcome_of, copy_at, lacks_copy, copying, perform};
 
-use crate::each::count_of;
-use crate::{Call, Lay, Plan, View, Which};
+use crate::{Call, Lay, Plan, View};
 use tables::{Copy, Edit, NULL_FRAME, Page, Refusal};
 
 // Copy k of the page.
@@ -32,6 +34,13 @@ fn lacks_copy(page: Page, k: u8) -> Result<(), Refusal>
         return Err(Refusal::NoCopy);
     }
     Ok(())
+}
+
+// How many copies are MOST RECENT.
+fn recents(page: &Page) -> usize
+    ensures { result ≡ count_by is_recent (copies_in_use page.now) }
+{
+    page.copies_in_use().iter().filter(|c| c.recent).count()
 }
 
 // Copy c brought to a free frame.
@@ -76,8 +85,7 @@ pub(crate) fn delete_copy(view: View, call: Call) -> Result<Plan, Refusal>
     let page = view.page;
     lacks_copy(page, call.copy)?;
     let c = copy_at(page, call.copy);
-    let recents = count_of(page, Which::Recent);
-    if c.recent & (recents == 1) {
+    if c.recent && recents(&page) == 1 {
         return Err(Refusal::LastRecent);
     }
     Ok(Plan::clearing(Edit::Removed { copy: call.copy }, c.frame))

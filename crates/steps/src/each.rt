@@ -1,52 +1,28 @@
 // The copies of a page that a step is about, one by one.
-ghost use Rattle.std.specs.Prelude.{◌≡◌, ◌≤◌};
-ghost use Rattle.tables.specs.Lists.{all, count};
+ghost use Rattle.std.specs.Prelude.{◌≡◌, Bool};
+ghost use Rattle.std.specs.List.{list_all};
+ghost use Rattle.tables.specs.declared.Copy.{Copy};
 ghost use Rattle.tables.specs.Model.{copies_in_use};
 ghost use Rattle.steps.specs.Promises.{frame_within};
-ghost use Rattle.steps.specs.Private.{chosen};
+ghost use Rattle.steps.specs.Steps.{is_placed};
+ghost use Rattle.steps.specs.Private.{Tells};
 
-use crate::Which;
 use tables::{Copy, NULL_FRAME, Page};
 
-// Whether `which` names the copy.
-pub(crate) fn is_chosen(c: Copy, which: Which) -> bool
-    ensures { result ≡ chosen which c }
+// Whether the copy has a frame.
+pub(crate) fn is_placed(c: Copy) -> bool
+    ensures { result ≡ is_placed c }
 {
-    match which {
-        Which::Current => c.current,
-        Which::Recent => c.recent,
-        Which::Placed => c.frame != NULL_FRAME,
-    }
+    c.frame != NULL_FRAME
 }
 
-// How many copies of the page are those that `which` means.
-pub(crate) fn count_of(page: Page, which: Which) -> usize
-    ensures { (result ≡ count (chosen which) (copies_in_use page)) × (result ≤ 8) }
+// Whether the frames of the copies that are meant are below the limit.
+pub(crate) fn frames_within<F: Fn(Copy) -> bool>(page: &Page, meant: F, limit: usize) -> bool
+    requires { F.IsAlwaysCallable meant }
+    ensures { (those : Copy → Bool) → Tells (F.post meant) those
+        → result ≡ list_all (frame_within those limit) (copies_in_use page.now) }
 {
-    let n = page.in_use();
-    let mut j: usize = 0;
-    let mut k: usize = 0;
-    while j < n {
-        if is_chosen(page.copies[j], which) {
-            k += 1;
-        }
-        j += 1;
-    }
-    k
-}
-
-// Whether the frames of the copies that `which` means are below the limit.
-pub(crate) fn frames_within(page: Page, which: Which, limit: usize) -> bool
-    ensures { result ≡ all (frame_within (chosen which) limit) (copies_in_use page) }
-{
-    let n = page.in_use();
-    let mut j: usize = 0;
-    while j < n {
-        let c = page.copies[j];
-        if is_chosen(c, which) & (c.frame as usize >= limit) {
-            return false;
-        }
-        j += 1;
-    }
-    true
+    page.copies_in_use()
+        .iter()
+        .all(|c| !meant(*c) || (c.frame as usize) < limit)
 }

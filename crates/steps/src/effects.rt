@@ -4,15 +4,13 @@ ghost use Rattle.std.specs.Prelude.{◌≡◌, [], ◌++◌, ℕ, ◌+◌, ◌�
 ghost use Rattle.steps.specs.Stores.{over};
 ghost use Rattle.steps.specs.Effects.{laid_in, cleared_in, shown_of, step, read_call, no_place, shown_at, read_place};
 ghost use Rattle.steps.specs.Promises.{state_of, lent, lay_within, show_within, clear_within, carried, Stepped, ReadPart};
-ghost use Rattle.steps.specs.Private.{WholeFrames, frames_in};
+ghost use Rattle.steps.specs.Private.{WholeFrames, Same, bytes_of, frames_lent};
 
 use crate::decisions::{decide_any, settle};
-use crate::each::frames_within;
+use crate::each::{frames_within, is_placed};
 use crate::looks::{show_holder, show_page};
-use crate::stores::{
-    clear_frame, clear_page, copy_frame, frame_part, frame_place, lay_each, part_at, put,
-};
-use crate::{Call, Decision, Done, Kind, Lay, Place, Show, Which, Work};
+use crate::stores::{Stores, frame_place, part_at, put};
+use crate::{Call, Decision, Done, Kind, Lay, Place, Show, Work};
 use tables::{NULL_FRAME, Page, Tables};
 
 // Whether so many bytes from an offset on lie within a page.
@@ -20,10 +18,7 @@ fn span_within(offset: u8, count: usize) -> bool
     ensures { result ≡ leb (offset + count) 64 }
 {
     let o = offset as usize;
-    if o > 64 {
-        return false;
-    }
-    count <= 64 - o
+    o <= 64 && count <= 64 - o
 }
 
 // Whether what is laid lies within stores of so many frames, where a write has `size` bytes.
@@ -33,10 +28,10 @@ fn lay_within(page: Page, lay: Lay, frames: usize, size: usize) -> bool
     match lay {
         Lay::Nothing => true,
         Lay::Zeros { frame } => (frame as usize) < frames,
-        Lay::ZerosEach => frames_within(page, Which::Placed, frames),
+        Lay::ZerosEach => frames_within(&page, is_placed, frames),
         Lay::Duplicate { from, to } => ((from as usize) < frames) & ((to as usize) < frames),
         Lay::Spread { offset } => {
-            span_within(offset, size) & frames_within(page, Which::Current, frames)
+            span_within(offset, size) && frames_within(&page, |c| c.current, frames)
         }
     }
 }
@@ -60,52 +55,47 @@ fn clear_within(frame: u8, frames: usize) -> bool
 }
 
 // Shows in the reply `len` bytes of the stores, or what the tables say of the page or of a frame.
-fn show_in<'a>(page: Page, show: Show, len: usize, fast: &'a [u8], slow: &'a [u8], out: &mut [u8])
-    requires whole_frames { WholeFrames fast.now }
+#[tactic(auto, unfolding(crate::specs::Effects::shown_of), using(crate::proofs::StoreLaws::splice_front))]
+fn show_in(page: Page, show: Show, len: usize, stores: &Stores, out: &mut [u8])
+    requires whole { WholeFrames stores.now }
     requires in_bounds { 64 ≤ length out.old }
-    requires show_value { show_within len (frames_in fast.now slow.now) show ≡ true }
-    ensures { out.new ≡ over (shown_of page show len (fast.now ++ slow.now))
-        out.old }
+    requires show_value { show_within len (frames_lent stores.now) show ≡ true }
+    ensures { out.new ≡ over (shown_of page show len (bytes_of stores.now)) out.old }
 {
     match show {
-        Show::Frame { frame, offset } => {
-            let p = fast.len() / 64;
-            let part = frame_part(fast, slow, p, frame as usize, offset as usize, len);
-            put(out, 0, part);
-        }
+        Show::Frame { frame, offset } => put(out, 0, stores.part(frame, offset, len)),
         Show::Page => show_page(page, out),
         Show::Holder { holder } => show_holder(holder, out),
     }
 }
 
 // Lays bytes into the stores.
-fn lay_in(page: Page, lay: Lay, bytes: &[u8], fast: &mut [u8], slow: &mut [u8])
-    requires whole_frames { WholeFrames fast.old }
-    requires lay_value { lay_within page (frames_in fast.old slow.old) (length bytes.now) lay ≡ true }
-    ensures { fast.new ++ slow.new ≡ laid_in page lay bytes.now
-        (fast.old ++ slow.old) }
+#[tactic(auto, unfolding(crate::specs::Effects::laid_frames, crate::specs::Stores::lay_frames))]
+fn lay_in(page: Page, lay: Lay, bytes: &[u8], stores: &mut Stores)
+    requires whole { WholeFrames stores.old }
+    requires lay_value { lay_within page (frames_lent stores.old) (length bytes.now) lay ≡ true }
+    ensures same { Same stores.old stores.new }
+    ensures laid { bytes_of stores.new ≡ laid_in page lay bytes.now (bytes_of stores.old) }
 {
-    let p = fast.len() / 64;
     match lay {
         Lay::Nothing => {}
-        Lay::Zeros { frame } => clear_frame(fast, slow, p, frame as usize),
-        Lay::ZerosEach => clear_page(fast, slow, p, page),
-        Lay::Duplicate { from, to } => copy_frame(fast, slow, p, from as usize, to as usize),
-        Lay::Spread { offset } => {
-            lay_each(fast, slow, p, page, Which::Current, offset as usize, bytes);
-        }
+        Lay::Zeros { frame } => stores.clear(frame),
+        Lay::ZerosEach => stores.lay_each(&page, is_placed, 0, &[0; 64]),
+        Lay::Duplicate { from, to } => stores.copy(from, to),
+        Lay::Spread { offset } => stores.lay_each(&page, |c| c.current, offset, bytes),
     }
 }
 
 // Fills a frame that is freed, if there is one.
-fn clear_in(frame: u8, fast: &mut [u8], slow: &mut [u8])
-    requires whole_frames { WholeFrames fast.old }
-    requires frame_value { clear_within (frames_in fast.old slow.old) frame ≡ true }
-    ensures { fast.new ++ slow.new ≡ cleared_in frame (fast.old ++ slow.old) }
+#[tactic(auto, unfolding(crate::specs::Stores::lay_frames))]
+fn clear_in(frame: u8, stores: &mut Stores)
+    requires whole { WholeFrames stores.old }
+    requires frame_value { clear_within (frames_lent stores.old) frame ≡ true }
+    ensures same { Same stores.old stores.new }
+    ensures laid { bytes_of stores.new ≡ cleared_in frame (bytes_of stores.old) }
 {
     if frame != NULL_FRAME {
-        let p = fast.len() / 64;
-        clear_frame(fast, slow, p, frame as usize);
+        stores.clear(frame);
     }
 }
 
@@ -119,20 +109,18 @@ pub fn carry(d: Decision, bytes: &[u8], fast: &mut [u8], slow: &mut [u8], out: &
         return;
     }
     let page = d.before;
-    let work = d.work;
     let frames = fast.len() / 64 + slow.len() / 64;
-    match work {
+    let mut stores = Stores { fast, slow };
+    match d.work {
         Work::Shows { show } => {
             if show_within(show, frames, d.len) {
-                show_in(page, show, d.len, &fast[..], &slow[..], out);
+                show_in(page, show, d.len, &stores, out);
             }
         }
         Work::Lays { lay, clears } => {
-            if clear_within(clears, frames) {
-                if lay_within(page, lay, frames, bytes.len()) {
-                    lay_in(page, lay, bytes, fast, slow);
-                    clear_in(clears, fast, slow);
-                }
+            if clear_within(clears, frames) && lay_within(page, lay, frames, bytes.len()) {
+                lay_in(page, lay, bytes, &mut stores);
+                clear_in(clears, &mut stores);
             }
         }
     }

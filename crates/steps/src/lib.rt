@@ -90,15 +90,6 @@ pub enum Act {
     Write,
 }
 
-// Which copies of a page a step is about.
-#[derive(Clone, Copy)]
-pub enum Which {
-    Current,
-    Recent,
-    // Those that have a frame.
-    Placed,
-}
-
 // What a step lays into the stores.
 #[derive(Clone, Copy)]
 pub enum Lay {

@@ -17,16 +17,15 @@ use tables::{Copy, Holder, Page, Refusal};
 fn bit_of(b: bool) -> u8
     ensures { result ≡ bit b }
 {
-    if b { 1 } else { 0 }
+    u8::from(b)
 }
 
 // The three bytes that show a copy.
+#[tactic(auto, unfolding(crate::specs::Effects::copies_shown))]
 fn copy_shown(c: Copy) -> [u8; 3]
     ensures { result ≡ copies_shown (c ∷ []) }
 {
-    let current = bit_of(c.current);
-    let recent = bit_of(c.recent);
-    [c.frame, current, recent]
+    [c.frame, bit_of(c.current), bit_of(c.recent)]
 }
 
 pub(crate) fn look_page(view: View) -> Result<Plan, Refusal>
@@ -36,8 +35,7 @@ pub(crate) fn look_page(view: View) -> Result<Plan, Refusal>
     if page.n == 0 {
         return Err(Refusal::NoPage);
     }
-    let n = page.in_use();
-    Ok(Plan::showing(1 + 3 * n, Show::Page))
+    Ok(Plan::showing(1 + 3 * page.in_use(), Show::Page))
 }
 
 pub(crate) fn look_frame(view: View) -> Plan
@@ -52,22 +50,17 @@ pub(crate) fn show_page(page: Page, out: &mut [u8])
     requires { 25 ≤ length out.old }
     ensures { out.new ≡ over (page.n ∷ copies_shown (copies_in_use page)) out.old }
 {
-    let n = page.in_use();
     out[0] = page.n;
-    let mut j: usize = 0;
-    while j < n {
-        let c = page.copies[j];
-        let b = copy_shown(c);
-        put(out, 1 + 3 * j, &b);
-        j += 1;
+    for (k, c) in page.copies_in_use().iter().enumerate() {
+        put(out, 1 + 3 * k, &copy_shown(*c));
     }
 }
 
 // Shows the holder of a frame at the front of the buffer.
+#[tactic(auto, using(crate::proofs::StoreLaws::splice_front))]
 pub(crate) fn show_holder(holder: Holder, out: &mut [u8])
     requires { 3 ≤ length out.old }
     ensures { out.new ≡ over (shown holder) out.old }
 {
-    let b = holder.bytes();
-    put(out, 0, &b);
+    put(out, 0, &holder.bytes());
 }

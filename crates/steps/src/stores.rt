@@ -1,117 +1,114 @@
-// The two lent stores: frame f is in the fast one where f is below p, and else in the slow one.
-ghost use Rattle.std.specs.Prelude.{◌≡◌, true, [], ◌∷◌, ◌++◌, ◌+◌, ◌≤◌, length};
+// The two lent stores: frame f is in the fast one where f is below P, and else in the slow one.
+ghost use Rattle.std.specs.Prelude.{◌≡◌, Bool, true, ◌++◌, ◌+◌, ◌<◌, ◌≤◌, length};
+ghost use Rattle.tables.specs.declared.Copy.{Copy};
 ghost use Rattle.tables.specs.Model.{copies_in_use};
 ghost use Rattle.steps.specs.Stores.{part, splice, spliced_within, block, lay_frame, zeros};
-ghost use Rattle.steps.specs.Steps.{is_placed};
 ghost use Rattle.steps.specs.Effects.{frame_place};
 ghost use Rattle.steps.specs.Promises.{bytes_at, pointer_at};
-ghost use Rattle.steps.specs.Private.{chosen, Room, RoomEach, PlaceIn, lay_each};
+ghost use Rattle.steps.specs.Private.{PlaceIn, Tells, WholeFrames, EachBelow, Same, bytes_of, frames_lent, lay_each};
 
-use crate::each::is_chosen;
-use crate::{Place, Which};
+use crate::Place;
 use tables::{Copy, Page};
 
 // Lays all of src into dst from index at on.
+#[tactic(auto, using(crate::proofs::StoreLaws::put_span))]
 pub(crate) fn put(dst: &mut [u8], at: usize, src: &[u8])
     requires { at + length src.now ≤ length dst.old }
     ensures { dst.new ≡ splice dst.old at src.now }
 {
-    let mut j = 0;
-    while j < src.len() {
-        dst[at + j] = src[j];
-        j += 1;
-    }
+    dst[at..at + src.len()].copy_from_slice(src);
 }
 
 // Puts src into dst from `at` on, for any lengths: where src does not fit, dst is left as it was.
 pub fn lay_bytes(dst: &mut [u8], at: usize, src: &[u8])
     ensures { dst.new ≡ spliced_within dst.old at src.now }
 {
-    if at <= dst.len() {
-        if src.len() <= dst.len() - at {
-            put(dst, at, src);
+    if at <= dst.len() && src.len() <= dst.len() - at {
+        put(dst, at, src);
+    }
+}
+
+// The two lent stores as one: the bytes of the fast store, and then those of the slow one.
+#[derive(Drop)]
+pub(crate) struct Stores<'a> {
+    pub fast: &'a mut [u8],
+    pub slow: &'a mut [u8],
+}
+
+impl Stores<'_> {
+    // Bytes of a frame, as a part of the store that has them.
+    pub(crate) fn part(&self, frame: u8, offset: u8, len: usize) -> &[u8]
+        requires whole { WholeFrames self.now }
+        requires low { frame < frames_lent self.now }
+        requires span { offset + len ≤ 64 }
+        ensures bytes { result.now ≡ part (block (bytes_of self.now) frame) offset len }
+        ensures len { length result.now ≡ len }
+    {
+        let place = frame_place(self.fast.len() / 64, frame, offset, len);
+        part_at(self.fast, self.slow, place)
+    }
+
+    // Lays src into a frame from an offset on.
+    fn lay(&mut self, frame: u8, offset: u8, src: &[u8])
+        requires whole { WholeFrames self.old }
+        requires low { frame < frames_lent self.old }
+        requires span { offset + length src.now ≤ 64 }
+        ensures same { Same self.old self.new }
+        ensures laid { bytes_of self.new ≡ lay_frame (bytes_of self.old) frame offset src.now }
+    {
+        let place = frame_place(self.fast.len() / 64, frame, offset, src.len());
+        if place.slow {
+            put(self.slow, place.start, src);
+        } else {
+            put(self.fast, place.start, src);
         }
     }
-}
 
-// The 64 bytes of s from index at on. Through a local array a frame is moved by a fixed 64-byte copy.
-fn block_at(s: &[u8], at: usize) -> [u8; 64]
-    requires { at + 64 ≤ length s.now }
-    ensures { result ≡ part s.now at 64 }
-{
-    let mut b = [0u8; 64];
-    put(&mut b, 0, &s[at..at + 64]);
-    b
-}
-
-// The bytes of a frame.
-fn load(fast: &[u8], slow: &[u8], p: usize, frame: usize) -> [u8; 64]
-    requires { Room fast.now slow.now p frame }
-    ensures { result ≡ block (fast.now ++ slow.now) frame }
-{
-    if frame < p {
-        block_at(fast, 64 * frame)
-    } else {
-        block_at(slow, 64 * (frame - p))
+    // Sets a frame to zeros.
+    pub(crate) fn clear(&mut self, frame: u8)
+        requires whole { WholeFrames self.old }
+        requires low { frame < frames_lent self.old }
+        ensures same { Same self.old self.new }
+        ensures laid { bytes_of self.new ≡ lay_frame (bytes_of self.old) frame 0 zeros }
+    {
+        self.lay(frame, 0, &[0; 64]);
     }
-}
 
-// Lays src into a frame from an offset on.
-fn lay_frame(fast: &mut [u8], slow: &mut [u8], p: usize, frame: usize, offset: usize, src: &[u8])
-    requires room { Room fast.old slow.old p frame }
-    requires src_bound { offset + length src.now ≤ 64 }
-    ensures { fast.new ++ slow.new
-        ≡ lay_frame (fast.old ++ slow.old) frame offset
-        src.now }
-{
-    if frame < p {
-        put(fast, 64 * frame + offset, src);
-    } else {
-        put(slow, 64 * (frame - p) + offset, src);
+    // Copies a frame onto another, in either store or across. Through a local array it is moved by a fixed 64-byte copy.
+    pub(crate) fn copy(&mut self, from: u8, to: u8)
+        requires whole { WholeFrames self.old }
+        requires from_low { from < frames_lent self.old }
+        requires to_low { to < frames_lent self.old }
+        ensures same { Same self.old self.new }
+        ensures laid { bytes_of self.new ≡ lay_frame (bytes_of self.old) to 0 (block (bytes_of self.old) from) }
+    {
+        let mut block = [0; 64];
+        block.copy_from_slice(self.part(from, 0, 64));
+        self.lay(to, 0, &block);
     }
-}
 
-// Sets a frame to zeros.
-pub(crate) fn clear_frame(fast: &mut [u8], slow: &mut [u8], p: usize, frame: usize)
-    requires { Room fast.old slow.old p frame }
-    ensures { fast.new ++ slow.new
-        ≡ lay_frame (fast.old ++ slow.old) frame 0 zeros }
-{
-    let z = [0u8; 64];
-    lay_frame(fast, slow, p, frame, 0, &z);
-}
-
-// Copies a frame onto another, in either store or across.
-pub(crate) fn copy_frame(fast: &mut [u8], slow: &mut [u8], p: usize, from: usize, to: usize)
-    requires room { Room fast.old slow.old p from }
-    requires room_2 { Room fast.old slow.old p to }
-    ensures { fast.new ++ slow.new
-        ≡ lay_frame (fast.old ++ slow.old) to 0
-        (block (fast.old ++ slow.old) from) }
-{
-    let b = load(&fast[..], &slow[..], p, from);
-    lay_frame(fast, slow, p, to, 0, &b);
-}
-
-// Bytes of a frame, as a part of the store that has them.
-pub(crate) fn frame_part<'a>(
-    fast: &'a [u8],
-    slow: &'a [u8],
-    p: usize,
-    frame: usize,
-    offset: usize,
-    count: usize,
-) -> &'a [u8]
-    requires room { Room fast.now slow.now p frame }
-    requires count_bound { offset + count ≤ 64 }
-    ensures { result.now ≡ part (block (fast.now ++ slow.now) frame) offset count }
-{
-    if frame < p {
-        let a = 64 * frame + offset;
-        &fast[a..a + count]
-    } else {
-        let a = 64 * (frame - p) + offset;
-        &slow[a..a + count]
+    // Lays src into the frame of each copy of the page that is meant.
+    pub(crate) fn lay_each<F: Fn(Copy) -> bool>(
+        &mut self,
+        page: &Page,
+        meant: F,
+        offset: u8,
+        src: &[u8],
+    )
+        requires callable { F.IsAlwaysCallable meant }
+        requires whole { WholeFrames self.old }
+        requires low { EachBelow (λ c. F.post meant c true) (frames_lent self.old) page.now }
+        requires span { offset + length src.now ≤ 64 }
+        ensures same { Same self.old self.new }
+        ensures laid { (those : Copy → Bool) → Tells (F.post meant) those
+            → bytes_of self.new ≡ lay_each those (bytes_of self.old) (copies_in_use page.now) offset
+            src.now }
+    {
+        for c in page.copies_in_use() {
+            if meant(*c) {
+                self.lay(c.frame, offset, src);
+            }
+        }
     }
 }
 
@@ -149,59 +146,4 @@ pub(crate) fn part_at<'a>(fast: &'a [u8], slow: &'a [u8], place: Place) -> &'a [
     } else {
         &fast[start..end]
     }
-}
-
-// Lays src into the copy's frame where `which` names the copy.
-fn lay_copy(
-    fast: &mut [u8],
-    slow: &mut [u8],
-    p: usize,
-    c: Copy,
-    which: Which,
-    offset: usize,
-    src: &[u8],
-)
-    requires room { chosen which c ≡ true → Room fast.old slow.old p c.frame }
-    requires src_bound { offset + length src.now ≤ 64 }
-    ensures { fast.new ++ slow.new ≡ lay_each (chosen which)
-        (fast.old ++ slow.old) (c ∷ []) offset src.now }
-{
-    if is_chosen(c, which) {
-        let f = c.frame as usize;
-        lay_frame(fast, slow, p, f, offset, src);
-    }
-}
-
-// Lays src into the frame of each copy of the page that `which` names.
-pub(crate) fn lay_each(
-    fast: &mut [u8],
-    slow: &mut [u8],
-    p: usize,
-    page: Page,
-    which: Which,
-    offset: usize,
-    src: &[u8],
-)
-    requires room_each { RoomEach (chosen which) fast.old slow.old p page }
-    requires src_bound { offset + length src.now ≤ 64 }
-    ensures { fast.new ++ slow.new ≡ lay_each (chosen which)
-        (fast.old ++ slow.old) (copies_in_use page) offset src.now }
-{
-    let n = page.in_use();
-    let mut j: usize = 0;
-    while j < n {
-        let c = page.copies[j];
-        lay_copy(fast, slow, p, c, which, offset, src);
-        j += 1;
-    }
-}
-
-// Sets the frame of each copy of the page that has one to zeros, in one pass.
-pub(crate) fn clear_page(fast: &mut [u8], slow: &mut [u8], p: usize, page: Page)
-    requires { RoomEach is_placed fast.old slow.old p page }
-    ensures { fast.new ++ slow.new ≡ lay_each is_placed (fast.old ++ slow.old)
-        (copies_in_use page) 0 zeros }
-{
-    let zeros = [0u8; 64];
-    lay_each(fast, slow, p, page, Which::Placed, 0, &zeros);
 }

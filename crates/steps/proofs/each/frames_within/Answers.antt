@@ -1,32 +1,13 @@
--- `frames_within`. The answer is that of the copies from j on.
-use mathlib.Core.Path.{refl, sym, ◌∙◌}
-use native.Mathlib.Omega.{arith}
-use Rattle.tables.specs.Lists.{all}
-use Rattle.tables.specs.Model.{copies_in_use}
-use Rattle.tables.proofs.Loops.{drop_end, use_more}
-use borrow.Author.Rules.{rules}
+-- `frames_within`, copy by copy.
+use mathlib.Core.Path.{refl, ◌∙◌}
+use Rattle.std.proofs.Common.{rules}
+use borrow.Author.Tests.{tests}
+use Rattle.std.proofs.lemmas.Iterator.{YieldsList-from_slice}
+use Rattle.std.proofs.lemmas.Iterator.Search.{all_from_yields_List}
+use Rattle.steps.specs.Promises.{frame_within}
 use Rattle.steps.proofs.each.frames_within.Goals as goal
 
-pub loop-j-init : goal.loop-j-init
-loop-j-init c = (c.in_use-n.ensures.0, c.in_use-n.ensures.1, search rules, refl)
-
-pub returns-then-is_chosen-c : goal.returns-then-is_chosen-c
-unfolding all
-returns-then-is_chosen-c c =
-    let v = c.loop-j in
-    let g = c.args.page in
-    sym (v.invariant.3 ∙ rw (use_more g v.j (omega arith), rw c.is_chosen.ensures at c.if-is_chosen-c.true))
-
-pub loop-j-preserved : goal.loop-j-preserved
-unfolding all
-loop-j-preserved c =
-    let v = c.loop-j in
-    let g = c.args.page in
-    (v.invariant.0, v.invariant.1, search rules, v.invariant.3 ∙ rw (use_more g v.j (omega arith), rw c.is_chosen.ensures at c.if-is_chosen-c.false))
-
 pub returns : goal.returns
-unfolding all
-returns c =
-    let v = c.loop-j in
-    let g = c.args.page in
-    sym (v.invariant.3 ∙ rw (drop_end (copies_in_use g) v.j (omega arith)))
+returns g c = λ those tells.
+    all_from_yields_List (frame_within those c.args.limit) _ _ _ c.all.ensures.ran (YieldsList-from_slice c.copies_in_use.result.now cc) (λ x b q k. search (rules, tests, tells))
+    ∙ rw c.copies_in_use.ensures.items refl

@@ -1,18 +1,16 @@
--- `lay_within`, case by case.
-use mathlib.Core.Path.{ap}
-use mathlib.Core.Bool.{Bool, ◌&&◌}
+-- `lay_within`: the frames of the copies that are meant.
+use mathlib.Core.Path.{sym, ◌∙◌}
+use Rattle.std.proofs.Common.{rules}
+use Rattle.tables.specs.Rules.{is_current}
+use Rattle.tables.proofs.ListLaws.{all_is}
+use Rattle.steps.specs.Steps.{is_placed}
 use Rattle.steps.proofs.effects.lay_within.Goals as goal
 
-pub returns-in-Zeros : goal.returns-in-Zeros
-returns-in-Zeros c = rw c.in-Zeros.is
-
 pub returns-in-ZerosEach : goal.returns-in-ZerosEach
-returns-in-ZerosEach c = rw c.in-ZerosEach.is c.frames_within.ensures
+returns-in-ZerosEach c =
+    rw c.in-ZerosEach.is (c.frames_within.ensures is_placed (λ c answer h. search rules) ∙ all_is _ _)
 
-pub returns-in-Duplicate : goal.returns-in-Duplicate
-returns-in-Duplicate c = rw c.in-Duplicate.is
-
-pub returns-in-Spread : goal.returns-in-Spread
-returns-in-Spread c =
-    rw (c.in-Spread.is, ← c.span_within.ensures)
-    (ap (λ (b : Bool). c.span_within.result && b) c.frames_within-in-Spread.ensures)
+pub returns-then-span_within : goal.returns-then-span_within
+returns-then-span_within c =
+    rw (c.in-Spread.is, sym c.span_within.ensures ∙ c.if-span_within.true)
+    (c.frames_within-then-span_within.ensures is_current (λ c answer h. search rules) ∙ all_is _ _)
