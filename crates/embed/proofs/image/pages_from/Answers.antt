@@ -1,16 +1,12 @@
--- `pages_from`. The pages before i are read.
-use mathlib.Core.Path.{refl}
-use native.Mathlib.Omega.{arith}
-use lib.Seq.{drop-drop}
+-- `pages_from` reads a row of pages.
+use mathlib.Core.Path.{ap}
+use borrow.Author.Rules.{rules}
 use Rattle.tables.specs.Model.{zero_page}
-use Rattle.embed.proofs.Rows.{read_none, read_more, read_all}
+use Rattle.embed.specs.Bytes.{page_size, page_from}
+use Rattle.embed.proofs.Rows.{each_made}
 use Rattle.embed.proofs.image.pages_from.Goals as goal
 
-pub loop-i-init : goal.loop-i-init
-loop-i-init c = read_none
-
-pub loop-i-preserved : goal.loop-i-preserved
-loop-i-preserved c = read_more zero_page c.loop-i.invariant refl (omega arith) (rw drop-drop c.page_from-g.ensures)
-
 pub returns : goal.returns
-returns c = read_all c.loop-i.invariant refl (omega arith)
+returns c =
+    each_made page_size page_from c.args.row.now zero_page c.from_fn.ensures.items
+    (λ i y q called. (ap (λ s. record { 0 = s }) called.met.1, search rules))
