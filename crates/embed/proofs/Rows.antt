@@ -1,20 +1,25 @@
 -- Values of one size in a row, read from bytes and laid into them.
-use Prim.Native.Nat.{ℕ, zero, suc, ◌+◌, ◌-◌, ◌*◌, ◌≤◌, ◌<◌}
-use mathlib.Core.Bool.{Bool, true, false}
+use Prim.Native.Nat.{ℕ, zero, suc, suc-le-suc, ◌+◌, ◌*◌, ◌≤◌, ◌<◌}
+use mathlib.Core.Bool.{Bool, true, false, and-false}
 use mathlib.Core.Path.{◌≡◌, refl, sym, ap, subst, ◌∙◌}
-use mathlib.Core.List.{List, [], ◌∷◌, ◌++◌, flat_map, append-nil, append_assoc}
-use native.Mathlib.Nat.{not-suc-le-zero, le_of_suc-le-suc, mul-zero, mul-suc}
+use mathlib.Core.List.{List, [], ◌++◌, flat_map, append-nil, append_assoc}
+use native.Mathlib.Nat.{zero-add, not-suc-le-zero, le_of_suc-le-suc, mul-zero, mul-suc}
 use native.Mathlib.Numerals.{add-one}
 use native.Mathlib.Omega.{arith}
 use lib.Dec.{ltb}
 use lib.ListN.{length, get_or, take, drop, length-append, drop_of_length-le}
-use lib.Seq.{drop-drop, take-suc, take_all, take_at, drop_at}
+use lib.Seq.{drop-drop, take-suc, take_at, drop_at}
 use borrow.Author.Tests.{ltb-true, ltb-false}
 use borrow.Rule.Slice.PartMut.{put_mid}
 use denote.Param.Members.{Mut}
 use Rattle.std.specs.Array.{IsFromFnResult, IsFromFnResultFrom}
 use Rattle.std.specs.Fn.{Called}
+use Rattle.std.specs.Bool.{MatchBool}
+use Rattle.std.specs.List.{AllWithin, HoldsAt, range_with_len}
 use Rattle.std.proofs.lemmas.List.{ext_get_or, flat_map_more}
+use Rattle.std.proofs.lemmas.List.FromFn.{length-range_with_len, get_or-range_with_len}
+use Rattle.tables.proofs.ListLaws.{and_intro}
+use Rattle.steps.specs.Data.{each_is}
 use Rattle.embed.specs.Bytes.{from_each}
 
 -- ---- a row read
@@ -62,9 +67,44 @@ pub each_made : {F B : Type 0} {g : Mut F (ℕ × Unit {0}) B} {f : F} {ys : Lis
 each_made {ys = ys} {n = n} size from b d e calls =
     ext_get_or d ys (from_each n size from b) (e.long ∙ sym (each_length size from n b))
     (λ i h.
-      let j : i < n = rw e.long at h in
-      made_from ys (λ i y. y ≡ from (drop (size * i) b)) calls n 0 e.each i d (omega arith) (omega arith)
-      ∙ sym (each_at size from n i b d j))
+    let j : i < n = rw e.long at h in
+    made_from ys (λ i y. y ≡ from (drop (size * i) b)) calls n 0 e.each i d (omega arith) (omega arith)
+    ∙ sym (each_at size from n i b d j))
+
+-- ---- a row tested
+
+module _ (size : ℕ) (test : List ℕ → Bool) where
+  -- the test of a place further on
+  further : (b : List ℕ) (i : ℕ) → test (drop (size * suc i) b) ≡ test (drop (size * i) (drop size b))
+  further b i =
+      let e : size * suc i ≡ size + size * i = omega (arith, mul-suc size i) in
+      rw (e, drop-drop (size * i) size b)
+
+  each_true : (k : ℕ) (b : List ℕ) → ((i : ℕ) → i < k → test (drop (size * i) b) ≡ true) → each_is k size test b ≡ true
+  unfolding each_is
+  each_true zero b e = refl
+  each_true (suc k) b e =
+      and_intro (rw mul-zero at (e 0 (omega arith)))
+      (each_true k (drop size b) (λ i h. sym (further b i) ∙ e (suc i) (suc-le-suc h)))
+
+  each_false : (k i : ℕ) (b : List ℕ) → i < k → test (drop (size * i) b) ≡ false → each_is k size test b ≡ false
+  unfolding each_is
+  each_false zero i b h e = absurd (not-suc-le-zero h)
+  each_false (suc k) zero b h e = rw (rw mul-zero at e)
+  each_false (suc k) (suc i) b h e =
+      rw (each_false k i (drop size b) (le_of_suc-le-suc h) (sym (further b i) ∙ e), and-false)
+
+  -- what `all` answers of the numbers below k
+  pub each_tested : (k : ℕ) (b : List ℕ) (r : Bool) → let ks = range_with_len 0 k in
+      MatchBool r (AllWithin (λ i. test (drop (size * i) b) ≡ true) ks 0 (length ks))
+      ((j : ℕ) × (j < length ks) × HoldsAt (λ i. test (drop (size * i) b) ≡ false) ks j)
+      → r ≡ each_is k size test b
+  each_tested k b true e =
+      sym (each_true k b (λ i h.
+      rw (get_or-range_with_len 0 k i 0 h, zero-add) at (e i 0 (omega arith) (rw (length-range_with_len 0 k) h))))
+  each_tested k b false e =
+      let low : e.0 < k = rw (length-range_with_len 0 k) at e.1 in
+      sym (each_false k e.0 b low (rw (get_or-range_with_len 0 k e.0 0 low, zero-add) at (e.2 0)))
 
 -- ---- bytes laid
 

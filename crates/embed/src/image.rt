@@ -98,7 +98,7 @@ fn page_marks_valid(row: &[u8], i: usize) -> bool
     ensures { result ≡ page_marks_valid (drop (page_size * i) row.now) }
 {
     let entries = &row[PAGE_SIZE * i + 16..];
-    (0..8).fold(true, |ok, k| ok & copy_marks_valid(entries, k))
+    (0..8).all(|k| copy_marks_valid(entries, k))
 }
 
 pub(crate) fn marks_valid(bytes: &[u8]) -> bool

@@ -1,6 +1,6 @@
 -- `page_at` reads a page.
 use Prim.Native.Nat.{◌*◌, ◌-◌}
-use mathlib.Core.Path.{◌≡◌, refl, ap}
+use mathlib.Core.Path.{refl, ap}
 use borrow.Author.Rules.{rules}
 use lib.ListN.{length, drop, take}
 use Rattle.std.proofs.lemmas.List.{take_rest}

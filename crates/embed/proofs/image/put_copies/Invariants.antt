@@ -1,6 +1,4 @@
 -- `put_copies`. The entries before i are laid.
-use lib.ListN.{length}
-use mathlib.Core.Path.{◌≡◌}
 use Rattle.embed.specs.Bytes.{copy_bytes}
 use Rattle.embed.proofs.Rows.{Laid}
 use Rattle.embed.proofs.image.put_copies.Given as goal
