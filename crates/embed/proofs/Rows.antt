@@ -59,17 +59,20 @@ module _ {F B : Type 0} {g : Mut F (ℕ × Unit {0}) B} {f : F} (ys : List B) (R
           let s : i ≡ k = omega (arith, ltb-false i k t) in
           subst (λ (z : ℕ). R z (get_or ys z d)) s (subst (λ (v : B). R i v) (sym at) first)
 
--- so many values, each from its bytes
-pub each_made : {F B : Type 0} {g : Mut F (ℕ × Unit {0}) B} {f : F} {ys : List B} {n : ℕ} (size : ℕ)
-    (from : List ℕ → B) (b : List ℕ) (d : B) → IsFromFnResult g f ys n
-    → ((i : ℕ) (y : B) (q : F) → Called g f (i, tt) y q → (q ≡ f) × (y ≡ from (drop (size * i) b)))
-    → ys ≡ from_each n size from b
-each_made {ys = ys} {n = n} size from b d e calls =
-    ext_get_or d ys (from_each n size from b) (e.long ∙ sym (each_length size from n b))
-    (λ i h.
-    let j : i < n = rw e.long at h in
-    made_from ys (λ i y. y ≡ from (drop (size * i) b)) calls n 0 e.each i d (omega arith) (omega arith)
-    ∙ sym (each_at size from n i b d j))
+module _ {B : Type 0} {ys : List B} {n : ℕ} (size : ℕ) (from : List ℕ → B) (b : List ℕ) (d : B) where
+  -- so many values, each from its bytes
+  pub each_read : length ys ≡ n → ((i : ℕ) → i < n → get_or ys i d ≡ from (drop (size * i) b))
+      → ys ≡ from_each n size from b
+  each_read long each =
+      ext_get_or d ys (from_each n size from b) (long ∙ sym (each_length size from n b))
+      (λ i h. let j : i < n = rw long at h in each i j ∙ sym (each_at size from n i b d j))
+
+  pub each_made : {F : Type 0} {g : Mut F (ℕ × Unit {0}) B} {f : F} → IsFromFnResult g f ys n
+      → ((i : ℕ) (y : B) (q : F) → Called g f (i, tt) y q → (q ≡ f) × (y ≡ from (drop (size * i) b)))
+      → ys ≡ from_each n size from b
+  each_made e calls =
+      each_read e.long
+      (λ i h. made_from ys (λ i y. y ≡ from (drop (size * i) b)) calls n 0 e.each i d (omega arith) (omega arith))
 
 -- ---- a row tested
 

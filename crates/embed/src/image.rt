@@ -58,7 +58,11 @@ fn pages_from(row: &[u8]) -> [Page; 64]
     requires { page_size * 64 ≤ length row.now }
     ensures { result ≡ from_each 64 page_size page_from row.now }
 {
-    array::from_fn(|i| page_at(row, i))
+    let mut pages = [page_at(row, 0); 64];
+    for (i, page) in pages.iter_mut().enumerate() {
+        *page = page_at(row, i);
+    }
+    pages
 }
 
 fn register_from(row: &[u8]) -> [u16; 254]
