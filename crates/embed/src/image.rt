@@ -11,7 +11,7 @@ ghost use Rattle.embed.specs.Bytes.{mark_byte, copy_bytes, page_bytes, le16, tab
 ghost use Rattle.embed.specs.Bytes.{from_each, copy_from, page_from, entry_from, tables_from, page_marks_valid, marks_valid};
 
 use std::array;
-use tables::{Copy, Page, Shared, Tables};
+use tables::{Copy, NULL_FRAME, Page, Shared, Tables};
 
 // How many bytes a page takes.
 const PAGE_SIZE: usize = 42;
@@ -54,11 +54,24 @@ fn page_at(row: &[u8], i: usize) -> Page
     }
 }
 
+// What an element holds until its page is read. The compiler sets it sixteen bytes at a time, zeros one by one.
+const NO_PAGE: Page = Page {
+    rights: [0; 16],
+    copies: [Copy {
+        frame: NULL_FRAME,
+        current: false,
+        recent: false,
+    }; 8],
+    owner: 0,
+    n: 0,
+};
+
+// By `array::from_fn` the compiler would copy the whole array once more.
 fn pages_from(row: &[u8]) -> [Page; 64]
     requires { page_size * 64 ≤ length row.now }
     ensures { result ≡ from_each 64 page_size page_from row.now }
 {
-    let mut pages = [page_at(row, 0); 64];
+    let mut pages = [NO_PAGE; 64];
     for (i, page) in pages.iter_mut().enumerate() {
         *page = page_at(row, i);
     }
@@ -102,7 +115,11 @@ fn page_marks_valid(row: &[u8], i: usize) -> bool
     ensures { result ≡ page_marks_valid (drop (page_size * i) row.now) }
 {
     let entries = &row[PAGE_SIZE * i + 16..];
-    (0..8).all(|k| copy_marks_valid(entries, k))
+    let mut ok = true;
+    for k in 0..8 {
+        ok &= copy_marks_valid(entries, k);
+    }
+    ok
 }
 
 pub(crate) fn marks_valid(bytes: &[u8]) -> bool

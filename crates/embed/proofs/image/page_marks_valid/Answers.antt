@@ -1,25 +1,31 @@
--- `page_marks_valid` tests each entry of a page.
+-- `page_marks_valid`. What is found so far and the entries from k on give the answer.
 use Prim.Native.Nat.{◌+◌, ◌*◌, ◌-◌}
-use mathlib.Core.Bool.{true, false}
-use mathlib.Core.Path.{◌≡◌, refl, ap, ◌∙◌}
-use borrow.Author.Rules.{rules}
-use lib.ListN.{drop, take, length}
+use mathlib.Core.Bool.{and_assoc, and-true}
+use mathlib.Core.Path.{◌≡◌, sym, ◌∙◌}
+use native.Mathlib.Omega.{arith}
+use lib.ListN.{length, take, drop}
 use lib.Seq.{drop-drop}
 use Rattle.std.proofs.lemmas.List.{take_rest}
-use Rattle.std.proofs.lemmas.Iterator.{cases_from_all, YieldsList-from_range}
-use Rattle.steps.specs.Data.{copy_marks_valid}
+use Rattle.steps.proofs.DataLaws.{each_next}
+use Rattle.steps.specs.Data.{copy_marks_valid, each_is}
 use Rattle.embed.specs.Bytes.{page_size, page_marks_valid}
-use Rattle.embed.proofs.Rows.{each_tested}
 use Rattle.embed.proofs.image.page_marks_valid.Goals as goal
 
-pub returns : goal.returns
+pub loop-k-init : goal.loop-k-init
 unfolding page_marks_valid
-returns c =
+loop-k-init c = rw (take_rest, drop-drop)
+
+pub loop-k-preserved : goal.loop-k-preserved
+loop-k-preserved c =
+    let l = c.loop-k in
     let row = c.args.row.now in
     let at = page_size * c.args.i + 16 in
     let entries = take (length row - at) (drop at row) in
-    each_tested 3 copy_marks_valid 8 entries c.all.result
-    (cases_from_all _ _ _ (λ k. copy_marks_valid (drop (3 * k) entries) ≡ true)
-    (λ k. copy_marks_valid (drop (3 * k) entries) ≡ false) c.all.ensures.ran (YieldsList-from_range 0 8 8 refl refl)
-    (λ k q called. (ap (λ s. record { 0 = s }) called.met.1, search rules)) (λ k q called. search rules))
-    ∙ rw (take_rest, drop-drop)
+    and_assoc l.ok c.copy_marks_valid-ok.result _
+    ∙ rw (c.copy_marks_valid-ok.ensures, ← each_next 3 copy_marks_valid 8 l.k entries (omega arith)) l.invariant
+
+pub returns : goal.returns
+unfolding each_is
+returns c =
+    let e : c.loop-k.k ≡ 8 = omega arith in
+    sym (and-true c.loop-k.ok) ∙ rw e at c.loop-k.invariant
