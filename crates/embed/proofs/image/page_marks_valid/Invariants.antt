@@ -1,5 +1,5 @@
 -- `page_marks_valid`. What is found so far and the entries from k on give the answer.
-use Prim.Native.Nat.{◌+◌, ◌*◌, ◌-◌}
+use Prim.Native.Nat.{◌*◌, ◌-◌}
 use mathlib.Core.Bool.{◌&&◌}
 use mathlib.Core.Path.{◌≡◌}
 use lib.ListN.{drop}
