@@ -1,9 +1,8 @@
 -- What the reads of a call file leave in the buffer, and the writes of its replies in what takes them.
-use Rattle.std.proofs.Common.{◌≡◌, ℕ, ◌+◌, ◌-◌, ◌≤◌, List, ◌++◌, Option, None, Some, IfSome, arith, length, take, drop, sym, ap, ◌∙◌, subst, le_refl, drop_at, length-take-le, take_all, append-nil}
+use Rattle.std.proofs.Common.{◌≡◌, ℕ, ◌+◌, ◌≤◌, List, ◌++◌, Option, None, Some, IfSome, arith, length, take, drop, sym, ap, ◌∙◌, subst, le_refl, drop_at, length-take-le, take_all, append-nil}
 use lib.Seq.{take-add, take-append-le}
 use borrow.Rule.Slice.PartMut.{put_mid, post_of}
 use Rattle.std.specs.Io.KnownBytes.{Appends, Consumes, IsAtEnd}
-use Rattle.std.proofs.lemmas.List.{take_rest}
 use Rattle.std.proofs.lemmas.Slice.{take-put_mid_below}
 use Rattle.std.proofs.KnownBytes.{Appends-trans, Consumes-trans}
 
@@ -53,10 +52,10 @@ module _ (k m n : ℕ) (file part : List ℕ) (within : k ≤ length file) (fits
       let short : length (take k after) ≤ top = rw front_stays (rw (length-take-le k file within) (rw (← long) within)) in
       ended a c (take k after) top short (subst (λ j. Consumes a c (take j after)) same (takes_more a b c p q)) end
 
--- what was written so far is the front of all there is to write
-pub writes_more : (k n : ℕ) (all : List ℕ) (a b c : Option (List ℕ)) → Appends a b (take k all)
-    → Appends b c (take n (take (length all - k) (drop k all))) → Appends a c (take (k + n) all)
-writes_more k n all a b c p q =
+-- what was written so far is the front of all there is to write, and the rest comes next
+pub writes_more : (k n : ℕ) (all rest : List ℕ) (a b c : Option (List ℕ)) → rest ≡ drop k all
+    → Appends a b (take k all) → Appends b c (take n rest) → Appends a c (take (k + n) all)
+writes_more k n all rest a b c e p q =
     subst (Appends a c)
-    (ap (λ l. take k all ++ take n l) (take_rest all k) ∙ sym (take-add k n all))
+    (ap (λ l. take k all ++ take n l) e ∙ sym (take-add k n all))
     (Appends-trans a b c _ _ p q)

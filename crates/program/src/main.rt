@@ -55,13 +55,13 @@ fn write_replies<W: Write>(to: &mut W, file: &[u8], replies: &[u8]) -> io::Resul
     ensures err { OnErr result
         ((n : ℕ) × Appends (W.contents to.old) (W.contents to.new) (take n replies.now)) }
 {
-    let mut done = 0;
-    while done < replies.len() {
-        let n = to.write(&replies[done..])?;
+    let mut rest = replies;
+    while !rest.is_empty() {
+        let n = to.write(rest)?;
         if n == 0 {
             return Err(io::Error::from(ErrorKind::WriteZero));
         }
-        done += n;
+        rest = &rest[n..];
     }
     Ok(())
 }

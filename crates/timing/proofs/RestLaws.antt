@@ -1,16 +1,53 @@
--- What is left of a run at a place of its file: past a message, at a cut end and at the end.
-use Prim.Native.Nat.{ℕ}
+-- What is left of a run at a place of its file: past a message and at the end.
+use Prim.Native.Nat.{ℕ, ◌≤◌, ◌<◌}
+use mathlib.Core.Bool.{Bool, true, false, cond}
 use mathlib.Core.Path.{◌≡◌, refl, ◌∙◌}
 use mathlib.Core.List.{List, [], ◌∷◌}
-use lib.ListN.{drop}
+use native.Mathlib.Omega.{arith}
+use lib.Dec.{leb}
+use lib.ListN.{length, drop, drop_of_length-le}
+use borrow.Author.Tests.{leb-false}
 use Rattle.steps.specs.Stores.{part, over}
 use Rattle.steps.specs.Effects.{State, left, laid_by}
+use Rattle.messages.specs.declared.Next.{Next}
 use Rattle.messages.specs.declared.Next.TheVariants.{Message, Cut, End}
 use Rattle.messages.specs.declared.Tally.{Tally}
 use Rattle.messages.specs.Messages.{next_at}
 use Rattle.messages.specs.Replies.{reply_in, counted, is_refusal}
-use Rattle.messages.specs.Run.{Sent, cut, whole, answer, left_by, messages_of, turns_of, end_of, buffer, tally}
-use Rattle.messages.proofs.ReaderLaws.{reader_yields}
+use Rattle.messages.specs.Run.{Sent, cut, whole, answer, left_by, split, messages_of, turns_of, end_of, buffer, tally}
+use Rattle.messages.proofs.ReaderLaws.{reader_yields, message_at}
+
+-- a message x at a place of the file, and the place past it
+pub record Follows (file : List ℕ) (at : ℕ) (x : Sent) (next : ℕ) : Type 0 where
+  pub inside : next ≤ length file
+  pub further : at < next
+  pub is : messages_of (drop at file) ≡ x ∷ messages_of (drop next file)
+
+module _ (file : List ℕ) (at : ℕ) where
+  pub follows_message : (start len next : ℕ) → Message start len next ≡ next_at file at
+      → Follows file at (whole (part file start len)) next
+  follows_message start len next e =
+      let m = message_at file at start len next e in
+      record { inside = m.inside; further = omega arith; is = reader_yields file at ∙ rw (← e) }
+
+  -- a place where the file does not end
+  within : (n : Next) → n ≡ next_at file at → (n ≡ End → ⊥) → at < length file
+  unfolding next_at
+  within n = go (leb (length file) at) _ refl
+    where
+      go : (b : Bool) (n' : Next) → leb (length file) at ≡ b → n ≡ cond b End n' → (n ≡ End → ⊥) → at < length file
+      go true n' t e k = absurd (k e)
+      go false n' t e k = leb-false (length file) at t
+
+  -- one cut short ends the file
+  pub follows_cut : Cut ≡ next_at file at → Follows file at cut (length file)
+  unfolding messages_of split
+  follows_cut e =
+      record {
+        inside = omega arith;
+        further = within Cut e (λ k. let z : ◌≡◌ {A = ℕ} 0 1 = cc in omega arith);
+        is = rw (drop_of_length-le file {i = length file} (omega arith)) (reader_yields file at ∙ rw (← e));
+      }
 
 -- from state s, buffer out and tally n at a place of the file, the rest of the run gives what the whole run does
 pub record Rest (room : ℕ) (file : List ℕ) (s₀ : State) (out₀ : List ℕ) (n₀ : Tally) (at : ℕ) (s : State) (out : List ℕ) (n : Tally) : Type 0 where
@@ -45,28 +82,15 @@ module _ (room : ℕ) (file : List ℕ) (s₀ : State) (out₀ : List ℕ) (n₀
     unfolding turns_of tally
     tally_after = rw follows at q.same_tally
 
-  pub rest_message : (start len next : ℕ) (s' : State) (out' : List ℕ) (n' : Tally) → Message start len next ≡ next_at file at
-      → let o = answer room s (whole (part file start len)) in
+  pub rest_on : (x : Sent) (next : ℕ) (s' : State) (out' : List ℕ) (n' : Tally) → Follows file at x next
+      → let o = answer room s x in
       s' ≡ left s o → out' ≡ over (reply_in room o) out → n' ≡ counted n (is_refusal o) (laid_by o)
       → Rest room file s₀ out₀ n₀ next s' out' n'
-  rest_message start len next s' out' n' e es eo en =
-      let follows : messages_of (drop at file) ≡ whole (part file start len) ∷ messages_of (drop next file) = reader_yields file at ∙ rw (← e) in
+  rest_on x next s' out' n' f es eo en =
       record {
-        same_end = rw es (end_after _ _ follows);
-        same_buffer = rw (es, eo) (buffer_after _ _ follows);
-        same_tally = rw (es, en) (tally_after _ _ follows);
-      }
-
-  -- one cut short ends the file
-  pub rest_cut : (out' : List ℕ) (n' : Tally) → Cut ≡ next_at file at → out' ≡ over (reply_in room (answer room s cut)) out
-      → n' ≡ counted n (is_refusal (answer room s cut)) (laid_by (answer room s cut)) → Ended room file s₀ out₀ n₀ (left_by room s cut) out' n'
-  unfolding end_of turns_of buffer tally
-  rest_cut out' n' e eo en =
-      let follows : messages_of (drop at file) ≡ cut ∷ [] = reader_yields file at ∙ rw (← e) in
-      record {
-        state_is = end_after _ _ follows;
-        buffer_is = eo ∙ buffer_after _ _ follows;
-        tally_is = en ∙ tally_after _ _ follows;
+        same_end = rw es (end_after _ _ f.is);
+        same_buffer = rw (es, eo) (buffer_after _ _ f.is);
+        same_tally = rw (es, en) (tally_after _ _ f.is);
       }
 
   pub rest_none : End ≡ next_at file at → Ended room file s₀ out₀ n₀ s out n

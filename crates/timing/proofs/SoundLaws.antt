@@ -1,48 +1,53 @@
 -- The tests of the rules, one after the other.
-use Prim.Native.Nat.{ℕ, ◌+◌, ◌%◌, ◌≤◌, ◌<◌, zero-le}
+use Prim.Native.Nat.{ℕ, ◌+◌, ◌%◌, ◌≤◌, zero-le}
 use mathlib.Core.Path.{◌≡◌, refl, sym, ap, ◌∙◌}
 use mathlib.Core.Bool.{Bool, true, false, cond}
 use native.Mathlib.Numerals.{add-one}
 use native.Mathlib.Omega.{arith}
-use lib.Seq.{set-set}
+use mathlib.Core.List.{List, [], ◌∷◌}
+use lib.ListN.{get_or, set}
 use Rattle.tables.specs.declared.Page.{Page}
 use Rattle.tables.specs.declared.Tables.{Tables}
-use Rattle.tables.specs.Model.{page_at}
+use Rattle.tables.specs.Model.{with_pages, zero_page}
 use Rattle.tables.specs.Rules.{sound}
-use Rattle.timing.specs.Timed.{with_owner, with_first, owned, sound_times}
+use Rattle.timing.specs.Timed.{with_owner, owned, sound_times}
 
 one_more : (t : Tables) (i : ℕ) → sound_times t (i + 1) ≡ sound_times t i + cond (sound (owned t (i % 16))) 1 0
 unfolding sound_times
 one_more t i = rw (add-one i)
 
+-- the owner of page 0 set again
+owned_twice : (t : Tables) (x s : ℕ) → owned (owned t x) s ≡ owned t s
+owned_twice t x s = ap (λ (l : List Page). with_pages t l t.register) (go t.pages)
+  where
+    owner_of : List Page → ℕ → List Page
+    owner_of l s = set l 0 (with_owner (get_or l 0 zero_page) s)
+
+    go : (l : List Page) → owner_of (owner_of l x) s ≡ owner_of l s
+    go [] = refl
+    go (g ∷ l) = refl
+
 -- where the loop stands after i of the tests: the tables are as at the start, but for the owner of page 0
-pub record Tested (t₀ : Tables) (times i : ℕ) (t : Tables) (first : Page) (held : ℕ) : Type 0 where
-  pub same_tables : (g : Page) → with_first t g ≡ with_first t₀ g
-  pub same_first : (s : ℕ) → with_owner first s ≡ with_owner (page_at t₀ 0) s
+pub record Tested (t₀ : Tables) (i : ℕ) (t : Tables) (held : ℕ) : Type 0 where
+  pub same : (s : ℕ) → owned t s ≡ owned t₀ s
   pub counted : held ≡ sound_times t₀ i
   pub few : held ≤ i
-  pub within : i ≤ times
 
-pub tested_none : (t : Tables) (times : ℕ) → Tested t times 0 t (page_at t 0) 0
+pub tested_none : (t : Tables) → Tested t 0 t 0
 unfolding sound_times
-tested_none t times = record { same_tables = λ g. refl; same_first = λ s. refl; counted = refl; few = zero-le; within = zero-le }
+tested_none t = record { same = λ s. refl; counted = refl; few = zero-le }
 
-module _ {t₀ t : Tables} {times i held : ℕ} {first : Page} (q : Tested t₀ times i t first held) where
-  tested_here : with_first t (with_owner first (i % 16)) ≡ owned t₀ (i % 16)
-  tested_here = q.same_tables (with_owner first (i % 16)) ∙ ap (with_first t₀) (q.same_first (i % 16))
-
+module _ {t₀ t : Tables} {i held : ℕ} (q : Tested t₀ i t held) where
   few_more : (b : Bool) → held + cond b 1 0 ≤ i + 1
   few_more true = let k = q.few in omega arith
   few_more false = let k = q.few in omega arith
 
   -- after one test more
-  pub tested_on : (held' : ℕ) (b : Bool) → i < times → b ≡ sound (with_first t (with_owner first (i % 16))) → held' ≡ held + cond b 1 0
-      → Tested t₀ times (i + 1) (with_first t (with_owner first (i % 16))) (with_owner first (i % 16)) held'
-  tested_on held' b h e eh =
+  pub tested_on : (held' : ℕ) (b : Bool) → b ≡ sound (owned t (i % 16)) → held' ≡ held + cond b 1 0
+      → Tested t₀ (i + 1) (owned t (i % 16)) held'
+  tested_on held' b e eh =
       record {
-        same_tables = λ g. rw (set-set t.pages 0 (with_owner first (i % 16)) g) (q.same_tables g);
-        same_first = q.same_first;
-        counted = eh ∙ rw (e, tested_here, q.counted) (sym (one_more t₀ i));
+        same = λ s. owned_twice t (i % 16) s ∙ q.same s;
+        counted = eh ∙ rw (e, q.same, q.counted) (sym (one_more t₀ i));
         few = rw eh (few_more b);
-        within = omega arith;
       }

@@ -39,21 +39,15 @@ fn answers(
 {
     let mut at = 0;
     loop {
-        match message_at(file, at) {
-            Next::Message { next, .. } => {
-                let a = answer(tables, fast, slow, &file[at..], out);
-                tables = a.tables;
-                tally = tally_after(tally, a.number != 0, a.laid);
-                at = next;
-            }
-            Next::Cut => {
-                let a = answer(tables, fast, slow, &file[at..], out);
-                tables = a.tables;
-                tally = tally_after(tally, a.number != 0, a.laid);
-                return Left { tables, tally };
-            }
+        let next = match message_at(file, at) {
+            Next::Message { next, .. } => next,
+            Next::Cut => file.len(),
             Next::End => return Left { tables, tally },
-        }
+        };
+        let a = answer(tables, fast, slow, &file[at..], out);
+        tables = a.tables;
+        tally = tally_after(tally, a.number != 0, a.laid);
+        at = next;
     }
 }
 
@@ -89,16 +83,12 @@ pub fn reel_sound(tables: &[u8], times: u32) -> u32
     ensures { result ≡ sound_times (tables_of tables.now) times }
 {
     let mut t = tables_of(tables);
-    let mut first = t.pages[0];
     let mut held = 0;
-    let mut i = 0;
-    while i < times {
-        first.owner = (i % 16) as u8;
-        t.pages[0] = first;
+    for i in 0..times {
+        t.pages[0].owner = (i % 16) as u8;
         if t.sound() {
             held += 1;
         }
-        i += 1;
     }
     held
 }
@@ -108,7 +98,7 @@ fn length_and_first(len: usize, first: u8) -> u32
     requires { len ≤ 64 }
     ensures { result ≡ 256 * len + first }
 {
-    256 * len as u32 + first as u32
+    256 * len as u32 + u32::from(first)
 }
 
 // How many bytes there are and the first of them, in one; 0 where there are none.
@@ -116,10 +106,10 @@ fn first_number(bytes: &[u8]) -> u32
     requires { length bytes.now ≤ 64 }
     ensures { result ≡ first_number bytes.now }
 {
-    if bytes.len() == 0 {
-        return 0;
+    match bytes.first() {
+        Some(first) => length_and_first(bytes.len(), *first),
+        None => 0,
     }
-    length_and_first(bytes.len(), bytes[0])
 }
 
 // What a read gives as a part of a lent store: 256 times its length and its first byte, in one; 0 where it is refused.
@@ -145,7 +135,7 @@ pub fn reel_read_first<'a>(
 fn three_bytes(first: u8, second: u8, third: u8) -> u32
     ensures { result ≡ first + 256 * second + 65536 * third }
 {
-    first as u32 + 256 * second as u32 + 65536 * third as u32
+    u32::from(first) + 256 * u32::from(second) + 65536 * u32::from(third)
 }
 
 // What the search of the pages finds on a frame, or that it is retired: the three bytes that a look

@@ -6,11 +6,11 @@ use Rattle.timing.proofs.reel_sound.Goals as goal
 use Rattle.timing.proofs.reel_sound.Goals.{then-sound, else-sound}
 
 pub loop-i-init : goal.loop-i-init
-loop-i-init c = tested_none _ _
+loop-i-init c = tested_none _
 
 pub loop-i-preserved : goal.loop-i-preserved
 loop-i-preserved c =
-    tested_on c.loop-i.invariant _ _ (omega arith) c.sound.ensures
+    tested_on c.loop-i.invariant _ _ c.sound.ensures
     (elim c.if-sound.branch [
       | then-sound w ↦ w.held-is ∙ rw w.if-sound.true
       | else-sound w ↦ w.held-is ∙ rw w.if-sound.false (omega arith)
@@ -19,6 +19,5 @@ loop-i-preserved c =
 pub returns : goal.returns
 returns c =
     let v = c.loop-i in
-    let w = v.invariant.within in
     let e : v.i ≡ c.args.times = omega arith in
     v.invariant.counted ∙ rw (e, c.tables_of-t.ensures)
