@@ -2,12 +2,11 @@
 // (frame, CURRENT, MOST RECENT; each mark is 0 or 1), the owner and n; then the register, for each of
 // the 254 frame numbers two bytes, the low one first: 8 times the page and the copy, in one, 65535 for
 // none, or 61680 for a retired frame.
-ghost use Rattle.std.specs.Prelude.{◌≡◌, ◌+◌, ◌*◌, ◌≤◌, length, take, drop};
+ghost use Rattle.std.specs.Prelude.{◌≡◌, ◌+◌, ◌*◌, ◌≤◌, length, drop};
 ghost use mathlib.Core.List.{flat_map};
-ghost use Rattle.std.proofs.lemmas.List.Edits.{sets};
 ghost use Rattle.steps.specs.Data.{copy_marks_valid};
-ghost use Rattle.embed.specs.Bytes.{page_size, register_at, tables_size};
-ghost use Rattle.embed.specs.Bytes.{mark_byte, copy_bytes, page_bytes, le16, tables_bytes};
+ghost use Rattle.embed.specs.Bytes.{page_size, tables_size};
+ghost use Rattle.embed.specs.Bytes.{copy_bytes, page_bytes, le16, tables_bytes};
 ghost use Rattle.embed.specs.Bytes.{from_each, copy_from, page_from, entry_from, tables_from, page_marks_valid, marks_valid};
 
 use std::array;

@@ -1,9 +1,8 @@
 // What is lent: bytes of any length for the tables, numbers for a tally, and numbers packed into one.
-ghost use Rattle.std.specs.Prelude.{◌≡◌, true, cond, ◌<◌, length};
-ghost use Rattle.embed.specs.Bytes.{tables_size, tables_bytes};
+ghost use Rattle.std.specs.Prelude.{◌≡◌, ◌<◌};
 ghost use Rattle.embed.specs.Private.{Small, Low};
 ghost use Rattle.embed.specs.Exports.{tables_in, no_tables, tables_of, with_tables, tally_of, with_tally, with_figures};
-ghost use Rattle.embed.specs.Exports.{store_number, place_number, packed, reading_number};
+ghost use Rattle.embed.specs.Exports.{place_number, packed, reading_number};
 
 use crate::image::{TABLES_SIZE, marks_valid, put_tables, tables_from};
 use messages::{Figures, NUMBERS, Tally};
