@@ -47,8 +47,8 @@ fn absent_ok(page: &Page) -> bool
 
 impl Frames<'_> {
     // The rule of a copy of a page with n copies.
-    fn copy_ok(&self, c: Copy, n: u8) -> bool
-        ensures { result ≡ copy_rule self.now.limit n c }
+    fn copy_ok(self, c: Copy, n: u8) -> bool
+        ensures { result ≡ copy_rule self.entry.limit n c }
     {
         if c.current & !c.recent {
             return false;
@@ -60,16 +60,16 @@ impl Frames<'_> {
     }
 
     // The entry of a frame is this one; a null copy has no frame.
-    fn entry_is(&self, frame: u8, entry: u16) -> bool
-        ensures { result ≡ entry_is self.now.register.now frame entry }
+    fn entry_is(self, frame: u8, entry: u16) -> bool
+        ensures { result ≡ entry_is self.entry.register.now frame entry }
     {
         let register = self.register;
         register.get(usize::from(frame)).is_none_or(|e| *e == entry)
     }
 
     // The copies of page p keep their rules, their entries name them, and at least one is MOST RECENT.
-    fn copies_ok(&self, p: u8, page: &Page) -> bool
-        ensures { result ≡ scan_copies self.now.limit page.now.n self.now.register.now p 0 false (copies_in_use page.now) }
+    fn copies_ok(self, p: u8, page: &Page) -> bool
+        ensures { result ≡ scan_copies self.entry.limit page.now.n self.entry.register.now p 0 false (copies_in_use page.now) }
     {
         let mut recent = false;
         for (k, c) in page.copies_in_use().iter().enumerate() {
@@ -84,9 +84,9 @@ impl Frames<'_> {
         recent
     }
 
-    fn standing_ok(&self, p: u8, page: &Page) -> bool
-        ensures { result ≡ (standing_rule self.now.limit page.now
-            && entries_are self.now.register.now p 0 (copies_in_use page.now)) }
+    fn standing_ok(self, p: u8, page: &Page) -> bool
+        ensures { result ≡ (standing_rule self.entry.limit page.now
+            && entries_are self.entry.register.now p 0 (copies_in_use page.now)) }
     {
         if page.owner > 15 || !rights_ok(&page.rights, 2) || page.n > 8 {
             return false;
@@ -94,8 +94,8 @@ impl Frames<'_> {
         self.copies_ok(p, page) && unused_ok(&page.copies[usize::from(page.n)..])
     }
 
-    fn page_ok(&self, p: u8, page: &Page) -> bool
-        ensures { result ≡ scan_page self.now.limit self.now.register.now p page.now }
+    fn page_ok(self, p: u8, page: &Page) -> bool
+        ensures { result ≡ scan_page self.entry.limit self.entry.register.now p page.now }
     {
         if page.n == 0 {
             absent_ok(page)
@@ -105,8 +105,8 @@ impl Frames<'_> {
     }
 
     // How many entries of the register are this one; vector comparisons in the compiled code.
-    fn entries_of(&self, entry: u16) -> u16
-        ensures { result ≡ count_by (is_entry entry) self.now.register.now }
+    fn entries_of(self, entry: u16) -> u16
+        ensures { result ≡ count_by (is_entry entry) self.entry.register.now }
     {
         let register = self.register;
         register.iter().map(|e| u16::from(*e == entry)).sum()
@@ -115,9 +115,9 @@ impl Frames<'_> {
     // Of pages whose copies are on so many frames and are named: every other entry is that of a free frame, or of a
     // retired one before the limit. Retired frames are rare, so they are counted only where held and free ones are not
     // all.
-    fn others_ok(&self, held: usize) -> bool
+    fn others_ok(self, held: usize) -> bool
         requires { held ≤ 16320 }
-        ensures { result ≡ others_ok self.now.limit held self.now.register.now }
+        ensures { result ≡ others_ok self.entry.limit held self.entry.register.now }
     {
         let free = usize::from(self.entries_of(FREE_ENTRY));
         if held + free == 254 {

@@ -12,7 +12,7 @@ use Rattle.tables.proofs.rules.Frames.entries_of.Goals as goal
 pub sum-requires-clause-fits : goal.sum-requires-clause-fits
 sum-requires-clause-fits c =
     let entry = c.args.entry in
-    let register = c.args.self.now.register.now in
+    let register = c.args.self.register.now in
     let one : ℕ → ℕ = λ (e : ℕ). cond (is_entry entry e) 1 0 in
     let few = count_by-le-length (is_entry entry) register in
     fits_by_from_yields_list one register c.map.result 65536

@@ -17,8 +17,8 @@ returns-then-page-eq0 c =
     let g = a.page.now in
     let l : length g.rights ≡ 16 = search rules in
     let m : length g.copies ≡ 8 = search rules in
-    let z : entries_are a.self.now.register.now a.p 0 (copies_in_use g) ≡ true =
-    ap (λ (n : ℕ). entries_are a.self.now.register.now a.p 0 (take n g.copies)) c.if-page-eq0.true in
+    let z : entries_are a.self.register.now a.p 0 (copies_in_use g) ≡ true =
+    ap (λ (n : ℕ). entries_are a.self.register.now a.p 0 (take n g.copies)) c.if-page-eq0.true in
     sym (rw (eq-eqb _ _ l, eq-eqb _ _ m, eq-eqb _ _ c.if-page-eq0.true, z, and-true (absent_rule g)) (sym c.absent_ok.ensures))
 
 pub returns-else-page-eq0 : goal.returns-else-page-eq0

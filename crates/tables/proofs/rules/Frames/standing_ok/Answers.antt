@@ -34,7 +34,7 @@ pub returns-else-copies_ok : goal.returns-else-copies_ok
 unfolding standing_rule
 returns-else-copies_ok c =
     let a = c.args in
-    let t = a.self.now in
+    let t = a.self in
     let g = a.page.now in
     let r = sym (all_folded (at_most 2) g.rights) ∙ sym c.rights_ok.ensures ∙ c.if-not-rights_ok.false in
     let k = sym (scan_copies_lem t.limit g.n t.register.now a.p 0 false (copies_in_use g)) ∙ sym c.copies_ok.ensures ∙ c.if-copies_ok.false in
@@ -47,7 +47,7 @@ pub returns-then-copies_ok : goal.returns-then-copies_ok
 unfolding standing_rule
 returns-then-copies_ok c =
     let a = c.args in
-    let t = a.self.now in
+    let t = a.self in
     let g = a.page.now in
     let r = sym (all_folded (at_most 2) g.rights) ∙ sym c.rights_ok.ensures ∙ c.if-not-rights_ok.false in
     let k = sym (scan_copies_lem t.limit g.n t.register.now a.p 0 false (copies_in_use g)) ∙ sym c.copies_ok.ensures ∙ c.if-copies_ok.true in
