@@ -11,11 +11,9 @@ use Rattle.tables.specs.Numbers.{accepted}
 use Rattle.tables.specs.Rules.{frames_held, sound}
 use Rattle.steps.specs.declared.Call.{Call}
 use Rattle.steps.specs.declared.Decision.{Decision}
-use Rattle.steps.specs.Steps.{decide, number_of}
+use Rattle.steps.specs.Steps.{Outcome, refuse, accept, decide, number_of}
 use Rattle.steps.specs.Promises.{laid_of, decision_of, settled, held_after}
 use Rattle.steps.proofs.HeldLaws.{decision_told, left_sound, held_settled}
-use Rattle.messages.specs.declared.Parsed.{Parsed}
-use Rattle.messages.specs.declared.Parsed.TheVariants.{Refused, Asked}
 use Rattle.messages.specs.declared.Next.{Next}
 use Rattle.messages.specs.declared.Figures.{Figures}
 use Rattle.messages.specs.Messages.{next_at}
@@ -42,9 +40,9 @@ none_more x h = omega arith
 pub foreseen_sound : (t : Tables) → sound t ≡ true → (x : Sent) → sound (foreseen t x).tables ≡ true
 foreseen_sound t ok x = by (asked x) (length (bytes_of x))
   where
-    by : (m : Parsed) (size : ℕ) → sound (foreseen_by t m size).tables ≡ true
-    by (Refused n) size = ok
-    by (Asked c) size = left_sound t ok c size
+    by : (m : Outcome Call) (size : ℕ) → sound (foreseen_by t m size).tables ≡ true
+    by (refuse n) size = ok
+    by (accept c) size = left_sound t ok c size
 
 -- ---- what a message comes to, as the code has it
 
@@ -57,11 +55,11 @@ pub record Judged (t : Tables) (x : Sent) (d : Decision) : Type 0 where
   pub kept : sound (settled t d) ≡ true
   pub held : d.moved ≡ true → held_after (frames_held t) d ≡ frames_held (settled t d)
 
-module _ (t : Tables) (x : Sent) (m : Parsed) (is_asked : m ≡ asked x) where
-  pub foreseen_refused : (n : ℕ) → m ≡ Refused n → foreseen t x ≡ came n 0 t
-  foreseen_refused n e = ap (λ (a : Parsed). foreseen_by t a (length (bytes_of x))) (sym is_asked ∙ e)
+module _ (t : Tables) (x : Sent) (m : Outcome Call) (is_asked : m ≡ asked x) where
+  pub foreseen_refused : (n : ℕ) → m ≡ refuse n → foreseen t x ≡ came n 0 t
+  foreseen_refused n e = ap (λ (a : Outcome Call). foreseen_by t a (length (bytes_of x))) (sym is_asked ∙ e)
 
-  pub judged : sound t ≡ true → (c : Call) (bs : List ℕ) (d : Decision) → m ≡ Asked c → bs ≡ bytes_of x
+  pub judged : sound t ≡ true → (c : Call) (bs : List ℕ) (d : Decision) → m ≡ accept c → bs ≡ bytes_of x
       → d ≡ decision_of t c (decide t c (length bs)) → Judged t x d
   judged ok c bs d e b is =
       let size = length (bytes_of x) in
@@ -69,7 +67,7 @@ module _ (t : Tables) (x : Sent) (m : Parsed) (is_asked : m ≡ asked x) where
       let after = (decision_told t ok c size).tables_told in
       subst (Judged t x) (sym (is ∙ ap (λ (l : List ℕ). decision_of t c (decide t c (length l))) b))
       (record {
-        comes = ap (λ (a : Parsed). foreseen_by t a size) (sym is_asked ∙ e)
+        comes = ap (λ (a : Outcome Call). foreseen_by t a size) (sym is_asked ∙ e)
             ∙ ap (λ (r : Tables). came (number_of o) (laid_of o) r) (sym after);
         kept = ap sound after ∙ left_sound t ok c size;
         held = held_settled t ok c size;

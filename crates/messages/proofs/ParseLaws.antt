@@ -11,17 +11,16 @@ use Rattle.tables.specs.Lists.{listed}
 use Rattle.tables.specs.Numbers.{cut_short, foreign_version, unknown_kind, wrong_length}
 use Rattle.steps.specs.declared.Call.{Call}
 use Rattle.steps.specs.Kinds.{is_unknown, kind_of, least_length, most_length, call_of}
-use Rattle.messages.specs.declared.Parsed.{Parsed}
-use Rattle.messages.specs.declared.Parsed.TheVariants.{Refused, Asked}
+use Rattle.steps.specs.Steps.{Outcome, refuse, accept}
 use Rattle.messages.specs.Messages.{is_foreign, parse}
 use Rattle.messages.specs.Run.{Sent, cut, whole, asked}
 
 abbrev pub own_numbers : List ℕ
 own_numbers = cut_short ∷ foreign_version ∷ unknown_kind ∷ wrong_length ∷ []
 
-pub data Known : Parsed → Type 0 where
-  bad : {n : ℕ} → 1 ≤ n → listed n own_numbers ≡ true → Known (Refused n)
-  good : {c : Call} → Known (Asked c)
+pub data Known : Outcome Call → Type 0 where
+  bad : {n : ℕ} → 1 ≤ n → listed n own_numbers ≡ true → Known (refuse n)
+  good : {c : Call} → Known (accept c)
 
 pub asked_known : (x : Sent) → Known (asked x)
 unfolding parse
@@ -32,7 +31,7 @@ asked_known (whole m) =
     (call_of (kind_of (get_or m 1 0)) (drop 2 m))
   where
     ladder : (a b c : Bool) (call : Call)
-        → Known (cond a (Refused foreign_version) (cond b (Refused unknown_kind) (cond c (Refused wrong_length) (Asked call))))
+        → Known (cond a (refuse foreign_version) (cond b (refuse unknown_kind) (cond c (refuse wrong_length) (accept call))))
     ladder true b c call = bad {n = foreign_version} (omega arith) refl
     ladder false true c call = bad {n = unknown_kind} (omega arith) refl
     ladder false false true call = bad {n = wrong_length} (omega arith) refl
@@ -47,7 +46,7 @@ pub record AskedBy (m : List ℕ) (c : Call) : Type 0 where
   pub most : length m ≤ most_length (kind_of (get_or m 1 0))
   pub call : call_of (kind_of (get_or m 1 0)) (drop 2 m) ≡ c
 
-pub asked_by : (m : List ℕ) (c : Call) → parse m ≡ Asked c → AskedBy m c
+pub asked_by : (m : List ℕ) (c : Call) → parse m ≡ accept c → AskedBy m c
 unfolding parse
 asked_by m c =
     ladder (is_foreign m) refl (eqb (length m) 1) refl (is_unknown (get_or m 1 0)) refl (ltb (length m) (least_length (kind_of (get_or m 1 0)))) refl
@@ -56,9 +55,9 @@ asked_by m c =
     ladder : (a : Bool) → is_foreign m ≡ a → (b : Bool) → eqb (length m) 1 ≡ b → (u : Bool) → is_unknown (get_or m 1 0) ≡ u
         → (less : Bool) → ltb (length m) (least_length (kind_of (get_or m 1 0))) ≡ less
         → (more : Bool) → ltb (most_length (kind_of (get_or m 1 0))) (length m) ≡ more
-        → cond a (Refused foreign_version) (cond (b || u) (Refused unknown_kind)
-        (cond (less || more) (Refused wrong_length) (Asked (call_of (kind_of (get_or m 1 0)) (drop 2 m)))))
-        ≡ Asked c
+        → cond a (refuse foreign_version) (cond (b || u) (refuse unknown_kind)
+        (cond (less || more) (refuse wrong_length) (accept (call_of (kind_of (get_or m 1 0)) (drop 2 m)))))
+        ≡ accept c
         → AskedBy m c
     ladder true e b f u g less h more i p = let z : ◌≡◌ {A = ℕ} 0 1 = cc in absurd (omega arith)
     ladder false e true f u g less h more i p = let z : ◌≡◌ {A = ℕ} 0 1 = cc in absurd (omega arith)
@@ -75,7 +74,7 @@ asked_by m c =
           call = cc;
         }
 
-pub asked_long : (m : List ℕ) (c : Call) → parse m ≡ Asked c → least_length c.kind ≤ length m
+pub asked_long : (m : List ℕ) (c : Call) → parse m ≡ accept c → least_length c.kind ≤ length m
 unfolding call_of
 asked_long m c e =
     let a = asked_by m c e in

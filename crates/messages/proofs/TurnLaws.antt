@@ -18,8 +18,6 @@ use Rattle.steps.specs.Steps.{Outcome, refuse, accept, test, number_of, rules_nu
 use Rattle.steps.specs.Effects.{State, Result, step, left, moved_by, laid_by, data_of}
 use Rattle.steps.specs.Promises.{state_of, decision_of, Lent, lent, settled}
 use Rattle.steps.proofs.StepLaws.{carries, step_unruled, step_ruled, step_unmoved, data_short, step_told}
-use Rattle.messages.specs.declared.Parsed.{Parsed}
-use Rattle.messages.specs.declared.Parsed.TheVariants.{Refused, Asked}
 use Rattle.messages.specs.declared.Next.{Next}
 use Rattle.messages.specs.declared.Next.TheVariants.{Message, Cut, End}
 use Rattle.messages.specs.declared.Answered.{Answered}
@@ -38,41 +36,41 @@ rules_of s = rules_number s.tables (length s.fast) (length s.slow)
 -- ---- a message's own number, and the early one
 
 -- its own bytes give no number 0
-asked_some : (x : Sent) (n : ℕ) → asked x ≡ Refused n → n ≡ accepted → ⊥
+asked_some : (x : Sent) (n : ℕ) → asked x ≡ refuse n → n ≡ accepted → ⊥
 asked_some x n e z = go (asked x) (asked_known x) e
   where
-    go : (m : Parsed) → Known m → m ≡ Refused n → ⊥
-    go (Refused k) (bad some few) e = let w : k ≡ n = cc in omega arith
-    go (Asked c) k e = let w : ◌≡◌ {A = ℕ} 0 1 = cc in omega arith
+    go : (m : Outcome Call) → Known m → m ≡ refuse n → ⊥
+    go (refuse k) (bad some few) e = let w : k ≡ n = cc in omega arith
+    go (accept c) k e = let w : ◌≡◌ {A = ℕ} 0 1 = cc in omega arith
 
 module _ (room : ℕ) (s : State) (x : Sent) (known : ℕ) where
   -- no early number is 0
-  early_some : (n : ℕ) → early (asked x) known room ≡ Refused n → n ≡ accepted → ⊥
+  early_some : (n : ℕ) → early (asked x) known room ≡ refuse n → n ≡ accepted → ⊥
   early_some n = by (ltb room 70) (asked x) refl
     where
-      by : (b : Bool) (m : Parsed) → asked x ≡ m → cond b (Refused short_buffer) (unless_known known m) ≡ Refused n
+      by : (b : Bool) (m : Outcome Call) → asked x ≡ m → cond b (refuse short_buffer) (unless_known known m) ≡ refuse n
           → n ≡ accepted → ⊥
       by true m f e z = let w : short_buffer ≡ n = cc in omega arith
-      by false (Refused k) f e z = let w : k ≡ n = cc in asked_some x k f (w ∙ z)
-      by false (Asked c) f e z = on (eqb known accepted) refl e
+      by false (refuse k) f e z = let w : k ≡ n = cc in asked_some x k f (w ∙ z)
+      by false (accept c) f e z = on (eqb known accepted) refl e
         where
-          on : (b : Bool) → eqb known accepted ≡ b → cond b (Asked c) (Refused known) ≡ Refused n → ⊥
+          on : (b : Bool) → eqb known accepted ≡ b → cond b (accept c) (refuse known) ≡ refuse n → ⊥
           on true g h = let w : ◌≡◌ {A = ℕ} 0 1 = cc in omega arith
           on false g h = let w : known ≡ n = cc in eqb-false known accepted g (w ∙ z)
 
   -- a message that is turned back early gets that number
-  early_refused : ((known ≡ accepted → ⊥) → rules_of s ≡ known) → (n : ℕ) → early (asked x) known room ≡ Refused n
+  early_refused : ((known ≡ accepted → ⊥) → rules_of s ≡ known) → (n : ℕ) → early (asked x) known room ≡ refuse n
       → answer room s x ≡ refuse n
   unfolding answer
   early_refused rules n = by (ltb room 70) (asked x)
     where
-      by : (b : Bool) (m : Parsed) → cond b (Refused short_buffer) (unless_known known m) ≡ Refused n
+      by : (b : Bool) (m : Outcome Call) → cond b (refuse short_buffer) (unless_known known m) ≡ refuse n
           → test b short_buffer (respond s m (bytes_of x)) ≡ refuse n
       by true m e = let w : short_buffer ≡ n = cc in ap refuse w
-      by false (Refused k) e = let w : k ≡ n = cc in ap refuse w
-      by false (Asked c) e = on (eqb known accepted) refl e
+      by false (refuse k) e = let w : k ≡ n = cc in ap refuse w
+      by false (accept c) e = on (eqb known accepted) refl e
         where
-          on : (b : Bool) → eqb known accepted ≡ b → cond b (Asked c) (Refused known) ≡ Refused n
+          on : (b : Bool) → eqb known accepted ≡ b → cond b (accept c) (refuse known) ≡ refuse n
               → step s c (bytes_of x) ≡ refuse n
           on true g h = let w : ◌≡◌ {A = ℕ} 0 1 = cc in absurd (omega arith)
           on false g h =
@@ -86,17 +84,17 @@ module _ (room : ℕ) (s : State) (x : Sent) (known : ℕ) where
     unknown : known ≡ accepted
     is_step : answer room s x ≡ step s c (bytes_of x)
 
-  passed : (c : Call) → early (asked x) known room ≡ Asked c → Passed c
+  passed : (c : Call) → early (asked x) known room ≡ accept c → Passed c
   unfolding answer
   passed c = by (ltb room 70) refl (asked x) refl
     where
-      by : (b : Bool) → ltb room 70 ≡ b → (m : Parsed) → asked x ≡ m
-          → cond b (Refused short_buffer) (unless_known known m) ≡ Asked c → Passed c
+      by : (b : Bool) → ltb room 70 ≡ b → (m : Outcome Call) → asked x ≡ m
+          → cond b (refuse short_buffer) (unless_known known m) ≡ accept c → Passed c
       by true e m f h = let w : ◌≡◌ {A = ℕ} 0 1 = cc in absurd (omega arith)
-      by false e (Refused n) f h = let w : ◌≡◌ {A = ℕ} 0 1 = cc in absurd (omega arith)
-      by false e (Asked c') f h = on (eqb known accepted) refl h
+      by false e (refuse n) f h = let w : ◌≡◌ {A = ℕ} 0 1 = cc in absurd (omega arith)
+      by false e (accept c') f h = on (eqb known accepted) refl h
         where
-          on : (b : Bool) → eqb known accepted ≡ b → cond b (Asked c') (Refused known) ≡ Asked c → Passed c
+          on : (b : Bool) → eqb known accepted ≡ b → cond b (accept c') (refuse known) ≡ accept c → Passed c
           on true g h =
               let w : c' ≡ c = cc in
               record { roomy = ltb-false room 70 e; unknown = eqb-true known accepted g; is_step = rw (e, f, w) }
@@ -111,11 +109,11 @@ answer_told room s x = by (ltb room 70) (asked x) refl
     go (refuse n) h = rw (ne_eqb n 0 (h n refl))
     go (accept r) h = refl
 
-    by : (b : Bool) (m : Parsed) → asked x ≡ m
+    by : (b : Bool) (m : Outcome Call) → asked x ≡ m
         → is_refusal (test b short_buffer (respond s m (bytes_of x))) ≡ not (eqb (number_of (test b short_buffer (respond s m (bytes_of x)))) 0)
     by true m e = refl
-    by false (Refused n) e = rw (ne_eqb n 0 (asked_some x n e))
-    by false (Asked c) e = go (step s c (bytes_of x)) (step_told s c (bytes_of x))
+    by false (refuse n) e = rw (ne_eqb n 0 (asked_some x n e))
+    by false (accept c) e = go (step s c (bytes_of x)) (step_told s c (bytes_of x))
 
 -- ---- what a message leaves
 
@@ -138,13 +136,13 @@ pub record Decided (s : State) (x : Sent) (out bs : List ℕ) (d : Decision) : T
       → Served s (answer (length out) s x) out d.number d.moved d.laid d.len (state_of t' fast' slow') out'
 
 -- the message that was parsed to m, of which p is left to ask for
-module _ (s : State) (x : Sent) (m p : Parsed) (known : ℕ) (out : List ℕ) (em : m ≡ asked x)
+module _ (s : State) (x : Sent) (m p : Outcome Call) (known : ℕ) (out : List ℕ) (em : m ≡ asked x)
     (ep : p ≡ early m known (length out)) where
   is_early : p ≡ early (asked x) known (length out)
   is_early = rw em at ep
 
   -- turned back early
-  pub served_early : (n : ℕ) (out' : List ℕ) → p ≡ Refused n → ((known ≡ accepted → ⊥) → rules_of s ≡ known)
+  pub served_early : (n : ℕ) (out' : List ℕ) → p ≡ refuse n → ((known ≡ accepted → ⊥) → rules_of s ≡ known)
       → out' ≡ over (reply_in (length out) (refuse n)) out
       → Served s (answer (length out) s x) out n false 0 0 s out'
   served_early n out' e rules f =
@@ -152,11 +150,11 @@ module _ (s : State) (x : Sent) (m p : Parsed) (known : ℕ) (out : List ℕ) (e
       rw is (record { number_is = refl; moved_is = refl; laid_is = refl; len_is = refl; state_out = refl; reply_out = f })
 
   -- with a number that is not 0
-  pub some_number : (n : ℕ) → p ≡ Refused n → n ≡ accepted → ⊥
+  pub some_number : (n : ℕ) → p ≡ refuse n → n ≡ accepted → ⊥
   some_number n e = early_some (length out) s x known n (sym is_early ∙ e)
 
   -- decided on
-  pub decided : (c : Call) (bs : List ℕ) (d : Decision) → p ≡ Asked c → bs ≡ bytes_of x
+  pub decided : (c : Call) (bs : List ℕ) (d : Decision) → p ≡ accept c → bs ≡ bytes_of x
       → (known ≡ accepted
       → d ≡ decision_of s.tables c (decide_any s.tables (length s.fast) (length s.slow) c (length bs)))
       → Decided s x out bs d
@@ -203,7 +201,7 @@ replied s o out out' s' len moved r q m e =
 
 -- ---- the message that the reader yields, as the code comes to it
 
-pub asked_by : (l m : List ℕ) (next : Next) (p : Parsed) → m ≡ message_bytes l next → p ≡ asked_at next m → p ≡ asked (sent_by l next)
+pub asked_by : (l m : List ℕ) (next : Next) (p : Outcome Call) → m ≡ message_bytes l next → p ≡ asked_at next m → p ≡ asked (sent_by l next)
 asked_by l m next p f g = g ∙ rw f (by next)
   where
     by : (x : Next) → asked_at x (message_bytes l x) ≡ asked (sent_by l x)
@@ -230,10 +228,10 @@ rules_kept room s x = by (ltb room 70) (asked x)
     go c true e = let k = eqb-true (rules_of s) 0 e in step_ruled s c (bytes_of x) k ∙ sym k
     go c false e = ap (λ (o : Outcome Result). rules_of (left s o)) (step_unruled s c (bytes_of x) (rules_of s) refl (eqb-false (rules_of s) 0 e))
 
-    by : (b : Bool) (m : Parsed) → rules_of (left s (test b short_buffer (respond s m (bytes_of x)))) ≡ rules_of s
+    by : (b : Bool) (m : Outcome Call) → rules_of (left s (test b short_buffer (respond s m (bytes_of x)))) ≡ rules_of s
     by true m = refl
-    by false (Refused n) = refl
-    by false (Asked c) = go c (eqb (rules_of s) 0) refl
+    by false (refuse n) = refl
+    by false (accept c) = go c (eqb (rules_of s) 0) refl
 
 -- ---- the tables
 
@@ -242,11 +240,11 @@ pub unmoved : (room : ℕ) (s : State) (x : Sent) → moved_by (answer room s x)
 unfolding answer
 unmoved room s x = by (ltb room 70) (asked x)
   where
-    by : (b : Bool) (m : Parsed)
+    by : (b : Bool) (m : Outcome Call)
         → moved_by (test b short_buffer (respond s m (bytes_of x))) ≡ false → (left s (test b short_buffer (respond s m (bytes_of x)))).tables ≡ s.tables
     by true m e = refl
-    by false (Refused n) e = refl
-    by false (Asked c) e = step_unmoved s c (bytes_of x) e
+    by false (refuse n) e = refl
+    by false (accept c) e = step_unmoved s c (bytes_of x) e
 
 -- ---- a reply has 70 bytes at the most
 
@@ -257,10 +255,10 @@ reply_short room s x =
     let few = by (ltb room 70) (asked x) in
     rw (← k) (under (ltb room 70) few)
   where
-    by : (b : Bool) (m : Parsed) → length (data_of (test b short_buffer (respond s m (bytes_of x)))) ≤ 64
+    by : (b : Bool) (m : Outcome Call) → length (data_of (test b short_buffer (respond s m (bytes_of x)))) ≤ 64
     by true m = zero-le
-    by false (Refused n) = zero-le
-    by false (Asked c) = data_short s c (bytes_of x)
+    by false (refuse n) = zero-le
+    by false (accept c) = data_short s c (bytes_of x)
 
     under : (b : Bool) {n : ℕ} → n ≤ 64 → cond b 0 (6 + n) ≤ 70
     under true h = zero-le

@@ -9,23 +9,21 @@ use crate::{Next, Reader};
 pub fn next_at(file: &[u8], at: usize) -> Next
     ensures { Yields file.now at result }
 {
-    let end = file.len();
-    if at >= end {
-        return Next::End;
-    }
-    let left = end - at;
-    if left < 2 {
-        return Next::Cut;
-    }
-    let len = (file[at] as usize) * 256 + (file[at + 1] as usize);
-    if left - 2 < len {
-        return Next::Cut;
-    }
-    let start = at + 2;
-    Next::Message {
-        start: start,
-        len: len,
-        next: start + len,
+    match file.get(at..) {
+        None | Some([]) => Next::End,
+        Some([_]) => Next::Cut,
+        Some([high, low, rest @ ..]) => {
+            let len = u16::from_be_bytes([*high, *low]) as usize;
+            if rest.len() < len {
+                return Next::Cut;
+            }
+            let start = at + 2;
+            Next::Message {
+                start,
+                len,
+                next: start + len,
+            }
+        }
     }
 }
 

@@ -17,7 +17,7 @@ use Rattle.steps.specs.Steps.{Outcome, refuse, accept, test, number_of}
 use Rattle.steps.specs.Effects.{State, Result, left, laid_by}
 use Rattle.steps.specs.Promises.{state_of}
 use Rattle.steps.proofs.StepLaws.{step_number}
-use Rattle.messages.specs.declared.Parsed.{Parsed}
+use Rattle.steps.specs.declared.Call.{Call}
 use Rattle.messages.specs.declared.Tally.{Tally}
 use Rattle.messages.specs.Promises.{sent_alone}
 use Rattle.messages.specs.Replies.{reply, reply_in, up_to, counted, is_refusal}
@@ -30,7 +30,7 @@ use Rattle.theorems.specs.Demand1.{TallyObeys, WithinLimit, Demand1}
 
 -- ---- the number
 
-responded : (s : State) {a : Parsed} (bs : List ℕ) → Known a → allowed (number_of (respond s a bs)) ≡ true
+responded : (s : State) {a : Outcome Call} (bs : List ℕ) → Known a → allowed (number_of (respond s a bs)) ≡ true
 unfolding all
 responded s bs (bad {n} some own) = all_listed allowed own_numbers n refl own
 responded s bs (good {c}) = step_number s c bs

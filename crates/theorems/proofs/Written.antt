@@ -18,7 +18,6 @@ use Rattle.steps.specs.Calls.{outside}
 use Rattle.steps.specs.Stores.{part}
 use Rattle.steps.specs.Steps.{accept}
 use Rattle.steps.proofs.KindLaws.{kind_numbered, number_known, number_kind}
-use Rattle.messages.specs.declared.Parsed.TheVariants.{Asked}
 use Rattle.messages.specs.declared.Next.{Next}
 use Rattle.messages.specs.declared.Next.TheVariants.{Message, Cut, End}
 use Rattle.messages.specs.Messages.{parse, write_bytes, next_at}
@@ -50,7 +49,7 @@ module _ (c : Call) (bs : List ℕ) (i : InRange c bs) where
   body_long : length (body c bs) ≡ 2 + (count k + length (ending k bs))
   body_long = let n = values_count c bs in omega arith
 
-  pub parsed : parse (body c bs) ≡ Asked (canonical c)
+  pub parsed : parse (body c bs) ≡ accept (canonical c)
   unfolding parse call_of
   parsed =
       let m : List ℕ = body c bs in
@@ -59,7 +58,7 @@ module _ (c : Call) (bs : List ℕ) (i : InRange c bs) where
       let none : eqb (length m) 0 ≡ false = ne_eqb (length m) 0 (λ (z : length m ≡ 0). omega arith) in
       let one : eqb (length m) 1 ≡ false = ne_eqb (length m) 1 (λ (z : length m ≡ 1). omega arith) in
       rw (none, one, number_known k, kind_numbered k, le-ltb (length m) (least_length k) (omega (arith, fits.0)), le-ltb (most_length k) (length m) (omega (arith, fits.1)))
-      (ap Asked (kind_laws k c [] bs).asked_again)
+      (ap accept (kind_laws k c [] bs).asked_again)
 
   -- a write's bytes
   bytes_kept : has bytes k ≡ true → write_bytes (body c bs) ≡ bs

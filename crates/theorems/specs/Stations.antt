@@ -8,9 +8,8 @@ use Rattle.steps.specs.declared.Call.{Call}
 use Rattle.steps.specs.Kinds.{bytes, is_unknown, kind_of, has, call_of}
 use Rattle.steps.specs.Calls.{outside}
 use Rattle.steps.specs.Stores.{part}
-use Rattle.steps.specs.Steps.{Outcome, number_of}
+use Rattle.steps.specs.Steps.{Outcome, accept, number_of}
 use Rattle.steps.specs.Effects.{State, Result, laid_by, data_of}
-use Rattle.messages.specs.declared.Parsed.TheVariants.{Asked}
 use Rattle.messages.specs.declared.Next.{Next}
 use Rattle.messages.specs.declared.Next.TheVariants.{Message, Cut, End}
 use Rattle.messages.specs.Messages.{parse, write_bytes, next_at}
@@ -49,7 +48,7 @@ pub record CallRead (c : Call) (bs l : List ℕ) : Type 0 where
   -- the bytes after the length
   pub message : List ℕ
   pub sent : sent_alone l ≡ whole message
-  pub same_call : parse message ≡ Asked (canonical c)
+  pub same_call : parse message ≡ accept (canonical c)
   pub same_bytes : has bytes c.kind ≡ true → write_bytes message ≡ bs
 
 -- "Every call within document 01's ranges, written and read, is the same call": it is accepted, and so it is read of
@@ -78,7 +77,7 @@ pub record MessageKept (m l out' : List ℕ) (r : Written) : Type 0 where
 
 abbrev pub MessagesKept : Writer → Type 0
 MessagesKept writes =
-    (m l : List ℕ) (c : Call) (out out' : List ℕ) (r : Written) → sent_alone l ≡ whole m → parse m ≡ Asked c
+    (m l : List ℕ) (c : Call) (out out' : List ℕ) (r : Written) → sent_alone l ≡ whole m → parse m ≡ accept c
     → outside 254 (length (write_bytes m)) c ≡ accepted → 71 ≤ length out
     → Wrote (writes (length out) c (write_bytes m)) out out' r → MessageKept m l out' r
 
@@ -88,7 +87,7 @@ MessagesKept writes =
 -- message is such a kind (`kind_byte`), and for a message cut short every known kind is (`of_cut`).
 pub record OfKind (kind : ℕ) (x : Sent) : Type 0 where
   pub known : is_unknown kind ≡ false
-  pub same : (c : Call) → asked x ≡ Asked c → c.kind ≡ kind_of kind
+  pub same : (c : Call) → asked x ≡ accept c → c.kind ≡ kind_of kind
 
 -- bytes l with a reply at their front are read as what the message came to
 pub record ReplyTold (reads : ReplyReader) (kind : ℕ) (l : List ℕ) (o : Outcome Result) : Type 0 where

@@ -10,8 +10,7 @@ use Rattle.steps.specs.declared.Call.{Call}
 use Rattle.steps.specs.Kinds.{names, tells, kinds, kind_number, code, among, is_unknown, kind_of, least_length, most_length, argument, call_of, value, values}
 use Rattle.steps.specs.Data.{each_is, formed}
 use Rattle.steps.specs.Stores.{part, over}
-use Rattle.steps.specs.Steps.{Outcome, refuse, number_of}
-use Rattle.messages.specs.declared.Parsed.TheVariants.{Refused, Asked}
+use Rattle.steps.specs.Steps.{Outcome, refuse, accept, number_of}
 use Rattle.messages.specs.Messages.{is_foreign, parse, write_bytes, next_at}
 use Rattle.messages.specs.Replies.{reply_in}
 use Rattle.messages.specs.Run.{cut, whole, answer}
@@ -140,7 +139,7 @@ record Made (c : Call) : Type 0 where
   arguments : List ℕ
   is : c ≡ call_of kind arguments
 
-asked_made : (m : List ℕ) (c : Call) → parse m ≡ Asked c → Made c
+asked_made : (m : List ℕ) (c : Call) → parse m ≡ accept c → Made c
 unfolding parse
 asked_made m c =
     let k = kind_of (get_or m 1 0) in
@@ -148,9 +147,9 @@ asked_made m c =
     (ltb (length m) (least_length k) || ltb (most_length k) (length m))
   where
     go : (a b d : Bool)
-        → cond a (Refused 2) (cond b (Refused 3)
-        (cond d (Refused 4) (Asked (call_of (kind_of (get_or m 1 0)) (drop 2 m)))))
-        ≡ Asked c → Made c
+        → cond a (refuse 2) (cond b (refuse 3)
+        (cond d (refuse 4) (accept (call_of (kind_of (get_or m 1 0)) (drop 2 m)))))
+        ≡ accept c → Made c
     go true b d e = let z : ◌≡◌ {A = ℕ} 0 1 = cc in absurd (omega arith)
     go false true d e = let z : ◌≡◌ {A = ℕ} 0 1 = cc in absurd (omega arith)
     go false false true e = let z : ◌≡◌ {A = ℕ} 0 1 = cc in absurd (omega arith)

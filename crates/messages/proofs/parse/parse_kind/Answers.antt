@@ -7,7 +7,7 @@ use lib.Seq.{get_or-drop}
 use Rattle.steps.specs.declared.Kind.{Kind}
 use Rattle.steps.specs.declared.Kind.TheVariants.{Create, DeletePage, Grant, Read, Write, MakeCopy, DeleteCopy, SetCurrent, RemoveCurrent, LookPage, LookFrame, Retire}
 use Rattle.steps.specs.Kinds.{names, code, argument, call_of}
-use Rattle.messages.specs.declared.Parsed.TheVariants.{Asked}
+use Rattle.steps.specs.Steps.{accept}
 use Rattle.messages.proofs.parse.parse_kind.Goals as goal
 
 -- a kind names four arguments at the most, and they stand behind the version and the kind
@@ -26,8 +26,8 @@ first_of LookPage r = refl
 first_of LookFrame r = refl
 first_of Retire r = refl
 
-first_four : (k : Kind) (m : List ℕ) → Asked (call_of k (get_or m 2 0 ∷ get_or m 3 0 ∷ get_or m 4 0 ∷ get_or m 5 0 ∷ [])) ≡ Asked (call_of k (drop 2 m))
-first_four k m = rw (← get_or-drop 2 m 0 0, ← get_or-drop 2 m 1 0, ← get_or-drop 2 m 2 0, ← get_or-drop 2 m 3 0) (ap Asked (first_of k (drop 2 m)))
+first_four : (k : Kind) (m : List ℕ) → accept (call_of k (get_or m 2 0 ∷ get_or m 3 0 ∷ get_or m 4 0 ∷ get_or m 5 0 ∷ [])) ≡ accept (call_of k (drop 2 m))
+first_four k m = rw (← get_or-drop 2 m 0 0, ← get_or-drop 2 m 1 0, ← get_or-drop 2 m 2 0, ← get_or-drop 2 m 3 0) (ap accept (first_of k (drop 2 m)))
 
 pub returns-then-n-f : goal.returns-then-n-f
 returns-then-n-f c = rw (rw c.form_of-f.ensures at c.if-n-f.true) c.turned_back.ensures
