@@ -64,22 +64,22 @@ fn lacks_right(page: Page, station: u8, act: Act) -> Result<(), Refusal>
     Ok(())
 }
 
-#[tactic(auto, unfolding(crate::specs::Steps::perform), using(crate::proofs::GuardLaws::guard_refused, crate::proofs::GuardLaws::guard_on))]
+#[tactic(auto, unfolding(crate::specs::Steps::perform), using(crate::proofs::GuardLaws::guard_refused, crate::proofs::CountLaws::read_none, crate::proofs::CountLaws::read_some))]
 pub(crate) fn read_page(view: View, call: Call) -> Result<Plan, Refusal>
     ensures { (size : ℕ) → outcome_of result ≡ perform view call size Read }
 {
     let page = view.page;
     lacks_right(page, call.station, Act::Read)?;
-    let Some(c) = first_current(page) else {
-        return Err(Refusal::NothingCurrent);
-    };
-    Ok(Plan::showing(
-        call.count as usize,
-        Show::Frame {
-            frame: c.frame,
-            offset: call.offset,
-        },
-    ))
+    match first_current(page) {
+        Some(c) => Ok(Plan::showing(
+            call.count as usize,
+            Show::Frame {
+                frame: c.frame,
+                offset: call.offset,
+            },
+        )),
+        None => Err(Refusal::NothingCurrent),
+    }
 }
 
 #[tactic(auto, unfolding(crate::specs::Steps::perform), using(crate::proofs::GuardLaws::guard_refused, crate::proofs::GuardLaws::guard_on))]
