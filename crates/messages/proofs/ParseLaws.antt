@@ -1,18 +1,20 @@
 -- A message that its own bytes turn back gets 1, 2, 3 or 4; one that asks for a call is as long as its kind.
-use Prim.Native.Nat.{ℕ, ◌≤◌}
-use mathlib.Core.Path.{◌≡◌, refl, subst}
+use Prim.Native.Nat.{ℕ, ◌≤◌, ◌<◌}
+use mathlib.Core.Path.{◌≡◌, refl, ap, subst}
 use mathlib.Core.Bool.{Bool, true, false, ◌||◌, cond}
 use mathlib.Core.List.{List, [], ◌∷◌}
 use native.Mathlib.Omega.{arith}
 use lib.ListN.{length, drop, get_or}
 use lib.Dec.{ltb, eqb}
-use borrow.Author.Tests.{ltb-false}
+use borrow.Author.Tests.{ltb-false, eq-eqb, ne_eqb}
 use Rattle.tables.specs.Lists.{listed}
 use Rattle.tables.specs.Numbers.{cut_short, foreign_version, unknown_kind, wrong_length}
 use Rattle.steps.specs.declared.Call.{Call}
 use Rattle.steps.specs.Kinds.{is_unknown, kind_of, least_length, most_length, call_of}
-use Rattle.steps.specs.Steps.{Outcome, refuse, accept}
-use Rattle.messages.specs.Messages.{is_foreign, parse}
+use Rattle.steps.specs.Steps.{Outcome, refuse, accept, test}
+use Rattle.steps.specs.Promises.{kind_known}
+use Rattle.steps.specs.declared.Kind.{Kind}
+use Rattle.messages.specs.Messages.{is_foreign, parse_as, parse_kind, parse}
 use Rattle.messages.specs.Run.{Sent, cut, whole, asked}
 
 abbrev pub own_numbers : List ℕ
@@ -79,3 +81,47 @@ unfolding call_of
 asked_long m c e =
     let a = asked_by m c e in
     subst (λ (d : Call). least_length d.kind ≤ length m) a.call a.least
+
+-- ---- each way out of `parse`
+
+module _ (m : List ℕ) where
+  pub is_none : length m < 1 → refuse foreign_version ≡ parse m
+  unfolding parse
+  is_none h = rw (eq-eqb (length m) 0 (omega arith))
+
+  module _ (some : 1 ≤ length m) where
+    not_none : eqb (length m) 0 ≡ false
+    not_none = ne_eqb (length m) 0 (λ e. omega arith)
+
+    pub other_version : (get_or m 0 0 ≡ 1 → ⊥) → refuse foreign_version ≡ parse m
+    unfolding parse
+    other_version ne = rw (not_none, ne_eqb (get_or m 0 0) 1 ne)
+
+    module _ (first : get_or m 0 0 ≡ 1) where
+      pub no_kind : length m < 2 → refuse unknown_kind ≡ parse m
+      unfolding parse
+      no_kind few = rw (not_none, eq-eqb (get_or m 0 0) 1 first, eq-eqb (length m) 1 (omega arith))
+
+      module _ (more : 2 ≤ length m) where
+        kind_there : eqb (length m) 1 ≡ false
+        kind_there = ne_eqb (length m) 1 (λ e. omega arith)
+
+        pub kind_refused : {n : ℕ} → refuse n ≡ kind_known (get_or m 1 0) → refuse n ≡ parse m
+        unfolding parse
+        kind_refused {n} e =
+            rw (not_none, eq-eqb (get_or m 0 0) 1 first, kind_there) (go (is_unknown (get_or m 1 0)) e)
+          where
+            go : (b : Bool) → refuse n ≡ test b unknown_kind (accept (kind_of (get_or m 1 0)))
+                → refuse n ≡ cond b (refuse unknown_kind) (parse_kind (get_or m 1 0) m)
+            go true e = cc
+            go false e = cc
+
+        pub kind_parsed : {k : Kind} → accept k ≡ kind_known (get_or m 1 0) → parse_as k m ≡ parse m
+        unfolding parse
+        kind_parsed {k} e =
+            rw (not_none, eq-eqb (get_or m 0 0) 1 first, kind_there) (go (is_unknown (get_or m 1 0)) e)
+          where
+            go : (b : Bool) → accept k ≡ test b unknown_kind (accept (kind_of (get_or m 1 0)))
+                → parse_as k m ≡ cond b (refuse unknown_kind) (parse_kind (get_or m 1 0) m)
+            go true e = cc
+            go false e = let w : k ≡ kind_of (get_or m 1 0) = cc in ap (λ (x : Kind). parse_as x m) w

@@ -6,9 +6,9 @@ use Rattle.tables.specs.Numbers.{accepted, cut_short, short_buffer}
 use Rattle.tables.specs.Rules.{frames_held, sound}
 use Rattle.steps.specs.declared.Decision.{Decision}
 use Rattle.steps.specs.Stores.{part, over, splice}
-use Rattle.steps.specs.Steps.{Outcome, refuse, accept}
+use Rattle.steps.specs.Steps.{Outcome, refuse, accept, decide, decide_any}
 use Rattle.steps.specs.Effects.{State, Result, left, moved_by, laid_by}
-use Rattle.steps.specs.Promises.{Lent, lent, carried, settled}
+use Rattle.steps.specs.Promises.{decision_of, Lent, lent, carried, settled}
 use Rattle.steps.specs.declared.Call.{Call}
 use Rattle.messages.specs.declared.Next.{Next}
 use Rattle.messages.specs.declared.Next.TheVariants.{Message, Cut, End}
@@ -59,10 +59,18 @@ abbrev pub unless_known : ℕ → Outcome Call → Outcome Call
 unless_known known (refuse n) = refuse n
 unless_known known (accept c) = cond (eqb known accepted) (accept c) (refuse known)
 
--- turned back, or what f makes of it
-abbrev pub and_then : {A B : Type 0} → Outcome A → (A → Outcome B) → Outcome B
+-- turned back, or what f makes of its call
+abbrev pub and_then : Outcome Call → (Call → Outcome Decision) → Outcome Decision
 and_then (refuse n) f = refuse n
-and_then (accept a) f = f a
+and_then (accept c) f = f c
+
+-- a message that asks for m, with `size` bytes of a write, decided on sound tables with stores that fit
+abbrev pub decided_on : Tables → ℕ → Outcome Call → Outcome Decision
+decided_on t size m = and_then m (λ (c : Call). decision_of t c (decide t c size))
+
+-- and on any tables, with stores of any lengths
+abbrev pub decided_any : Tables → ℕ → ℕ → ℕ → Outcome Call → Outcome Decision
+decided_any t fast slow size m = and_then m (λ (c : Call). decision_of t c (decide_any t fast slow c size))
 
 -- the first of these that turns a message back, and else its call, with a reply buffer of `room` bytes: 18; the
 -- message's own 1 to 4; `known`, which is 5, 6 or 0
@@ -109,6 +117,11 @@ RoomFor out (accept d) = ReplyRoom out d.len
 abbrev pub replied_by : Outcome Decision → List ℕ → Lent → Lent
 replied_by (refuse n) bs l = lent l.fast l.slow (over (reply_in (length l.out) (refuse n)) l.out)
 replied_by (accept d) bs l = replied_with d bs l
+
+-- whether it was turned back
+abbrev pub refused_then : Outcome Decision → Bool
+refused_then (refuse n) = true
+refused_then (accept d) = false
 
 -- the bytes laid, and the length of the data
 abbrev pub laid_then : Outcome Decision → ℕ

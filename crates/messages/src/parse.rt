@@ -3,6 +3,7 @@ ghost use Rattle.std.specs.Prelude.{◌≡◌, get_or};
 ghost use Rattle.steps.specs.Steps.{outcome_of};
 ghost use Rattle.messages.specs.Messages.{parse_as, parse, write_bytes};
 
+use crate::reading::bytes_from;
 use steps::{Call, Kind};
 use tables::Refusal;
 
@@ -18,13 +19,14 @@ fn parse_as(kind: Kind, m: &[u8]) -> Result<Call, Refusal>
     ensures { outcome_of result ≡ parse_as kind m.now }
 {
     let form = kind.form([byte_at(m, 2), byte_at(m, 3), byte_at(m, 4), byte_at(m, 5)]);
-    if m.len() < form.least as usize || form.most as usize < m.len() {
+    if m.len() < usize::from(form.least) || m.len() > usize::from(form.most) {
         return Err(Refusal::WrongLength);
     }
     Ok(form.call)
 }
 
 // What a message asks for by its own bytes.
+#[tactic(auto, using(crate::proofs::ParseLaws::is_none, crate::proofs::ParseLaws::other_version, crate::proofs::ParseLaws::no_kind, crate::proofs::ParseLaws::kind_refused, crate::proofs::ParseLaws::kind_parsed))]
 pub(crate) fn parse(m: &[u8]) -> Result<Call, Refusal>
     ensures { outcome_of result ≡ parse m.now }
 {
@@ -39,5 +41,5 @@ pub(crate) fn parse(m: &[u8]) -> Result<Call, Refusal>
 pub(crate) fn write_bytes(m: &[u8]) -> &[u8]
     ensures { result.now ≡ write_bytes m.now }
 {
-    m.get(5..).unwrap_or(&[])
+    bytes_from(m, 5)
 }

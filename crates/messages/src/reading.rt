@@ -1,18 +1,25 @@
 // The reader over a call file.
-ghost use Rattle.std.specs.Prelude.{◌≡◌};
+ghost use Rattle.std.specs.Prelude.{◌≡◌, drop};
 ghost use Rattle.messages.specs.Promises.{Yields};
 
 use crate::{Next, Reader};
+
+// The bytes from a place on; none past the end.
+pub(crate) fn bytes_from(bytes: &[u8], at: usize) -> &[u8]
+    ensures { result.now ≡ drop at bytes.now }
+{
+    bytes.get(at..).unwrap_or(&[])
+}
 
 // What stands at a place of the file.
 #[tactic(auto, using(crate::proofs::ReaderLaws::told_cut, crate::proofs::ReaderLaws::meant_cut))]
 pub fn next_at(file: &[u8], at: usize) -> Next
     ensures { Yields file.now at result }
 {
-    match file.get(at..) {
-        None | Some([]) => Next::End,
-        Some([_]) => Next::Cut,
-        Some([high, low, rest @ ..]) => {
+    match bytes_from(file, at) {
+        [] => Next::End,
+        [_] => Next::Cut,
+        [high, low, rest @ ..] => {
             let len = u16::from_be_bytes([*high, *low]) as usize;
             if rest.len() < len {
                 return Next::Cut;
