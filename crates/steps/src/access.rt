@@ -1,4 +1,6 @@
 // Steps 4 and 5: a station reads and writes.
+#![tactic(auto, unfolding(crate::specs::Steps::perform), using(crate::proofs::GuardLaws::guards))]
+
 ghost use Rattle.std.specs.Prelude.{◌≡◌, ℕ, ◌≤◌};
 ghost use Rattle.steps.specs.declared.Kind.TheVariants.{Read, Write};
 ghost use Rattle.steps.specs.Rights.{allows};
@@ -16,8 +18,7 @@ use tables::{Copy, Edit, Page, Refusal};
 fn right_of(page: Page, station: u8) -> u8
     ensures { result ≡ right_of page station }
 {
-    let s = station as usize;
-    if s < 16 { page.rights[s] } else { 0 }
+    page.rights.get(station as usize).copied().unwrap_or(0)
 }
 
 // Whether a right allows an act: document 01's rights and the two acts, pair by pair.
@@ -64,7 +65,6 @@ fn lacks_right(page: Page, station: u8, act: Act) -> Result<(), Refusal>
     Ok(())
 }
 
-#[tactic(auto, unfolding(crate::specs::Steps::perform), using(crate::proofs::GuardLaws::guard_refused, crate::proofs::CountLaws::read_none, crate::proofs::CountLaws::read_some))]
 pub(crate) fn read_page(view: View, call: Call) -> Result<Plan, Refusal>
     ensures { (size : ℕ) → outcome_of result ≡ perform view call size Read }
 {
@@ -82,7 +82,6 @@ pub(crate) fn read_page(view: View, call: Call) -> Result<Plan, Refusal>
     }
 }
 
-#[tactic(auto, unfolding(crate::specs::Steps::perform), using(crate::proofs::GuardLaws::guard_refused, crate::proofs::GuardLaws::guard_on))]
 pub(crate) fn write_page(view: View, call: Call, size: usize) -> Result<Plan, Refusal>
     requires { size ≤ 64 }
     ensures { outcome_of result ≡ perform view call size Write }

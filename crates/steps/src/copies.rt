@@ -1,4 +1,6 @@
 // Steps 6 to 9: the copies of a page.
+#![tactic(auto, unfolding(crate::specs::Steps::perform), using(crate::proofs::GuardLaws::guards))]
+
 ghost use Rattle.std.specs.Prelude.{◌≡◌, ℕ};
 ghost use Rattle.tables.specs.Numbers.{answer_number};
 ghost use Rattle.steps.specs.declared.Kind.TheVariants.{MakeCopy, DeleteCopy, SetCurrent, RemoveCurrent};
@@ -12,15 +14,11 @@ use tables::{Copy, Edit, NULL_FRAME, Page, Refusal};
 fn copy_at(page: Page, k: u8) -> Copy
     ensures { result ≡ copy_at page k }
 {
-    let i = k as usize;
-    if i < 8 {
-        return page.copies[i];
-    }
-    Copy {
+    page.copies.get(k as usize).copied().unwrap_or(Copy {
         frame: 0,
         current: false,
         recent: false,
-    }
+    })
 }
 
 // 9 and 12 of a step on copy k.
@@ -54,7 +52,6 @@ fn copied(c: Copy, frame: u8) -> Plan
     )
 }
 
-#[tactic(auto, unfolding(crate::specs::Steps::perform), using(crate::proofs::GuardLaws::guard_refused, crate::proofs::GuardLaws::guard_on))]
 pub(crate) fn make_copy(view: View, call: Call) -> Result<Plan, Refusal>
     ensures { (size : ℕ) → outcome_of result ≡ perform view call size MakeCopy }
 {
@@ -73,7 +70,6 @@ pub(crate) fn make_copy(view: View, call: Call) -> Result<Plan, Refusal>
     Ok(copied(copy_at(page, call.copy), call.frame))
 }
 
-#[tactic(auto, unfolding(crate::specs::Steps::perform), using(crate::proofs::GuardLaws::guard_refused, crate::proofs::GuardLaws::guard_on))]
 pub(crate) fn delete_copy(view: View, call: Call) -> Result<Plan, Refusal>
     ensures { (size : ℕ) → outcome_of result ≡ perform view call size DeleteCopy }
 {
@@ -87,7 +83,6 @@ pub(crate) fn delete_copy(view: View, call: Call) -> Result<Plan, Refusal>
     Ok(Plan::clearing(Edit::Removed { copy: call.copy }, c.frame))
 }
 
-#[tactic(auto, unfolding(crate::specs::Steps::perform), using(crate::proofs::GuardLaws::guard_refused, crate::proofs::GuardLaws::guard_on))]
 pub(crate) fn set_current(view: View, call: Call) -> Result<Plan, Refusal>
     ensures { (size : ℕ) → outcome_of result ≡ perform view call size SetCurrent }
 {
@@ -106,7 +101,6 @@ pub(crate) fn set_current(view: View, call: Call) -> Result<Plan, Refusal>
     }))
 }
 
-#[tactic(auto, unfolding(crate::specs::Steps::perform), using(crate::proofs::GuardLaws::guard_refused, crate::proofs::GuardLaws::guard_on))]
 pub(crate) fn remove_current(view: View, call: Call) -> Result<Plan, Refusal>
     ensures { (size : ℕ) → outcome_of result ≡ perform view call size RemoveCurrent }
 {

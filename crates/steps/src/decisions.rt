@@ -117,7 +117,7 @@ fn perform(view: View, call: Call, size: usize) -> Result<Plan, Refusal>
 }
 
 // The call on what it looks at: 7, and then the tests of its kind.
-#[tactic(auto, unfolding(crate::specs::Steps::decide_on), using(crate::proofs::GuardLaws::guard_refused, crate::proofs::GuardLaws::guard_on, crate::proofs::RangeLaws::write_short))]
+#[tactic(auto, unfolding(crate::specs::Steps::decide_on), using(crate::proofs::GuardLaws::guards, crate::proofs::RangeLaws::write_short))]
 fn decide_on(view: View, call: Call, size: usize) -> Result<Plan, Refusal>
     ensures { outcome_of result ≡ decide_on view call size }
 {
