@@ -6,7 +6,7 @@ use mathlib.Core.Bool.{Bool, true, false, not, ◌||◌, cond}
 use Rattle.std.specs.Prelude.{Some, None, is_some}
 use native.Mathlib.Omega.{arith}
 use lib.Dec.{ltb, eqb}
-use borrow.Author.Tests.{ltb-true, eqb-true, eqb-false}
+use borrow.Author.Tests.{ltb-true, eqb-true}
 use Rattle.tables.specs.declared.Page.{Page}
 use Rattle.tables.specs.declared.Change.{Change}
 use Rattle.tables.specs.declared.Tables.{Tables}

@@ -46,3 +46,6 @@ module _ {n : ℕ} {A : Type 0} (o : Outcome A) where
 
   pub guard_on : {r : Outcome A} → accepted ≡ n → r ≡ o → r ≡ guarded n o
   guard_on z e = rw (← z) e
+
+-- both, for the functions that test a call
+pub ruleset guards = (guard_refused, guard_on)

@@ -1,28 +1,70 @@
 -- A decision on sound tables: they are left sound, and the frames held are kept up to date from the page that changed.
-use Prim.Native.Nat.{ℕ, ◌≤◌}
+use Prim.Native.Nat.{ℕ, ◌+◌, ◌-◌, ◌*◌, ◌≤◌, ◌<◌}
 use mathlib.Core.Path.{◌≡◌, refl, sym, ap, ◌∙◌}
-use mathlib.Core.Bool.{true}
+use mathlib.Core.Bool.{Bool, true, false, not, cond}
 use Rattle.std.specs.Prelude.{Option, Some, None}
 use native.Mathlib.Omega.{arith}
+use borrow.Author.Tests.{eq-eqb}
+use Rattle.tables.specs.declared.refusals.Refusal.{Refusal}
+use Rattle.tables.specs.Numbers.{accepted, broken_tables, refusal_number}
+use Rattle.tables.proofs.ListLaws.{and_intro}
+use Rattle.tables.specs.declared.Page.{Page}
 use Rattle.tables.specs.declared.Change.{Change}
 use Rattle.tables.specs.declared.Tables.{Tables}
-use Rattle.tables.specs.Rules.{frames_held, sound}
-use Rattle.tables.specs.Changes.{after}
+use Rattle.tables.specs.Rules.{frames_held, sound, frame_total, frame_totals}
+use Rattle.tables.specs.Changes.{change_to, after}
 use Rattle.tables.proofs.ChangeSound.{sound_after}
-use Rattle.tables.proofs.HeldLaws.{held_low, held_after_lem}
+use Rattle.tables.proofs.HeldLaws.{held_low, held_total, held_after_lem}
 use Rattle.tables.proofs.RuleLaws.{sound_of, few_frames}
 use Rattle.steps.specs.declared.Call.{Call}
 use Rattle.steps.specs.declared.Decision.{Decision}
 use Rattle.steps.specs.declared.Plan.{Plan}
-use Rattle.steps.specs.Steps.{Outcome, refuse, accept, page_for, decide}
+use Rattle.steps.specs.Stores.{fits}
+use Rattle.steps.specs.Steps.{Outcome, refuse, accept, test, page_for, decide, rules_number}
 use Rattle.steps.specs.Effects.{tables_left}
-use Rattle.steps.specs.Promises.{decision_of, moved_to, settled, held_with, held_after}
+use Rattle.steps.specs.Promises.{decision_of, moved_to, settled, held_in, held_with, held_after}
+use Rattle.steps.proofs.GuardLaws.{refusal_some}
 use Rattle.steps.proofs.DecisionLaws.{page_near, change_is, Decided, decided}
 use Rattle.steps.proofs.DecideLaws.{IfDecided, if_accepted, PlanOk, decide_ok}
 
 -- at most 254 frames are held, so that their number goes into a byte
 pub held_few : (t : Tables) → sound t ≡ true → frames_held t ≤ 254
 held_few t ok = omega (arith, held_low t, few_frames (sound_of t ok))
+
+-- ---- counted at the start: stores of the right lengths fit, so that only 5 turns the tables back
+
+module _ (t : Tables) where
+  fitted : rules_number t (64 * t.shared.p) (64 * t.shared.s) ≡ cond (sound t) accepted broken_tables
+  unfolding fits
+  fitted = rw (and_intro (eq-eqb (64 * t.shared.p) _ refl) (eq-eqb (64 * t.shared.s) _ refl)) refl
+
+  pub held_refused : (refusal : Refusal) → refusal_number refusal ≡ rules_number t (64 * t.shared.p) (64 * t.shared.s)
+      → refuse (refusal_number refusal) ≡ held_in t
+  held_refused refusal e = go (sound t) (e ∙ fitted)
+    where
+      go : (b : Bool) → refusal_number refusal ≡ cond b accepted broken_tables
+          → refuse (refusal_number refusal) ≡ test (not b) broken_tables (accept (frames_held t))
+      go true e = absurd (refusal_some refusal e)
+      go false e = ap refuse e
+
+  module _ (e : accepted ≡ rules_number t (64 * t.shared.p) (64 * t.shared.s)) where
+    keeps : sound t ≡ true
+    keeps = go (sound t) (e ∙ fitted)
+      where
+        go : (b : Bool) → accepted ≡ cond b accepted broken_tables → b ≡ true
+        go true e = refl
+        go false e = absurd (omega arith)
+
+    pub held_told : {held : ℕ} → held ≡ frame_totals t.pages → accept held ≡ held_in t
+    held_told is = rw (keeps, is, held_total t keeps) refl
+
+    pub held_fits : {held : ℕ} → held ≡ frame_totals t.pages → held < 256
+    held_fits is = let total = held_total t keeps in let few = held_few t keeps in omega arith
+
+-- ---- after a decision
+
+change_of : {x : Change} {p f : ℕ} {g : Page} → x ≡ change_to p g f → x ≡ change_to p x.becomes x.retires
+change_of e = cc
 
 module _ (t : Tables) (ok : sound t ≡ true) (c : Call) (size : ℕ) where
   pub left_sound : sound (tables_left t c (decide t c size)) ≡ true
@@ -50,8 +92,8 @@ module _ (t : Tables) (ok : sound t ≡ true) (c : Call) (size : ℕ) where
         go : (change : Option Change) → d.change ≡ change → held_with (frames_held t) d.before change ≡ frames_held (moved_to t change)
         go None e = refl
         go (Some change) e =
-            let is = change_is _ (sym e ∙ decision_told.told.change_told) in
-            let same = ap (moved_to t) e in
-            rw (is, decision_told.told.before_told)
-            (held_after_lem t (page_for c) _ _ (page_near c) ok (ap sound (sym (ap (λ (x : Change). after t x) is) ∙ sym same) ∙ kept)
-            ∙ refl)
+            let same : change ≡ change_to (page_for c) change.becomes change.retires = change_of (change_is _ (sym e ∙ decision_told.told.change_told)) in
+            let kept' : sound (after t (change_to (page_for c) change.becomes change.retires)) ≡ true = ap (λ (x : Change). sound (after t x)) (sym same) ∙ ap (λ (x : Option Change). sound (moved_to t x)) (sym e) ∙ kept in
+            ap (λ (g : Page). frames_held t - frame_total g + frame_total change.becomes) decision_told.told.before_told
+            ∙ held_after_lem t (page_for c) change.becomes change.retires (page_near c) ok kept'
+            ∙ ap (λ (x : Change). frames_held (after t x)) (sym same)

@@ -12,7 +12,7 @@ use Rattle.tables.proofs.ListLaws.{or_left, or_right, all_at, below_at}
 use Rattle.steps.specs.declared.Kind.{Kind}
 use Rattle.steps.specs.declared.Kind.TheVariants.{Create, DeletePage, Grant, Read, Write, MakeCopy, DeleteCopy, SetCurrent, RemoveCurrent, LookPage, LookFrame, Retire}
 use Rattle.steps.specs.Kinds.{kinds, kind_number, is_unknown, kind_of}
-use Rattle.steps.specs.Steps.{Outcome, refuse, accept, test}
+use Rattle.steps.specs.Steps.{refuse, accept, test}
 use Rattle.steps.specs.Promises.{kind_known}
 
 -- ---- the kind with a number

@@ -21,9 +21,10 @@ use Rattle.steps.specs.declared.Decision.{Decision}
 use Rattle.steps.specs.Stores.{part, block}
 use Rattle.steps.specs.declared.Plan.{Plan}
 use Rattle.steps.specs.Steps.{Outcome, refuse, accept, mapped, first_current, page_for, view_of, rules_number, decide_any}
-use Rattle.steps.specs.Effects.{shown_of, State, carried_out, step, data_of, frame_place, work_at, place_of, read_place}
-use Rattle.steps.specs.Promises.{decision_of, work_of, len_of, bytes_at, pointer_at, ReadPart}
+use Rattle.steps.specs.Effects.{shown_of, State, carried_out, step, data_of, frame_place, no_place, work_at, place_of, read_place}
+use Rattle.steps.specs.Promises.{decision_on, decision_of, bytes_at, pointer_at, ReadPart}
 use Rattle.steps.specs.Private.{Room, PlaceIn}
+use Rattle.steps.proofs.DecisionLaws.{refused_by}
 use Rattle.steps.proofs.StoreLaws.{length_part, part_fast, part_slow, part_block}
 use Rattle.steps.proofs.DecideLaws.{IfAccepted, if_accepted, past_number}
 use Rattle.steps.proofs.PlanLaws.{read_shows}
@@ -66,16 +67,21 @@ place_low place x y limit h k l = go place.slow h
 
 -- ---- what a decision shows
 
-module _ (t : Tables) (fast slow : ℕ) (c : Call) (d : Decision) (is : d ≡ decision_of t c (decide_any t fast slow c 0)) where
+module _ (t : Tables) (fast slow : ℕ) (c : Call) where
   -- the place of what it shows or lays is that of the read
-  pub place_told : (w : Work) → d.work ≡ w → work_at t.shared.p w d.len ≡ read_place t fast slow c
-  place_told w e =
-      ap (λ (x : Work). work_at t.shared.p x d.len) (sym e) ∙ ap (λ (e : Decision). work_at t.shared.p e.work e.len) is
-      ∙ go (decide_any t fast slow c 0)
+  pub place_told : (d : Decision) → accept d ≡ decision_of t c (decide_any t fast slow c 0) → (w : Work) → d.work ≡ w
+      → work_at t.shared.p w d.len ≡ read_place t fast slow c
+  place_told d is w e = go (decide_any t fast slow c 0) is
     where
-      go : (o : Outcome Plan) → work_at t.shared.p (work_of o) (len_of o) ≡ place_of t.shared.p o
-      go (refuse n) = refl
-      go (accept plan) = refl
+      go : (o : Outcome Plan) → accept d ≡ decision_of t c o → work_at t.shared.p w d.len ≡ place_of t.shared.p o
+      go (refuse n) is = cc
+      go (accept plan) is =
+          let same : d ≡ decision_on (page_for c) (page_at t (page_for c)) plan = cc in
+          rw (← e, same) refl
+
+  -- and one that is turned back has none
+  pub no_place_told : {n : ℕ} → refuse n ≡ decision_of t c (decide_any t fast slow c 0) → no_place ≡ read_place t fast slow c
+  no_place_told e = sym (ap (place_of t.shared.p) (refused_by t c (decide_any t fast slow c 0) e))
 
 -- ---- a read
 

@@ -3,20 +3,22 @@
 use Prim.Native.Nat.{ℕ, ◌+◌, ◌%◌, ◌*◌, ◌≤◌, ◌<◌, zero-le}
 use mathlib.Core.Path.{◌≡◌, refl, sym, ap, ◌∙◌, subst}
 use mathlib.Core.Bool.{Bool, true, false, ◌||◌, cond, or-true, false≢true}
-use mathlib.Core.List.{List, ◌∷◌, ◌++◌}
+use mathlib.Core.List.{List, ◌∷◌}
+use Rattle.std.specs.Prelude.{Ok, Err, Some, None, is_some}
 use native.Mathlib.Omega.{arith}
 use lib.ListN.{length, take, drop, length-append, length-drop}
-use lib.Seq.{length-take-le, take-append_seam, drop-append_seam}
+use lib.Seq.{length-take-le}
 use lib.Dec.{eqb}
 use borrow.Author.Tests.{eqb-true, le-leb, eq-eqb}
 use Rattle.tables.specs.declared.Page.{Page}
+use Rattle.tables.specs.declared.Change.{Change}
 use Rattle.tables.specs.declared.Tables.{Tables}
+use Rattle.tables.specs.declared.refusals.Refusal.{Refusal}
 use Rattle.tables.specs.Lists.{listed}
-use Rattle.tables.specs.Numbers.{accepted, broken_tables, misfit_store, message_numbers}
+use Rattle.tables.specs.Numbers.{accepted, broken_tables, misfit_store, message_numbers, refusal_number}
 use Rattle.tables.specs.Model.{frames, is_null, absent, page_at}
 use Rattle.tables.specs.Rules.{sound}
 use Rattle.tables.specs.Changes.{after}
-use Rattle.tables.specs.Keep.{leaves_record}
 use Rattle.tables.proofs.ListLaws.{and_intro, and_left, and_right}
 use Rattle.tables.proofs.RuleLaws.{StandingPage, copy_at_lem, sound_of, standing_at}
 use Rattle.tables.proofs.ChangeSound.{sound_after}
@@ -24,17 +26,16 @@ use Rattle.steps.specs.declared.Call.{Call}
 use Rattle.steps.specs.declared.Decision.{Decision}
 use Rattle.steps.specs.Kinds.{tells, least_length}
 use Rattle.steps.specs.Data.{formed}
-use Rattle.steps.specs.Stores.{fits, block, contents, zeros, lay_frames, over}
+use Rattle.steps.specs.Stores.{fits, block, contents, zeros, over}
 use Rattle.steps.specs.declared.Plan.{Plan}
-use Rattle.steps.specs.Steps.{Outcome, refuse, accept, guarded, mapped, no_work, copy_at, page_for, decide, rules_number, decide_any, number_of}
-use Rattle.steps.specs.Effects.{laid_frames, stored, work_data, State, joined, Result, carried_out, step, left, moved_by, laid_by, data_of}
-use Rattle.steps.specs.Promises.{state_of, decision_of, Lent, lent, work_within, within, carried, Stepped, settled}
+use Rattle.steps.specs.Steps.{Outcome, refuse, accept, guarded, mapped, copy_at, page_for, decide, rules_number, decide_any, number_of}
+use Rattle.steps.specs.Effects.{stored, State, joined, Result, carried_out, step, left, moved_by, laid_by, data_of}
+use Rattle.steps.specs.Promises.{state_of, decision_of, moved_to, settled, Lent, lent, work_within, within, carried, Stepped}
 use Rattle.steps.specs.Private.{frames_in, DecisionTold}
 use Rattle.steps.proofs.GuardLaws.{turned_back, passed}
-use Rattle.steps.proofs.DecisionLaws.{page_near, decides_any}
+use Rattle.steps.proofs.DecisionLaws.{page_near, refused_by, decides, Decided, decided_any}
 use Rattle.steps.proofs.StoreLaws.{length_part}
 use Rattle.steps.proofs.WorkLaws.{length_stored}
-use Rattle.steps.proofs.CarryLaws.{lent_same}
 use Rattle.steps.proofs.DecideLaws.{IfAccepted, IfDecided, call_numbers, if_refused, if_accepted, past_number, then_keeps, as_listed, PlanOk, decide_ok}
 
 -- ---- tables and stores that keep the rules
@@ -227,89 +228,89 @@ module _ (s : State) (c : Call) (bs : List ℕ) where
 
 -- ---- a decision carried out
 
+-- a call that is turned back is a step that is
+pub step_refused : (s : State) (c : Call) (bs : List ℕ) {n : ℕ}
+    → refuse n ≡ decision_of s.tables c (decide_any s.tables (length s.fast) (length s.slow) c (length bs)) → step s c bs ≡ refuse n
+unfolding step
+step_refused s c bs e = ap (mapped (carried_out s c bs)) (refused_by s.tables c _ e)
+
+-- what a decision of an accepted one leaves
 pub record Carries (s : State) (c : Call) (bs out : List ℕ) (d : Decision) : Type 0 where
-  pub number_is : d.number ≡ number_of (step s c bs)
-  pub moved_is : d.moved ≡ moved_by (step s c bs)
+  pub accepted_is : number_of (step s c bs) ≡ accepted
+  pub moved_is : is_some d.change ≡ moved_by (step s c bs)
   pub laid_is : d.laid ≡ laid_by (step s c bs)
   pub len_is : d.len ≡ length (data_of (step s c bs))
   pub tables_is : settled s.tables d ≡ (left s (step s c bs)).tables
   pub left_is : carried d bs (lent s.fast s.slow out)
       ≡ lent (left s (step s c bs)).fast (left s (step s c bs)).slow (over (data_of (step s c bs)) out)
 
--- one with nothing to do leaves all as lent
-carried_nothing : (d : Decision) (bs x y out : List ℕ) → d.work ≡ no_work → carried d bs (lent x y out) ≡ lent x y out
-unfolding carried laid_frames lay_frames
-carried_nothing d bs x y out e = go (within d (length bs) (lent x y out))
-  where
-    go : (b : Bool)
-        → cond b (lent (take (length x) (stored d.before d.work bs (x ++ y))) (drop (length x) (stored d.before d.work bs (x ++ y)))
-        (over (work_data d.before d.work d.len (x ++ y)) out)) (lent x y out)
-        ≡ lent x y out
-    go true = rw e (lent_same (take-append_seam x y) (drop-append_seam x y) refl)
-    go false = refl
-
 -- one made on what keeps the rules lies within it
 pub decided_within : (s : State) (c : Call) (size : ℕ) (out : List ℕ) (d : Decision) → Good s → 64 ≤ length out
-    → DecisionTold s.tables c (decide s.tables c size) d → within d size (lent s.fast s.slow out) ≡ true
+    → Decided s.tables c (decide s.tables c size) d → within d size (lent s.fast s.slow out) ≡ true
 decided_within s c size out d i room q =
     let l = fit_lengths s.tables (length s.fast) (length s.slow) i.stores_fit in
     let same : frames_in s.fast s.slow ≡ frames s.tables = omega arith in
     and_intro (le-leb 64 (length out) room) (and_intro (eq-eqb (length s.fast % 64) 0 (omega arith))
-    (rw same (go _ (decide_ok s.tables c size i.tables_sound) q)))
+    (rw same (go _ (decide_ok s.tables c size i.tables_sound) q.plan q.planned q.told)))
   where
-    go : (o : Outcome Plan) → IfDecided (PlanOk s.tables c size c.kind) o → DecisionTold s.tables c o d
+    go : (o : Outcome Plan) → IfDecided (PlanOk s.tables c size c.kind) o → (plan : Plan) → o ≡ accept plan → DecisionTold s.tables c plan d
         → work_within d.before d.len (frames s.tables) size d.work ≡ true
-    go (refuse n) k q = rw q.work_told refl
-    go (accept plan) (if_accepted u) q = rw (q.before_told, q.len_told, q.work_told) u.inside
+    go (refuse n) k plan e q = cc
+    go (accept plan') (if_accepted u) plan e q =
+        let same : plan ≡ plan' = cc in
+        rw (q.before_told, q.len_told, q.work_told, same) u.inside
 
 -- and a decision on any tables and stores, carried out, is the step
 pub carries : (s : State) (c : Call) (bs out : List ℕ) (d : Decision) → 64 ≤ length out
-    → d ≡ decision_of s.tables c (decide_any s.tables (length s.fast) (length s.slow) c (length bs)) → Carries s c bs out d
-unfolding step carried leaves_record
-carries s c bs out d room is = go _ refl (sure s c bs) q
+    → accept d ≡ decision_of s.tables c (decide_any s.tables (length s.fast) (length s.slow) c (length bs)) → Carries s c bs out d
+unfolding step carried
+carries s c bs out d room is = go _ refl (sure s c bs) q.plan q.planned q.told
   where
-    q : DecisionTold s.tables c (decide_any s.tables (length s.fast) (length s.slow) c (length bs)) d
-    q = decides_any s.tables c (length s.fast) (length s.slow) (length bs) d is
+    q : Decided s.tables c (decide_any s.tables (length s.fast) (length s.slow) c (length bs)) d
+    q = decided_any s.tables (length s.fast) (length s.slow) c (length bs) d is
 
-    so_told : (r : Outcome Result) → step s c bs ≡ r → d.number ≡ number_of r → d.moved ≡ moved_by r → d.laid ≡ laid_by r → d.len ≡ length (data_of r)
-        → settled s.tables d ≡ (left s r).tables
-        → carried d bs (lent s.fast s.slow out) ≡ lent (left s r).fast (left s r).slow (over (data_of r) out) → Carries s c bs out d
-    so_told r e n m l k t w =
+    go : (o : Outcome Plan) → o ≡ decide_any s.tables (length s.fast) (length s.slow) c (length bs) → IfAccepted (Sure s c bs) o → (plan : Plan)
+        → decide_any s.tables (length s.fast) (length s.slow) c (length bs) ≡ accept plan → DecisionTold s.tables c plan d → Carries s c bs out d
+    go (refuse n) e k plan f p = cc
+    go (accept plan') e (if_accepted u) plan f p =
+        let same : plan' ≡ plan = cc in
+        let sure' : Sure s c bs plan = subst (Sure s c bs) same u in
+        let ruled = decide_ruled s.tables _ _ c (length bs) (good_rules sure'.good) in
+        let inside = decided_within s c (length bs) out d sure'.good room (record { plan = plan; planned = sym ruled ∙ f; told = p }) in
+        let is_step : step s c bs ≡ accept (carried_out s c bs plan) = ap (mapped (carried_out s c bs)) f in
         record {
-          number_is = n ∙ sym (ap number_of e);
-          moved_is = m ∙ sym (ap moved_by e);
-          laid_is = l ∙ sym (ap laid_by e);
-          len_is = k ∙ sym (ap (λ (o : Outcome Result). length (data_of o)) e);
-          tables_is = t ∙ sym (ap (λ (o : Outcome Result). (left s o).tables) e);
-          left_is = w ∙ sym (ap (λ (o : Outcome Result). lent (left s o).fast (left s o).slow (over (data_of o) out)) e);
+          accepted_is = ap number_of is_step;
+          moved_is = p.moved_told ∙ sym (ap moved_by is_step);
+          laid_is = p.laid_told ∙ sym (ap laid_by is_step);
+          len_is = p.len_told ∙ sym (sure'.plan_ok.shows (joined s) (joined_long sure'.good)) ∙ sym (ap (λ (o : Outcome Result). length (data_of o)) is_step);
+          tables_is = p.tables_told ∙ sym (ap (λ (o : Outcome Result). (left s o).tables) is_step);
+          left_is = rw (inside, p.before_told, p.work_told, p.len_told) refl
+              ∙ sym (ap (λ (o : Outcome Result). lent (left s o).fast (left s o).slow (over (data_of o) out)) is_step);
         }
-
-    go : (o : Outcome Plan) → step s c bs ≡ mapped (carried_out s c bs) o → IfAccepted (Sure s c bs) o → DecisionTold s.tables c o d
-        → Carries s c bs out d
-    go (refuse n) e k p =
-        so_told (refuse n) e p.number_told p.moved_told p.laid_told p.len_told p.tables_told (carried_nothing d bs s.fast s.slow out p.work_told)
-    go (accept plan) e (if_accepted u) p =
-        let inside = decided_within s c (length bs) out d u.good room
-        (subst (λ (o : Outcome Plan). DecisionTold s.tables c o d) (decide_ruled s.tables _ _ c (length bs) (good_rules u.good)) q) in
-        so_told (accept (carried_out s c bs plan)) e p.number_told p.moved_told p.laid_told
-        (p.len_told ∙ sym (u.plan_ok.shows (joined s) (joined_long u.good))) p.tables_told
-        (rw (inside, p.before_told, p.work_told, p.len_told))
 
 -- a step that did not move the tables leaves those that came in
 pub step_unmoved : (s : State) (c : Call) (bs : List ℕ) → moved_by (step s c bs) ≡ false → (left s (step s c bs)).tables ≡ s.tables
-step_unmoved s c bs e =
-    let d = decision_of s.tables c (decide_any s.tables (length s.fast) (length s.slow) c (length bs)) in
-    let k = carries s c bs zeros d (omega arith) refl in
-    sym k.tables_is ∙ ap (λ (m : Bool). cond m (after s.tables d.change) s.tables) (k.moved_is ∙ e)
+unfolding step
+step_unmoved s c bs e = go _ (sure s c bs) e
+  where
+    go : (o : Outcome Plan) → IfAccepted (Sure s c bs) o → moved_by (mapped (carried_out s c bs) o) ≡ false
+        → (left s (mapped (carried_out s c bs) o)).tables ≡ s.tables
+    go (refuse n) k e = refl
+    go (accept plan) (if_accepted u) e =
+        let k = decides s.tables c plan u.good.tables_sound in
+        sym k.tables_told ∙ ap (moved_to s.tables) (none_is _ e _)
+      where
+        none_is : (b : Bool) → b ≡ false → (x : Change) → cond b (Some x) None ≡ None
+        none_is b e x = rw e refl
 
 -- so it has what `step` promises, with the tables that it leaves
 pub stepped : (s : State) (c : Call) (bs out : List ℕ) (d : Decision) → Carries s c bs out d → (t' : Tables) (x' y' out' : List ℕ)
     → t' ≡ settled s.tables d → lent x' y' out' ≡ carried d bs (lent s.fast s.slow out)
-    → Stepped s (step s c bs) out (state_of t' x' y') out' (record { number = d.number; laid = d.laid; len = d.len; tables = t' })
+    → Stepped s (step s c bs) out (state_of t' x' y') out' (record { answer = Ok tt; laid = d.laid; len = d.len; tables = t' })
 stepped s c bs out d k t' x' y' out' e w =
     let v = w ∙ k.left_is in
     record {
-      number_told = k.number_is;
+      number_told = sym k.accepted_is;
       laid_told = k.laid_is;
       len_told = k.len_is;
       state_out = same (e ∙ k.tables_is) (ap (λ (l : Lent). l.fast) v) (ap (λ (l : Lent). l.slow) v);
@@ -318,3 +319,11 @@ stepped s c bs out d k t' x' y' out' e w =
   where
     same : {t t'' : Tables} {x x'' y y'' : List ℕ} → t ≡ t'' → x ≡ x'' → y ≡ y'' → state_of t x y ≡ state_of t'' x'' y''
     same p q r = cc
+
+-- and one that is turned back leaves all as it was
+pub stepped_refused : (s : State) (c : Call) (bs out : List ℕ) (refusal : Refusal)
+    → refuse (refusal_number refusal) ≡ decision_of s.tables c (decide_any s.tables (length s.fast) (length s.slow) c (length bs))
+    → Stepped s (step s c bs) out s out (record { answer = Err refusal; laid = 0; len = 0; tables = s.tables })
+stepped_refused s c bs out refusal e =
+    rw (step_refused s c bs e)
+    record { number_told = refl; laid_told = refl; len_told = refl; state_out = refl; data_out = refl }

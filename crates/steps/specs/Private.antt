@@ -1,6 +1,6 @@
 -- What the private functions of this layer ask of each other and promise. For the proofs alone: no exported contract
 -- names it.
-use Rattle.std.specs.Prelude.{ℕ, ◌+◌, ◌*◌, ◌/◌, ◌%◌, ◌≤◌, ◌<◌, Bool, true, cond, Option, Some, None, is_some, List, [], ◌∷◌, ◌≡◌, length, get_or}
+use Rattle.std.specs.Prelude.{ℕ, ◌+◌, ◌*◌, ◌/◌, ◌%◌, ◌≤◌, ◌<◌, Bool, true, cond, is_some, List, [], ◌∷◌, ◌≡◌, length, get_or}
 use Rattle.tables.specs.declared.Copy.{Copy}
 use Rattle.tables.specs.declared.Page.{Page}
 use Rattle.tables.specs.declared.Tables.{Tables}
@@ -14,7 +14,7 @@ use Rattle.steps.specs.declared.Which.TheVariants.{Current, Recent, Placed}
 use Rattle.steps.specs.declared.Plan.{Plan}
 use Rattle.steps.specs.declared.Decision.{Decision}
 use Rattle.steps.specs.declared.Place.{Place}
-use Rattle.steps.specs.Steps.{plan_of, no_work, is_placed, currents, first_current, page_for}
+use Rattle.steps.specs.Steps.{plan_of, no_work, is_placed, page_for}
 use Rattle.steps.specs.Stores.{lay_frame}
 use Rattle.steps.specs.Effects.{moves, tables_after}
 use Rattle.steps.specs.Promises.{change_for, settled}
@@ -73,11 +73,6 @@ lay_each those st [] o b = st
 lay_each those st (c ∷ cs) o b = lay_each those (cond (those c) (lay_frame st c.frame o b) st) cs o b
 
 -- ---- what a call comes to
-
--- r is the lowest-numbered CURRENT copy: there is none, or the page has it and it is on the frame that a read looks at
-abbrev pub FirstCurrent : Page → Option Copy → Type 0
-FirstCurrent g None = currents g ≡ 0
-FirstCurrent g (Some c) = (1 ≤ currents g) × (c.frame ≡ first_current (copies_in_use g))
 
 -- nothing changes, and nothing is shown, laid or filled
 abbrev pub no_plan : Plan

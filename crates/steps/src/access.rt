@@ -1,4 +1,6 @@
 // Steps 4 and 5: a station reads and writes.
+#![tactic(auto, unfolding(crate::specs::Steps::perform), using(crate::proofs::GuardLaws::guards))]
+
 ghost use Rattle.std.specs.Prelude.{◌≡◌, ℕ, ◌≤◌};
 ghost use Rattle.steps.specs.declared.Kind.TheVariants.{Read, Write};
 ghost use Rattle.steps.specs.Rights.{allows};
@@ -64,25 +66,23 @@ fn lacks_right(page: Page, station: u8, act: Act) -> Result<(), Refusal>
     Ok(())
 }
 
-#[tactic(auto, unfolding(crate::specs::Steps::perform), using(crate::proofs::GuardLaws::guard_refused, crate::proofs::GuardLaws::guard_on))]
 pub(crate) fn read_page(view: View, call: Call) -> Result<Plan, Refusal>
     ensures { (size : ℕ) → outcome_of result ≡ perform view call size Read }
 {
     let page = view.page;
     lacks_right(page, call.station, Act::Read)?;
-    let Some(c) = first_current(page) else {
-        return Err(Refusal::NothingCurrent);
-    };
-    Ok(Plan::showing(
-        call.count as usize,
-        Show::Frame {
-            frame: c.frame,
-            offset: call.offset,
-        },
-    ))
+    match first_current(page) {
+        Some(c) => Ok(Plan::showing(
+            call.count as usize,
+            Show::Frame {
+                frame: c.frame,
+                offset: call.offset,
+            },
+        )),
+        None => Err(Refusal::NothingCurrent),
+    }
 }
 
-#[tactic(auto, unfolding(crate::specs::Steps::perform), using(crate::proofs::GuardLaws::guard_refused, crate::proofs::GuardLaws::guard_on))]
 pub(crate) fn write_page(view: View, call: Call, size: usize) -> Result<Plan, Refusal>
     requires { size ≤ 64 }
     ensures { outcome_of result ≡ perform view call size Write }

@@ -1,4 +1,6 @@
 // Steps 6 to 9: the copies of a page.
+#![tactic(auto, unfolding(crate::specs::Steps::perform), using(crate::proofs::GuardLaws::guards))]
+
 ghost use Rattle.std.specs.Prelude.{◌≡◌, ℕ};
 ghost use Rattle.tables.specs.Numbers.{answer_number};
 ghost use Rattle.steps.specs.declared.Kind.TheVariants.{MakeCopy, DeleteCopy, SetCurrent, RemoveCurrent};
@@ -54,7 +56,6 @@ fn copied(c: Copy, frame: u8) -> Plan
     )
 }
 
-#[tactic(auto, unfolding(crate::specs::Steps::perform), using(crate::proofs::GuardLaws::guard_refused, crate::proofs::GuardLaws::guard_on))]
 pub(crate) fn make_copy(view: View, call: Call) -> Result<Plan, Refusal>
     ensures { (size : ℕ) → outcome_of result ≡ perform view call size MakeCopy }
 {
@@ -73,7 +74,6 @@ pub(crate) fn make_copy(view: View, call: Call) -> Result<Plan, Refusal>
     Ok(copied(copy_at(page, call.copy), call.frame))
 }
 
-#[tactic(auto, unfolding(crate::specs::Steps::perform), using(crate::proofs::GuardLaws::guard_refused, crate::proofs::GuardLaws::guard_on))]
 pub(crate) fn delete_copy(view: View, call: Call) -> Result<Plan, Refusal>
     ensures { (size : ℕ) → outcome_of result ≡ perform view call size DeleteCopy }
 {
@@ -87,7 +87,6 @@ pub(crate) fn delete_copy(view: View, call: Call) -> Result<Plan, Refusal>
     Ok(Plan::clearing(Edit::Removed { copy: call.copy }, c.frame))
 }
 
-#[tactic(auto, unfolding(crate::specs::Steps::perform), using(crate::proofs::GuardLaws::guard_refused, crate::proofs::GuardLaws::guard_on))]
 pub(crate) fn set_current(view: View, call: Call) -> Result<Plan, Refusal>
     ensures { (size : ℕ) → outcome_of result ≡ perform view call size SetCurrent }
 {
@@ -106,7 +105,6 @@ pub(crate) fn set_current(view: View, call: Call) -> Result<Plan, Refusal>
     }))
 }
 
-#[tactic(auto, unfolding(crate::specs::Steps::perform), using(crate::proofs::GuardLaws::guard_refused, crate::proofs::GuardLaws::guard_on))]
 pub(crate) fn remove_current(view: View, call: Call) -> Result<Plan, Refusal>
     ensures { (size : ℕ) → outcome_of result ≡ perform view call size RemoveCurrent }
 {

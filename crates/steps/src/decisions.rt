@@ -117,7 +117,7 @@ fn perform(view: View, call: Call, size: usize) -> Result<Plan, Refusal>
 }
 
 // The call on what it looks at: 7, and then the tests of its kind.
-#[tactic(auto, unfolding(crate::specs::Steps::decide_on), using(crate::proofs::GuardLaws::guard_refused, crate::proofs::GuardLaws::guard_on, crate::proofs::RangeLaws::write_short))]
+#[tactic(auto, unfolding(crate::specs::Steps::decide_on), using(crate::proofs::GuardLaws::guards, crate::proofs::RangeLaws::write_short))]
 fn decide_on(view: View, call: Call, size: usize) -> Result<Plan, Refusal>
     ensures { outcome_of result ≡ decide_on view call size }
 {
@@ -191,6 +191,7 @@ pub fn decide(tables: Tables, call: Call, size: usize) -> Result<Decision, Refus
 }
 
 // 5 or 6 for these tables and stores of these lengths.
+#[tactic(auto, unfolding(crate::specs::Stores::fits))]
 pub fn rules(tables: Tables, fast_len: usize, slow_len: usize) -> Result<(), Refusal>
     ensures { answer_number result ≡ rules_number tables fast_len slow_len }
 {
@@ -208,6 +209,7 @@ pub fn rules(tables: Tables, fast_len: usize, slow_len: usize) -> Result<(), Ref
 // 5 for tables that break a rule; else how many frames are held. The test is `rules` with stores that fit: with a
 // second call of `sound` in the library the compiler no longer puts it into `rules`, and each answer copies the
 // tables once more.
+#[tactic(auto, using(crate::proofs::HeldLaws::held_refused, crate::proofs::HeldLaws::held_told, crate::proofs::HeldLaws::held_fits))]
 pub fn held_in(tables: Tables) -> Result<u8, Refusal>
     ensures { outcome_of result ≡ held_in tables }
 {

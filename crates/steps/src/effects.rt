@@ -192,6 +192,7 @@ fn shown_place(p: usize, show: Show, len: usize) -> Place
 }
 
 // Where the bytes of a read are, on any tables and for stores of these lengths; nowhere if it is refused.
+#[tactic(auto, unfolding(crate::specs::Kinds::names, crate::specs::Kinds::code, crate::specs::Kinds::argument, crate::specs::Kinds::call_of), using(crate::proofs::PlaceLaws::place_told, crate::proofs::PlaceLaws::no_place_told))]
 pub fn read_place(
     tables: Tables,
     fast: usize,

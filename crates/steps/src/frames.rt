@@ -1,4 +1,6 @@
 // Step 12: a frame is retired.
+#![tactic(auto, unfolding(crate::specs::Steps::perform), using(crate::proofs::GuardLaws::guards))]
+
 ghost use Rattle.std.specs.Prelude.{◌≡◌, ℕ};
 ghost use Rattle.steps.specs.declared.Kind.TheVariants.{Retire};
 ghost use Rattle.steps.specs.Steps.{outcome_of, perform};
@@ -6,7 +8,6 @@ ghost use Rattle.steps.specs.Steps.{outcome_of, perform};
 use crate::{Call, Plan, View};
 use tables::{Edit, Refusal};
 
-#[tactic(auto, unfolding(crate::specs::Steps::perform), using(crate::proofs::GuardLaws::guard_refused, crate::proofs::GuardLaws::guard_on))]
 pub(crate) fn retire(view: View, call: Call) -> Result<Plan, Refusal>
     ensures { (size : ℕ) → outcome_of result ≡ perform view call size Retire }
 {

@@ -1,4 +1,6 @@
 // Steps 10 and 11: what the tables show of a page and of a frame.
+#![tactic(auto, unfolding(crate::specs::Steps::perform), using(crate::proofs::GuardLaws::guards))]
+
 ghost use Rattle.std.specs.Prelude.{◌≡◌, [], ◌∷◌, ℕ, ◌≤◌, length};
 ghost use Rattle.tables.specs.Model.{copies_in_use};
 ghost use Rattle.tables.specs.Search.{shown};
@@ -27,7 +29,6 @@ fn copy_shown(c: Copy) -> [u8; 3]
     [c.frame, current, recent]
 }
 
-#[tactic(auto, unfolding(crate::specs::Steps::perform), using(crate::proofs::GuardLaws::guard_refused, crate::proofs::GuardLaws::guard_on))]
 pub(crate) fn look_page(view: View) -> Result<Plan, Refusal>
     ensures { (c : Call) (size : ℕ) → outcome_of result ≡ perform view c size LookPage }
 {
@@ -39,7 +40,6 @@ pub(crate) fn look_page(view: View) -> Result<Plan, Refusal>
     Ok(Plan::showing(1 + 3 * n, Show::Page))
 }
 
-#[tactic(auto, unfolding(crate::specs::Steps::perform), using(crate::proofs::GuardLaws::guard_refused, crate::proofs::GuardLaws::guard_on))]
 pub(crate) fn look_frame(view: View) -> Plan
     ensures { (c : Call) (size : ℕ) → accept result ≡ perform view c size LookFrame }
 {

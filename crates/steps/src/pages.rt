@@ -1,4 +1,6 @@
 // Steps 1 to 3: a page created or deleted, and a right granted.
+#![tactic(auto, unfolding(crate::specs::Steps::perform), using(crate::proofs::GuardLaws::guards))]
+
 ghost use Rattle.std.specs.Prelude.{◌≡◌, ℕ};
 ghost use Rattle.tables.specs.Numbers.{answer_number};
 ghost use Rattle.steps.specs.declared.Kind.TheVariants.{Create, DeletePage, Grant};
@@ -8,7 +10,6 @@ use crate::each::count_of;
 use crate::{Call, Lay, Plan, View, Which};
 use tables::{Edit, Page, Refusal};
 
-#[tactic(auto, unfolding(crate::specs::Steps::perform), using(crate::proofs::GuardLaws::guard_refused, crate::proofs::GuardLaws::guard_on))]
 pub(crate) fn create(view: View, call: Call) -> Result<Plan, Refusal>
     ensures { (size : ℕ) → outcome_of result ≡ perform view call size Create }
 {
@@ -33,7 +34,6 @@ fn lacks_owner(page: Page, station: u8) -> Result<(), Refusal>
     Ok(())
 }
 
-#[tactic(auto, unfolding(crate::specs::Steps::perform), using(crate::proofs::GuardLaws::guard_refused, crate::proofs::GuardLaws::guard_on))]
 pub(crate) fn delete_page(view: View, call: Call) -> Result<Plan, Refusal>
     ensures { (size : ℕ) → outcome_of result ≡ perform view call size DeletePage }
 {
@@ -44,7 +44,6 @@ pub(crate) fn delete_page(view: View, call: Call) -> Result<Plan, Refusal>
     Ok(Plan::laying(Edit::Deleted, laid as u16, Lay::ZerosEach))
 }
 
-#[tactic(auto, unfolding(crate::specs::Steps::perform), using(crate::proofs::GuardLaws::guard_refused, crate::proofs::GuardLaws::guard_on))]
 pub(crate) fn grant(view: View, call: Call) -> Result<Plan, Refusal>
     ensures { (size : ℕ) → outcome_of result ≡ perform view call size Grant }
 {
