@@ -2,23 +2,24 @@
 -- reader accepts one; a reply at the front of bytes; what is read of it, case by case.
 use Prim.Native.Nat.{ℕ, ◌+◌, ◌*◌, ◌/◌, ◌%◌, ◌≤◌, ◌<◌}
 use mathlib.Core.Path.{◌≡◌, refl, sym, ap, subst, ◌∙◌}
-use mathlib.Core.Bool.{Bool, true, false, not, ◌&&◌, ◌||◌, cond, true≢false}
+use mathlib.Core.Bool.{Bool, true, false, not, ◌&&◌, ◌||◌, cond}
 use mathlib.Core.List.{List, [], ◌∷◌, ◌++◌}
-use Rattle.std.specs.Prelude.{Result}
+use Rattle.std.specs.Prelude.{Result, Err}
 use native.Mathlib.Omega.{arith}
 use lib.ListN.{length, take, drop, get_or, length-append, length-drop}
 use lib.Seq.{get_or-drop, get_or-take, take-length}
-use lib.Dec.{leb, ltb, eqb}
-use borrow.Author.Tests.{leb-true, ltb-true, ltb-false, eqb-true, eqb-false, lt-leb, le-leb, not-true, not-false, eq-eqb, ne_eqb}
+use lib.Dec.{leb, eqb}
+use borrow.Author.Tests.{leb-true, eqb-true, lt-leb, le-leb, not-false, eq-eqb, ne_eqb}
 use Rattle.tables.specs.declared.refusals.Refusal.{Refusal}
-use Rattle.tables.specs.Lists.{all, all_below, listed}
-use Rattle.tables.specs.Numbers.{accepted, foreign_version, unknown_kind, wrong_length, all_numbers, refusal_number}
-use Rattle.tables.proofs.ListLaws.{and_intro, and_left, and_right, or_right, iff_eq, all_listed, below_at}
+use Rattle.tables.specs.declared.refusals.Refusal.TheVariants.{CutShort}
+use Rattle.tables.specs.Lists.{listed}
+use Rattle.tables.specs.Numbers.{accepted, cut_short, foreign_version, unknown_kind, wrong_length, all_numbers, refusal_number}
+use Rattle.tables.proofs.ListLaws.{and_left, and_right, or_right, iff_eq}
 use Rattle.steps.specs.declared.Kind.{Kind}
 use Rattle.steps.specs.declared.Data.{Data}
 use Rattle.steps.specs.declared.Data.TheVariants.{Empty, Bytes, Copies, Holder}
 use Rattle.steps.specs.Kinds.{tells, is_unknown, kind_of}
-use Rattle.steps.specs.Data.{is_mark, copy_marks_valid, each_is, many, formed}
+use Rattle.steps.specs.Data.{copy_marks_valid, many, formed}
 use Rattle.steps.specs.Stores.{part}
 use Rattle.steps.specs.Steps.{refuse, accept, test}
 use Rattle.steps.specs.Promises.{kind_known}
@@ -30,7 +31,7 @@ use Rattle.messages.specs.Messages.{is_foreign, next_at}
 use Rattle.messages.specs.Run.{whole}
 use Rattle.messages.specs.Promises.{sent_by, sent_alone}
 use Rattle.stations.specs.declared.Reply.{Reply as Told}
-use Rattle.stations.specs.Reader.{number_in, laid_stated, data_in, is_refusal_reply, is_reply, Reading, Refused, Reply, carried, reading, read_body, read_next, read_reply, content_of, reading_of, reply_content}
+use Rattle.stations.specs.Reader.{number_in, laid_stated, data_in, is_refusal_reply, is_reply, Refused, Reply, reading, read_body, read_next, read_reply, content_of, reading_of, reply_content}
 use Rattle.stations.specs.Private.{number_read, may_carry}
 use Rattle.stations.specs.Promises.{ReadOf}
 use Rattle.stations.proofs.FrontLaws.{next_front, part_front, Front, front_of, front_taken}
@@ -43,39 +44,6 @@ marks_own [] l e = absurd (omega arith)
 marks_own (_ ∷ []) l e = absurd (omega arith)
 marks_own (_ ∷ _ ∷ []) l e = absurd (omega arith)
 marks_own (_ ∷ _ ∷ _ ∷ x) l e = refl
-
-pub no_copies : (d : List ℕ) → length d ≡ 0 → formed Copies d ≡ false
-unfolding formed
-no_copies [] e = refl
-no_copies (x ∷ d) e = absurd (omega arith)
-
-and_end : (a : Bool) {b : Bool} → b ≡ false → (a && b) ≡ false
-and_end true e = e
-and_end false e = refl
-
-copies_few : (n : ℕ) → many 1 8 n ≡ not (eqb n 0 || ltb 8 n)
-copies_few n = go (eqb n 0) refl (ltb 8 n) refl
-  where
-    go : (a : Bool) → eqb n 0 ≡ a → (b : Bool) → ltb 8 n ≡ b → many 1 8 n ≡ not (a || b)
-    go true e b f = rw (lt-leb 1 n (let z = eqb-true n 0 e in omega arith)) refl
-    go false e true f = and_end (leb 1 n) (lt-leb n 8 (ltb-true 8 n f))
-    go false e false f = and_intro (le-leb 1 n (let z = eqb-false n 0 e in omega arith)) (le-leb n 8 (ltb-false 8 n f))
-
--- n of 0 or above 8
-pub copies_none : (d : List ℕ) → (eqb (get_or d 0 0) 0 || ltb 8 (get_or d 0 0)) ≡ true → formed Copies d ≡ false
-unfolding formed
-copies_none d e = rw (copies_few (get_or d 0 0), e)
-
--- another length than n says
-pub copies_odd : (d : List ℕ) → (length d ≡ 1 + 3 * get_or d 0 0 → ⊥) → formed Copies d ≡ false
-unfolding formed
-copies_odd d e = rw (ne_eqb (length d) (1 + 3 * get_or d 0 0) e) (and_end (many 1 8 (get_or d 0 0)) refl)
-
--- else the marks decide
-pub copies_marked : (d : List ℕ) → (eqb (get_or d 0 0) 0 || ltb 8 (get_or d 0 0)) ≡ false → length d ≡ 1 + 3 * get_or d 0 0
-    → formed Copies d ≡ each_is (get_or d 0 0) 3 copy_marks_valid (drop 1 d)
-unfolding formed
-copies_marked d e l = rw (copies_few (get_or d 0 0), e, eq-eqb (length d) (1 + 3 * get_or d 0 0) l)
 
 -- ---- a reply
 
@@ -347,3 +315,14 @@ reading_meant kind l = next (next_at l 0) refl
 -- so the answer has what `read_reply` promises
 pub read_of : (kind : ℕ) (l : List ℕ) {r : Result Told Refusal} → reading r ≡ read_reply kind l → ReadOf kind l r
 read_of kind l e = record { told = e; meant = ap (reading_of l) e ∙ reading_meant kind l }
+
+-- also where no whole message stands at the front
+pub read_none : (kind : ℕ) (l : List ℕ) (n : Next) → n ≡ next_at l 0 → ((start len next : ℕ) → n ≡ Message start len next → ⊥)
+    → ReadOf kind l (Err CutShort)
+unfolding read_reply
+read_none kind l n e none = read_of kind l (go n e none)
+  where
+    go : (n : Next) → n ≡ next_at l 0 → ((start len next : ℕ) → n ≡ Message start len next → ⊥) → Refused cut_short ≡ read_next kind l (next_at l 0)
+    go (Message start len next) e none = absurd (none start len next refl)
+    go Cut e none = rw (← e) refl
+    go End e none = rw (← e) refl

@@ -6,7 +6,7 @@ use mathlib.Core.Bool.{Bool, true, false, ◌&&◌, cond, false≢true}
 use mathlib.Core.List.{List, [], ◌∷◌, ◌++◌, append_assoc, append-nil}
 use native.Mathlib.Omega.{arith}
 use Rattle.std.specs.Prelude.{Ok, Err}
-use lib.ListN.{length, get_or, take, drop, replicate, length-append, length-take, length-drop, length-set}
+use lib.ListN.{length, get_or, take, drop, replicate, length-append, length-take}
 use native.Mathlib.Numerals.{add-one}
 use lib.Seq.{length-take-le, take-append-add, take_all, drop-drop, drop-cons}
 use lib.Dec.{leb, ltb, eqb}
@@ -15,7 +15,7 @@ use Rattle.tables.specs.Lists.{all}
 use Rattle.tables.specs.declared.refusals.Refusal.{Refusal}
 use Rattle.tables.specs.declared.refusals.Refusal.TheVariants.{ShortBuffer}
 use Rattle.tables.specs.Numbers.{accepted, unknown_kind, short_buffer, refusal_number}
-use Rattle.tables.proofs.ListLaws.{and_left, and_right, or_left, or_right, all_at}
+use Rattle.tables.proofs.ListLaws.{and_left, and_right, or_left, or_right}
 use Rattle.steps.specs.declared.Kind.{Kind}
 use Rattle.steps.specs.declared.Kind.TheVariants.{Create, DeletePage, Grant, Read, Write, MakeCopy, DeleteCopy, SetCurrent, RemoveCurrent, LookPage, LookFrame, Retire}
 use Rattle.steps.specs.declared.Call.{Call}
@@ -194,6 +194,22 @@ parts_laid h t out mid last n first second e room =
     ∙ ap (λ (l : List ℕ). h ++ l) (splice_front (drop (length h) out) t ∙ ap (λ (l : List ℕ). t ++ l) (drop-drop (length t) (length h) out))
     ∙ sym (append_assoc h t (drop (length h + length t) out)) ∙ ap (λ (k : ℕ). (h ++ t) ++ drop k out) (sym (length-append h t))
 
+-- with the four arguments one by one
+four_are : (r : List ℕ) → length r ≡ 4 → gets 0 4 r ≡ r
+four_are r e = gets_part 0 4 r (omega arith) ∙ take_all 4 r (omega arith)
+
+pub message_laid : (kind least most : ℕ) (r bs t out mid last : List ℕ) (n : ℕ) → length r ≡ 4 → MessageRoom least most bs out
+    → n ≡ singles least most → t ≡ tail least most bs
+    → mid ≡ spliced_within out 0 (take (4 + n) (0 ∷ (2 + n + length t) ∷ 1 ∷ kind ∷ gets 0 4 r)) → last ≡ spliced_within mid (4 + n) t
+    → last ≡ over (laid_message kind least most r bs) out
+message_laid kind least most r bs t out mid last n four room count end first second =
+    let few : n ≤ 4 = rw count room.few in
+    let short : n + length t ≤ 67 = rw (count, end) room.short in
+    let h : List ℕ = 0 ∷ (2 + n + length t) ∷ 1 ∷ kind ∷ r in
+    rw (← count, ← end)
+    (parts_laid (take (4 + n) h) t out mid last (4 + n) (first ∙ rw (four_are r four) refl) second (simp length-take (omega arith))
+    (omega (arith, room.room)))
+
 -- ---- what a call comes to
 
 module _ (k : Kind) (r bs : List ℕ) where
@@ -335,8 +351,8 @@ left_refused o refusal out e = rw e (record { number_told = refl; len_told = ref
 
 -- by a kind byte, with arguments r
 module _ (kind : ℕ) (r bs out : List ℕ) where
-  pub wrote_short : length out < 71 → Wrote (written_as (length out) kind r bs) out out (Err ShortBuffer)
-  wrote_short h = left_refused _ ShortBuffer out (as_short (length out) kind r bs h)
+  pub wrote_no_room : length out < 71 → Wrote (written_as (length out) kind r bs) out out (Err ShortBuffer)
+  wrote_no_room h = left_refused _ ShortBuffer out (as_short (length out) kind r bs h)
 
   pub wrote_unknown : (refusal : Refusal) → 71 ≤ length out → refuse (refusal_number refusal) ≡ kind_known kind
       → Wrote (written_as (length out) kind r bs) out out (Err refusal)
@@ -388,10 +404,10 @@ pub wrote_call : (c : Call) (bs out out' : List ℕ) (w : Written) (kind : ℕ) 
     → Wrote (written_as (length out) kind (gets 0 4 r) bs) out out' w → Wrote (written (length out) c bs) out out' w
 wrote_call c bs out out' w kind r k a x =
     wrote_same
-    (rw (k, a) (ap (λ (l : List ℕ). written_as (length out) (kind_number c.kind) l bs) (gets_part 0 4 (arguments c.kind c) (omega (arith, four_long c)) ∙ take_all 4 (arguments c.kind c) (omega (arith, four_long c)))
+    (rw (k, a) (ap (λ (l : List ℕ). written_as (length out) (kind_number c.kind) l bs) (four_are (arguments c.kind c) (four_long c))
     ∙ written_arguments (length out) c bs)) x
 
 -- its message has 71 bytes at the most
-pub written_low : (room kind : ℕ) (r bs : List ℕ) {out out' : List ℕ} {w : Written} → Wrote (written_as room kind r bs) out out' w → 4 ≤ length r
+pub wrote_short : (room kind : ℕ) (r bs : List ℕ) {out out' : List ℕ} {w : Written} → Wrote (written_as room kind r bs) out out' w → 4 ≤ length r
     → written_length w ≤ 71
-written_low room kind r bs x h = omega (arith, x.len_told, laid_short room kind r bs h)
+wrote_short room kind r bs x h = omega (arith, x.len_told, laid_short room kind r bs h)

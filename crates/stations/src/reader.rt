@@ -1,5 +1,5 @@
 // The reader for replies.
-ghost use Rattle.std.specs.Prelude.{◌*◌, ◌≡◌, length};
+ghost use Rattle.std.specs.Prelude.{◌/◌, ◌≡◌, length};
 ghost use Rattle.steps.specs.declared.Data.TheVariants.{Copies};
 ghost use Rattle.steps.specs.Data.{copy_marks_valid, each_is, formed};
 ghost use Rattle.steps.specs.Steps.{mapped, outcome_of};
@@ -24,10 +24,9 @@ fn refusal_of(number: u8) -> Result<Option<Refusal>, Refusal>
     }
 }
 
-// Whether both marks of each copy are 0 or 1, in the copies that a look at a page tells.
-fn marks_valid(copies: &[u8], n: usize) -> bool
-    requires { length copies.now ≡ 3 * n }
-    ensures { result ≡ each_is n 3 copy_marks_valid copies.now }
+// Whether both marks of each copy are 0 or 1, in the copies that a look at a page tells, three bytes each.
+fn marks_valid(copies: &[u8]) -> bool
+    ensures { result ≡ each_is (length copies.now / 3) 3 copy_marks_valid copies.now }
 {
     copies
         .chunks_exact(3)
@@ -43,13 +42,10 @@ fn are_copies(d: &[u8]) -> bool
         return false;
     };
     let n = *n as usize;
-    if (n == 0) | (n > 8) {
+    if (n == 0) | (n > 8) | (copies.len() != 3 * n) {
         return false;
     }
-    if copies.len() != 3 * n {
-        return false;
-    }
-    marks_valid(copies, n)
+    marks_valid(copies)
 }
 
 // Whether data are of the form that is told.

@@ -35,7 +35,6 @@ fn tail_of(form: Form, bytes: &[u8]) -> &[u8]
 
 // Lays the message of a call of this form to the front of the buffer, and gives its length. `bytes` end it where its
 // kind has them.
-#[tactic(auto, using(crate::proofs::WriterLaws::parts_laid))]
 fn lay_message(form: Form, arguments: [u8; 4], bytes: &[u8], out: &mut [u8]) -> usize
     requires { MessageRoom form.least form.most bytes.now out.old }
     ensures value { result ≡ length
@@ -47,7 +46,16 @@ fn lay_message(form: Form, arguments: [u8; 4], bytes: &[u8], out: &mut [u8]) -> 
     let tail = tail_of(form, bytes);
     let len = 2 + count + tail.len();
     let [first, second, third, fourth] = arguments;
-    let head = [0, len as u8, 1, u8::from(form.call.kind), first, second, third, fourth];
+    let head = [
+        0,
+        len as u8,
+        1,
+        u8::from(form.call.kind),
+        first,
+        second,
+        third,
+        fourth,
+    ];
     lay_bytes(out, 0, &head[..4 + count]);
     lay_bytes(out, 4 + count, tail);
     2 + len
@@ -55,7 +63,6 @@ fn lay_message(form: Form, arguments: [u8; 4], bytes: &[u8], out: &mut [u8]) -> 
 
 // Writes the call of a kind byte with its arguments in their order, those past its last one playing no part, and with
 // the bytes of a write.
-#[tactic(auto, using(crate::proofs::WriterLaws::wrote_short, crate::proofs::WriterLaws::wrote_unknown, crate::proofs::WriterLaws::wrote_outside, crate::proofs::WriterLaws::room_left, crate::proofs::WriterLaws::wrote_message))]
 pub fn write_kind(
     kind: u8,
     first: u8,
@@ -97,11 +104,18 @@ fn arguments_of(call: Call) -> [u8; 4]
 }
 
 // Writes a call, with the bytes of a write. What its kind does not name plays no part.
-#[tactic(auto, using(crate::proofs::WriterLaws::wrote_call), unfolding(crate::proofs::WriterLaws::gets))]
 pub fn write_call(call: Call, bytes: &[u8], out: &mut [u8]) -> Result<usize, Refusal>
     ensures { Wrote (written (length out.old) call bytes.now) out.old
         out.new result }
 {
     let [first, second, third, fourth] = arguments_of(call);
-    write_kind(u8::from(call.kind), first, second, third, fourth, bytes, out)
+    write_kind(
+        u8::from(call.kind),
+        first,
+        second,
+        third,
+        fourth,
+        bytes,
+        out,
+    )
 }

@@ -2,7 +2,7 @@
 use native.Mathlib.Omega.{arith}
 use mathlib.Core.Path.{◌∙◌, ap}
 use mathlib.Core.List.{List}
-use Prim.Native.Nat.{ℕ}
+use Prim.Native.Nat.{ℕ, ◌/◌}
 use lib.ListN.{length}
 use borrow.Author.Rules.{rules}
 use borrow.Author.Tests.{tests}
@@ -13,7 +13,8 @@ use Rattle.stations.proofs.reader.marks_valid.Goals as goal
 
 pub returns : goal.returns
 returns c =
-    let a = c.args in
-    chunks_all _ 3 copy_marks_valid _ (omega arith) (λ x b q k. search (rules, tests)) marks_own a.n _ _ c.chunks_exact.ensures.size
-    (ap length c.chunks_exact.ensures.rest ∙ c.requires) c.all.ensures.ran
-    ∙ ap (λ (l : List ℕ). each_is a.n 3 copy_marks_valid l) c.chunks_exact.ensures.rest
+    let rest = c.chunks_exact.ensures.rest in
+    let long = ap length rest in
+    chunks_all _ 3 copy_marks_valid _ (omega arith) (λ x b q k. search (rules, tests)) marks_own (length c.args.copies.now / 3) _ _ c.chunks_exact.ensures.size
+    (omega arith) (omega arith) c.all.ensures.ran
+    ∙ ap (λ (l : List ℕ). each_is (length c.args.copies.now / 3) 3 copy_marks_valid l) rest
