@@ -25,10 +25,9 @@ use Rattle.messages.specs.Replies.{be16}
 use Rattle.messages.specs.Run.{whole}
 use Rattle.messages.specs.Promises.{sent_by, sent_alone}
 use Rattle.messages.proofs.ParseLaws.{AskedBy, asked_by}
-use Rattle.stations.specs.declared.Written.{Written}
-use Rattle.stations.specs.Writer.{body, message_of, canonical, written}
+use Rattle.stations.specs.Writer.{body, message_of, canonical, written, Written, written_length}
 use Rattle.stations.specs.Promises.{Wrote}
-use Rattle.stations.specs.Private.{places, at_places}
+use Rattle.stations.specs.Private.{arguments}
 use Rattle.stations.proofs.WriterLaws.{count, ending, ending_is, count_least, three_singles, short_message, length_fits, kind_laws, named_made, four_long, values_of, values_are, values_count, written_inside, wrote_same}
 use Rattle.stations.proofs.FrontLaws.{next_front, part_front, front_of, front_taken}
 use Rattle.theorems.specs.Stations.{InRange, CallRead, CallsKept, MessagesKept}
@@ -63,8 +62,8 @@ module _ (c : Call) (bs : List ℕ) (i : InRange c bs) where
   -- a write's bytes
   bytes_kept : has bytes k ≡ true → write_bytes (body c bs) ≡ bs
   bytes_kept q =
-      ap (drop 3) (values_are c bs ∙ ap (λ (x : List ℕ). take (count k) (drop 1 (at_places c (places k))) ++ x) (ending_is k bs true q))
-      ∙ drop_at (take (count k) (drop 1 (at_places c (places k)))) bs 3 (length-take-le (count k) (drop 1 (at_places c (places k))) (four_long c) ∙ three_singles k q)
+      ap (drop 3) (values_are c bs ∙ ap (λ (x : List ℕ). take (count k) (arguments k c) ++ x) (ending_is k bs true q))
+      ∙ drop_at (take (count k) (arguments k c)) bs 3 (length-take-le (count k) (arguments k c) (omega (arith, four_long c, three_singles k q)) ∙ three_singles k q)
 
   -- it is short
   pub body_short : length (body c bs) ≤ 69
@@ -75,9 +74,9 @@ module _ (c : Call) (bs : List ℕ) (i : InRange c bs) where
   pub left_by : (out out' : List ℕ) (r : Written) → 71 ≤ length out → Wrote (written (length out) c bs) out out' r → Wrote (accept (message_of c bs)) out out' r
   left_by out out' r h w = wrote_same (written_inside (length out) c bs h i) w
 
-  pub taken_by : (out out' : List ℕ) (r : Written) → Wrote (accept (message_of c bs)) out out' r → take r.len out' ≡ message_of c bs
+  pub taken_by : (out out' : List ℕ) (r : Written) → Wrote (accept (message_of c bs)) out out' r → take (written_length r) out' ≡ message_of c bs
   taken_by out out' r a =
-      ap (take r.len) a.buffer_out ∙ take_at (message_of c bs) (drop (length (message_of c bs)) out) r.len (sym a.len_told)
+      ap (take (written_length r)) a.buffer_out ∙ take_at (message_of c bs) (drop (length (message_of c bs)) out) (written_length r) (sym a.len_told)
 
   read_by : (rest : List ℕ) → CallRead c bs (message_of c bs ++ rest)
   read_by rest =

@@ -2,7 +2,7 @@
 -- what the code gives: of whatever meets the contract of `write_call`, of the reader over messages and `parse`, and of
 -- what `read_reply` gives.
 use Rattle.std.specs.Prelude.{ℕ, ◌+◌, ◌≤◌, ◌<◌, ◌≡◌, true, false, List, [], ◌++◌, length, take, get_or}
-use Rattle.tables.specs.Numbers.{accepted}
+use Rattle.tables.specs.Numbers.{accepted, answer_number}
 use Rattle.steps.specs.declared.Kind.{Kind}
 use Rattle.steps.specs.declared.Call.{Call}
 use Rattle.steps.specs.Kinds.{bytes, is_unknown, kind_of, has, call_of}
@@ -16,11 +16,8 @@ use Rattle.messages.specs.Messages.{parse, write_bytes, next_at}
 use Rattle.messages.specs.Replies.{reply_in}
 use Rattle.messages.specs.Run.{Sent, cut, whole, asked, answer}
 use Rattle.messages.specs.Promises.{sent_alone}
-use Rattle.stations.specs.declared.Written.{Written}
-use Rattle.stations.specs.declared.Reading.{Reading}
-use Rattle.stations.specs.declared.Reading.TheVariants.{Reply}
-use Rattle.stations.specs.Writer.{canonical, written, written_as}
-use Rattle.stations.specs.Reader.{read_reply}
+use Rattle.stations.specs.Writer.{Written, written_length, canonical, written, written_as}
+use Rattle.stations.specs.Reader.{Reading, Reply, read_reply}
 use Rattle.stations.specs.Promises.{Wrote}
 
 -- what a writer makes of a call and a write's bytes, in a buffer of so many bytes: a message, or the number of its
@@ -54,8 +51,8 @@ pub record CallRead (c : Call) (bs l : List ℕ) : Type 0 where
 -- "Every call within document 01's ranges, written and read, is the same call": it is accepted, and so it is read of
 -- the message, whatever stands past it
 pub record CallKept (c : Call) (bs out' : List ℕ) (r : Written) : Type 0 where
-  pub number_told : r.number ≡ accepted
-  pub read : (rest : List ℕ) → CallRead c bs (take r.len out' ++ rest)
+  pub number_told : answer_number r ≡ accepted
+  pub read : (rest : List ℕ) → CallRead c bs (take (written_length r) out' ++ rest)
 
 abbrev pub CallsKept : Writer → Type 0
 CallsKept writes =
@@ -71,9 +68,9 @@ KindsWritten writes writes_as =
 -- "every message of those ranges that isn't refused 1 to 4, written again, has the same bytes": of a message m at the
 -- front of bytes l
 pub record MessageKept (m l out' : List ℕ) (r : Written) : Type 0 where
-  pub number_told : r.number ≡ accepted
-  pub len_told : r.len ≡ 2 + length m
-  pub same : take r.len out' ≡ take (2 + length m) l
+  pub number_told : answer_number r ≡ accepted
+  pub len_told : written_length r ≡ 2 + length m
+  pub same : take (written_length r) out' ≡ take (2 + length m) l
 
 abbrev pub MessagesKept : Writer → Type 0
 MessagesKept writes =
