@@ -25,67 +25,44 @@ fn no_tables() -> Tables
 }
 
 // Whether lent bytes hold tables: as many as tables take, with each mark 0 or 1.
-pub(crate) fn holds_tables(bytes: &[u8]) -> bool
+fn holds_tables(bytes: &[u8]) -> bool
     ensures { result ≡ tables_in bytes.now }
 {
-    if bytes.len() == TABLES_SIZE {
-        marks_valid(bytes)
-    } else {
-        false
-    }
+    bytes.len() == TABLES_SIZE && marks_valid(bytes)
 }
 
-// The tables in lent bytes, where it is known whether they hold any.
-pub(crate) fn tables_where(holds: bool, bytes: &[u8]) -> Tables
-    requires { holds ≡ tables_in bytes.now }
+pub fn tables_of(bytes: &[u8]) -> Tables
     ensures { result ≡ tables_of bytes.now }
 {
-    if holds {
+    if holds_tables(bytes) {
         tables_from(bytes)
     } else {
         no_tables()
     }
 }
 
-pub fn tables_of(bytes: &[u8]) -> Tables
-    ensures { result ≡ tables_of bytes.now }
-{
-    let holds = holds_tables(bytes);
-    tables_where(holds, bytes)
-}
-
-// Lays tables into lent bytes where that is wanted.
-pub(crate) fn put_where(wanted: bool, tables: Tables, bytes: &mut [u8])
-    requires { wanted ≡ true → length bytes.old ≡ tables_size }
-    ensures { bytes.new ≡ cond wanted (tables_bytes tables) bytes.old }
-{
-    if wanted {
-        put_tables(tables, bytes);
-    }
-}
-
 pub fn put_back(tables: Tables, bytes: &mut [u8])
     ensures { bytes.new ≡ with_tables bytes.old tables }
 {
-    let holds = holds_tables(&bytes[..]);
-    put_where(holds, tables, bytes);
+    if holds_tables(&bytes[..]) {
+        put_tables(tables, bytes);
+    }
 }
 
 pub(crate) fn tally_of(numbers: &[u32]) -> Tally
     ensures { result ≡ tally_of numbers.now }
 {
-    if numbers.len() == 3 {
-        Tally {
-            messages: numbers[0],
-            refusals: numbers[1],
-            laid: numbers[2],
-        }
-    } else {
-        Tally {
+    match numbers {
+        [messages, refusals, laid] => Tally {
+            messages: *messages,
+            refusals: *refusals,
+            laid: *laid,
+        },
+        _ => Tally {
             messages: 0,
             refusals: 0,
             laid: 0,
-        }
+        },
     }
 }
 
@@ -93,9 +70,7 @@ pub(crate) fn put_tally(tally: Tally, numbers: &mut [u32])
     ensures { numbers.new ≡ with_tally numbers.old tally }
 {
     if numbers.len() == 3 {
-        numbers[0] = tally.messages;
-        numbers[1] = tally.refusals;
-        numbers[2] = tally.laid;
+        numbers.copy_from_slice(&[tally.messages, tally.refusals, tally.laid]);
     }
 }
 
@@ -104,13 +79,8 @@ pub(crate) fn put_figures(f: Figures, numbers: &mut [u32])
     ensures { numbers.new ≡ with_figures numbers.old f }
 {
     if numbers.len() == FIGURES_SIZE {
-        numbers[0] = f.most as u32;
-        numbers[1] = f.laid;
-        let mut n: usize = 0;
-        while n < NUMBERS {
-            numbers[2 + n] = f.counts[n];
-            n += 1;
-        }
+        numbers[..2].copy_from_slice(&[u32::from(f.most), f.laid]);
+        numbers[2..].copy_from_slice(&f.counts);
     }
 }
 
@@ -118,20 +88,14 @@ pub(crate) fn packed(number: u8, len: usize, laid: u16) -> u32
     requires { len < 256 }
     ensures { result ≡ packed number len laid }
 {
-    number as u32 + 256 * len as u32 + 65536 * laid as u32
-}
-
-fn store_number(slow: bool) -> u32
-    ensures { result ≡ store_number slow }
-{
-    if slow { 1 } else { 0 }
+    u32::from(number) + 256 * len as u32 + 65536 * u32::from(laid)
 }
 
 pub(crate) fn place_number(place: Place) -> u32
     requires { Small place }
     ensures { result ≡ place_number place }
 {
-    place.len as u32 + 256 * store_number(place.slow) + 65536 * place.start as u32
+    place.len as u32 + 256 * u32::from(place.slow) + 65536 * place.start as u32
 }
 
 // What the reader of replies gives, in one number: its refusal, or 0 with what the reply tells.
@@ -140,14 +104,14 @@ pub(crate) fn reading_number(r: Reading) -> u64
     ensures { result ≡ reading_number r }
 {
     match r {
-        Reading::Refused { number } => number as u64,
+        Reading::Refused { number } => u64::from(number),
         Reading::Reply {
             number,
             laid,
             start,
             len,
-        } => 256 * number as u64
-            + 65536 * laid as u64
+        } => 256 * u64::from(number)
+            + 65536 * u64::from(laid)
             + 4294967296 * start as u64
             + 1099511627776 * len as u64,
     }

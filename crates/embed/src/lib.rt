@@ -14,10 +14,7 @@ ghost use Rattle.embed.specs.Exports.{version, tables_of, fresh_into, read_numbe
 ghost use Rattle.embed.specs.Exports.{AnswerPromised, RunPromised, RepliesPromised, ForecastPromised, WriteLent, reading_number};
 
 use image::{TABLES_SIZE, put_tables};
-use lent::{
-    holds_tables, packed, place_number, put_figures, put_tally, put_where, reading_number,
-    tables_where, tally_of,
-};
+use lent::{packed, place_number, put_figures, put_tally, reading_number, tally_of};
 pub use lent::{put_back, tables_of};
 use messages::{answer, fill, forecast, run};
 use stations::{read_reply, write_kind};
@@ -90,10 +87,11 @@ pub fn reel_answer(
         message.now out.old
         (kept tables.new fast.new slow.new) out.new result }
 {
-    let holds = holds_tables(&tables[..]);
-    let before = tables_where(holds, &tables[..]);
+    let before = tables_of(&tables[..]);
     let a = answer(before, fast, slow, message, out);
-    put_where(holds & a.moved, a.tables, tables);
+    if a.moved {
+        put_tables(a.tables, tables);
+    }
     packed(a.number, a.len, a.laid)
 }
 
@@ -111,11 +109,12 @@ pub fn reel_run(
         file.now out.old tally.old
         (kept tables.new fast.new slow.new) out.new tally.new }
 {
-    let holds = holds_tables(&tables[..]);
-    let before = tables_where(holds, &tables[..]);
+    let before = tables_of(&tables[..]);
     let counted = tally_of(&tally[..]);
     let ran = run(before, fast, slow, file, out, counted);
-    put_where(holds & ran.moved, ran.tables, tables);
+    if ran.moved {
+        put_tables(ran.tables, tables);
+    }
     put_tally(ran.tally, tally);
 }
 
@@ -137,11 +136,12 @@ pub fn reel_replies(
         (kept tables.new fast.new slow.new) out.new tally.new
         used.new result }
 {
-    let holds = holds_tables(&tables[..]);
-    let before = tables_where(holds, &tables[..]);
+    let before = tables_of(&tables[..]);
     let counted = tally_of(&tally[..]);
     let part = fill(before, fast, slow, file, at, out, counted);
-    put_where(holds & part.moved, part.tables, tables);
+    if part.moved {
+        put_tables(part.tables, tables);
+    }
     put_tally(part.tally, tally);
     *used = part.used;
     part.at
