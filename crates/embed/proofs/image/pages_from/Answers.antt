@@ -16,7 +16,7 @@ loop-i-preserved c =
     let lt : i < length c.loop-i.page-items = omega arith in (
       search rules,
       below_more _ _
-      (λ k h. let ne : k ≢ i = omega arith in rw get_or-set_other (before.1 k h)) (rw get_or-set_same c.page_at.ensures),
+          (λ k h. let ne : k ≢ i = omega arith in rw get_or-set_other (before.1 k h)) (rw get_or-set_same c.page_at.ensures),
     )
 
 pub returns : goal.returns
