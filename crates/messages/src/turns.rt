@@ -12,7 +12,7 @@ use crate::reading::message_at;
 use crate::replies::reply;
 use crate::tallies::count;
 use crate::{Answered, Filled, Next, Ran, Tally};
-use steps::{Call, Decision, decide, decide_any, rules, settle};
+use steps::{Call, Decision, decide, decide_any, rules};
 use tables::{Refusal, Tables};
 
 // The first of these that turns a message back, and else its call: 18; its own 1 to 4; `known`, which in a run is the 5
@@ -99,12 +99,21 @@ pub fn answer(
     let decided = decide_asked_any(tables, asked, bytes.len(), fast.len(), slow.len());
     let len = reply(decided, bytes, fast, slow, out);
     match decided {
-        Ok(d) => Answered {
-            answer: Ok(()),
-            len,
-            laid: d.laid,
-            moved: d.change.is_some(),
-            tables: settle(tables, d),
+        Ok(d) => match d.change {
+            Some(change) => Answered {
+                answer: Ok(()),
+                len,
+                laid: d.laid,
+                moved: true,
+                tables: tables.after(change),
+            },
+            None => Answered {
+                answer: Ok(()),
+                len,
+                laid: d.laid,
+                moved: false,
+                tables,
+            },
         },
         Err(refusal) => Answered {
             answer: Err(refusal),
@@ -194,8 +203,8 @@ fn serve(
         match decided {
             Ok(d) => {
                 count(&mut tally, false, d.laid);
-                if d.change.is_some() {
-                    tables = settle(tables, d);
+                if let Some(change) = d.change {
+                    tables = tables.after(change);
                     moved = true;
                 }
             }
