@@ -44,7 +44,7 @@ asked_some x n e z = go (asked x) (asked_known x) e
   where
     go : (m : Outcome Call) → Known m → m ≡ refuse n → ⊥
     go (refuse k) (bad some few) e = let w : k ≡ n = cc in omega arith
-    go (accept c) k e = let w : ◌≡◌ {A = ℕ} 0 1 = cc in omega arith
+    go (accept c) k e = cc
 
 -- a refusal is told by its number
 pub answer_told : (room : ℕ) (s : State) (x : Sent) → is_refusal (answer room s x) ≡ not (eqb (number_of (answer room s x)) 0)
