@@ -18,8 +18,6 @@ use Rattle.steps.specs.declared.Call.{Call}
 use Rattle.steps.specs.Steps.{Outcome, refuse, accept, test}
 use Rattle.steps.specs.Effects.{State, Result, step, left, moved_by}
 use Rattle.steps.proofs.StepLaws.{step_unruled}
-use Rattle.messages.specs.declared.Parsed.{Parsed}
-use Rattle.messages.specs.declared.Parsed.TheVariants.{Refused, Asked}
 use Rattle.messages.specs.Replies.{reply_in, is_refusal}
 use Rattle.messages.specs.Run.{Sent, Turn, asked, bytes_of, respond, answer, turn_of, left_by, turns_of, end_of}
 use Rattle.messages.specs.Run.{messages_of, run, moved_in, full, served, state_after, part_from}
@@ -63,10 +61,10 @@ moved_sound room s x = by (ltb room 70) (asked x)
     stepped c false z e =
         absurd (false≢true (rw (step_unruled s c (bytes_of x) broken_tables (rw z) (λ q. omega arith)) at e))
 
-    by : (b : Bool) (m : Parsed) → moved_by (test b short_buffer (respond s m (bytes_of x))) ≡ true → sound s.tables ≡ true
+    by : (b : Bool) (m : Outcome Call) → moved_by (test b short_buffer (respond s m (bytes_of x))) ≡ true → sound s.tables ≡ true
     by true m e = absurd (false≢true e)
-    by false (Refused n) e = absurd (false≢true e)
-    by false (Asked c) e = stepped c (sound s.tables) refl e
+    by false (refuse n) e = absurd (false≢true e)
+    by false (accept c) e = stepped c (sound s.tables) refl e
 
 -- nor does a message before others, where those do not either
 turn_sound : (room : ℕ) (s : State) (x : Sent) (later : Bool) → (later ≡ true → sound (left_by room s x).tables ≡ true)

@@ -1,14 +1,18 @@
 // What is lent: bytes of any length for the tables, numbers for a tally, and numbers packed into one.
-ghost use Rattle.std.specs.Prelude.{◌≡◌, ◌<◌};
+ghost use Rattle.std.specs.Prelude.{◌≡◌, true, cond, ◌<◌, length};
+ghost use Rattle.tables.specs.Numbers.{answer_number};
+ghost use Rattle.messages.specs.Forecast.{figures_told};
+ghost use Rattle.stations.specs.Reader.{reading, carried};
+ghost use Rattle.embed.specs.Bytes.{tables_size, tables_bytes};
 ghost use Rattle.embed.specs.Private.{Small, Low};
 ghost use Rattle.embed.specs.Exports.{tables_in, no_tables, tables_of, with_tables, tally_of, with_tally, with_figures};
 ghost use Rattle.embed.specs.Exports.{place_number, packed, reading_number};
 
 use crate::image::{TABLES_SIZE, marks_valid, put_tables, tables_from};
 use messages::{Figures, NUMBERS, Tally};
-use stations::Reading;
+use stations::Reply;
 use steps::Place;
-use tables::Tables;
+use tables::{Refusal, Tables};
 
 // How many figures a forecast has: the most frames held, the bytes laid, and the counts.
 const FIGURES_SIZE: usize = 2 + NUMBERS;
@@ -74,11 +78,21 @@ pub(crate) fn put_tally(tally: Tally, numbers: &mut [u32])
 
 // The figures of a forecast: the most frames held, the bytes laid, and the counts, from number 0 on.
 pub(crate) fn put_figures(f: Figures, numbers: &mut [u32])
-    ensures { numbers.new ≡ with_figures numbers.old f }
+    ensures { numbers.new ≡ with_figures numbers.old (figures_told f) }
 {
     if numbers.len() == FIGURES_SIZE {
         numbers[..2].copy_from_slice(&[u32::from(f.most), f.laid]);
         numbers[2..].copy_from_slice(&f.counts);
+    }
+}
+
+// The number of an answer: that of its refusal, or 0.
+pub(crate) fn answer_number(answer: Result<(), Refusal>) -> u8
+    ensures { result ≡ answer_number answer }
+{
+    match answer {
+        Ok(()) => 0,
+        Err(refusal) => u8::from(refusal),
     }
 }
 
@@ -96,21 +110,28 @@ pub(crate) fn place_number(place: Place) -> u32
     place.len as u32 + 256 * u32::from(place.slow) + 65536 * place.start as u32
 }
 
-// What the reader of replies gives, in one number: its refusal, or 0 with what the reply tells.
-pub(crate) fn reading_number(r: Reading) -> u64
-    requires { Low r }
-    ensures { result ≡ reading_number r }
+// The number that a reply carries.
+fn carried(refusal: Option<Refusal>) -> u8
+    ensures { result ≡ carried refusal }
 {
-    match r {
-        Reading::Refused { number } => u64::from(number),
-        Reading::Reply {
-            number,
-            laid,
-            start,
-            len,
-        } => 256 * u64::from(number)
-            + 65536 * u64::from(laid)
-            + 4294967296 * start as u64
-            + 1099511627776 * len as u64,
+    match refusal {
+        Some(refusal) => u8::from(refusal),
+        None => 0,
+    }
+}
+
+// What the reader of replies gives, in one number: its refusal, or 0 with what the reply tells.
+pub(crate) fn reading_number(read: Result<Reply, Refusal>) -> u64
+    requires { Low (reading read) }
+    ensures { result ≡ reading_number (reading read) }
+{
+    match read {
+        Ok(reply) => {
+            256 * u64::from(carried(reply.refusal))
+                + 65536 * u64::from(reply.laid)
+                + 4294967296 * reply.start as u64
+                + 1099511627776 * reply.len as u64
+        }
+        Err(refusal) => u64::from(u8::from(refusal)),
     }
 }

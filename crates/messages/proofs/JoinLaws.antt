@@ -15,8 +15,7 @@ use Rattle.tables.specs.Numbers.{accepted, cut_short, short_buffer}
 use Rattle.steps.specs.Steps.{Outcome, refuse, accept, test}
 use Rattle.steps.specs.Effects.{State, Result, left, laid_by, data_of}
 use Rattle.steps.proofs.StepLaws.{data_paid}
-use Rattle.messages.specs.declared.Parsed.{Parsed}
-use Rattle.messages.specs.declared.Parsed.TheVariants.{Refused, Asked}
+use Rattle.steps.specs.declared.Call.{Call}
 use Rattle.messages.specs.declared.Next.TheVariants.{Message, Cut, End}
 use Rattle.messages.specs.declared.Tally.{Tally}
 use Rattle.messages.specs.Messages.{parse, write_bytes, length_at, next_at}
@@ -39,10 +38,10 @@ unfolding answer
 reply_paid room s m =
     rw (← reply_length room (answer room s (whole m))) (under (ltb room 70) _ (by (ltb room 70) (parse m) refl))
   where
-    by : (b : Bool) (p : Parsed) → parse m ≡ p → 4 * (6 + length (data_of (test b short_buffer (respond s p (write_bytes m))))) ≤ 35 * (2 + length m)
+    by : (b : Bool) (p : Outcome Call) → parse m ≡ p → 4 * (6 + length (data_of (test b short_buffer (respond s p (write_bytes m))))) ≤ 35 * (2 + length m)
     by true p e = omega arith
-    by false (Refused n) e = omega arith
-    by false (Asked c) e = omega (arith, data_paid s c (write_bytes m), asked_long m c e)
+    by false (refuse n) e = omega arith
+    by false (accept c) e = omega (arith, data_paid s c (write_bytes m), asked_long m c e)
 
     under : (b : Bool) (n : ℕ) → 4 * (6 + n) ≤ 35 * (2 + length m) → 4 * cond b 0 (6 + n) ≤ 35 * (2 + length m)
     under true n h = omega arith
@@ -167,7 +166,7 @@ passes file at x xs e = by (is_end (next_at file at)) refl
     by : (b : Bool) → is_end (next_at file at) ≡ b → messages_of (drop (passed (length file) at x) file) ≡ xs
     by true f =
         let none : [] ≡ x ∷ xs = sym (none_left file (next_at file at) f) ∙ sym (reader_yields file at) ∙ e in
-        let z : ◌≡◌ {A = ℕ} 0 1 = cc in absurd (omega arith)
+        cc
     by false f =
         let g = follows file at (next_at file at) refl f in
         let both : sent_by file (next_at file at) ∷ messages_of (drop (passed (length file) at (sent_by file (next_at file at))) file) ≡ x ∷ xs =
@@ -309,9 +308,9 @@ end_at file at = go (leb (length file) at) refl (ltb (length file) (at + 2)) (lt
         → is_end (cond a End (cond b Cut (cond c Cut (Message (at + 2) (length_at file at) (at + 2 + length_at file at))))) ≡ true
         → length file ≤ at
     go true e b c p = leb-true (length file) at e
-    go false e true c p = let z : ◌≡◌ {A = ℕ} 0 1 = cc in absurd (omega arith)
-    go false e false true p = let z : ◌≡◌ {A = ℕ} 0 1 = cc in absurd (omega arith)
-    go false e false false p = let z : ◌≡◌ {A = ℕ} 0 1 = cc in absurd (omega arith)
+    go false e true c p = cc
+    go false e false true p = cc
+    go false e false false p = cc
 
 first_place : (room end at : ℕ) (s : State) (x : Sent) (xs : List Sent)
     → place_after end at (served room 0 (turns_of room s (x ∷ xs)))

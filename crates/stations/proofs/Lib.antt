@@ -1,3 +1,4 @@
+pub mod ChunkLaws
 pub mod WriterLaws
 pub mod FrontLaws
 pub mod ReaderLaws

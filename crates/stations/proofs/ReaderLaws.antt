@@ -2,104 +2,115 @@
 -- reader accepts one; a reply at the front of bytes; what is read of it, case by case.
 use Prim.Native.Nat.{ℕ, ◌+◌, ◌*◌, ◌/◌, ◌%◌, ◌≤◌, ◌<◌}
 use mathlib.Core.Path.{◌≡◌, refl, sym, ap, subst, ◌∙◌}
-use mathlib.Core.Bool.{Bool, true, false, not, ◌&&◌, ◌||◌, cond, true≢false}
+use mathlib.Core.Bool.{Bool, true, false, not, ◌&&◌, ◌||◌, cond}
 use mathlib.Core.List.{List, [], ◌∷◌, ◌++◌}
+use Rattle.std.specs.Prelude.{Result, Err}
 use native.Mathlib.Omega.{arith}
 use lib.ListN.{length, take, drop, get_or, length-append, length-drop}
 use lib.Seq.{get_or-drop, get_or-take, take-length}
-use lib.Dec.{leb, ltb, eqb}
-use borrow.Author.Tests.{leb-true, ltb-true, ltb-false, eqb-true, eqb-false, lt-leb, le-leb, not-true, not-false, eq-eqb, ne_eqb}
-use Rattle.tables.specs.Lists.{all, all_below, listed}
-use Rattle.tables.specs.Numbers.{accepted, foreign_version, unknown_kind, wrong_length, all_numbers}
-use Rattle.tables.proofs.ListLaws.{and_intro, and_left, and_right, or_right, iff_eq, all_listed, below_at}
+use lib.Dec.{leb, eqb}
+use borrow.Author.Tests.{leb-true, eqb-true, lt-leb, le-leb, not-false, eq-eqb, ne_eqb}
+use Rattle.tables.specs.declared.refusals.Refusal.{Refusal}
+use Rattle.tables.specs.declared.refusals.Refusal.TheVariants.{CutShort}
+use Rattle.tables.specs.Lists.{listed}
+use Rattle.tables.specs.Numbers.{accepted, cut_short, foreign_version, unknown_kind, wrong_length, all_numbers, refusal_number}
+use Rattle.tables.proofs.ListLaws.{and_left, and_right, or_right, iff_eq}
 use Rattle.steps.specs.declared.Kind.{Kind}
 use Rattle.steps.specs.declared.Data.{Data}
 use Rattle.steps.specs.declared.Data.TheVariants.{Empty, Bytes, Copies, Holder}
 use Rattle.steps.specs.Kinds.{tells, is_unknown, kind_of}
-use Rattle.steps.specs.Data.{is_mark, copy_marks_valid, each_is, many, formed}
+use Rattle.steps.specs.Data.{copy_marks_valid, many, formed}
 use Rattle.steps.specs.Stores.{part}
-use Rattle.steps.specs.Steps.{accept, test}
+use Rattle.steps.specs.Steps.{refuse, accept, test}
+use Rattle.steps.specs.Promises.{kind_known}
+use Rattle.steps.proofs.KindLaws.{known_kind}
 use Rattle.steps.proofs.StoreLaws.{part_part}
 use Rattle.messages.specs.declared.Next.{Next}
 use Rattle.messages.specs.declared.Next.TheVariants.{Message, Cut, End}
 use Rattle.messages.specs.Messages.{is_foreign, next_at}
 use Rattle.messages.specs.Run.{whole}
 use Rattle.messages.specs.Promises.{sent_by, sent_alone}
-use Rattle.stations.specs.declared.Reading.{Reading}
-use Rattle.stations.specs.declared.Reading.TheVariants.{Refused, Reply}
-use Rattle.stations.specs.Reader.{number_in, laid_stated, data_in, is_refusal_reply, is_reply, read_body, read_next, read_reply, content_of, reading_of, reply_content}
+use Rattle.stations.specs.declared.Reply.{Reply as Told}
+use Rattle.stations.specs.Reader.{number_in, laid_stated, data_in, is_refusal_reply, is_reply, Refused, Reply, reading, read_body, read_next, read_reply, content_of, reading_of, reply_content}
+use Rattle.stations.specs.Private.{number_read, may_carry}
 use Rattle.stations.specs.Promises.{ReadOf}
 use Rattle.stations.proofs.FrontLaws.{next_front, part_front, Front, front_of, front_taken}
 
--- ---- the table
-
--- it has every number from 1 to its length
-pub listed_up_to : (n : ℕ) → (not (eqb n 0) && leb n (length all_numbers)) ≡ listed n all_numbers
-unfolding all all_below
-listed_up_to n = iff_eq _ _ there (λ h. all_listed (λ (m : ℕ). not (eqb m 0) && leb m (length all_numbers)) all_numbers n refl h)
-  where
-    other : (b : Bool) → b ≡ false → (b || listed n all_numbers) ≡ true → listed n all_numbers ≡ true
-    other true e h = absurd (true≢false e)
-    other false e h = h
-
-    there : (not (eqb n 0) && leb n (length all_numbers)) ≡ true → listed n all_numbers ≡ true
-    there e =
-        let most = leb-true n (length all_numbers) (and_right (not (eqb n 0)) _ e) in
-        other (eqb n 0) (not-true (eqb n 0) (and_left (not (eqb n 0)) _ e))
-        (below_at (length all_numbers + 1) (λ (m : ℕ). eqb m 0 || listed m all_numbers) n refl (omega arith))
-
--- ---- the marks
-
--- those of the copy at i, behind n
-pub marks_at : (d : List ℕ) (i : ℕ)
-    → (is_mark (get_or d (3 * i + 2) 0) && is_mark (get_or d (3 * i + 3) 0)) ≡ copy_marks_valid (drop (3 * i) (drop 1 d))
-marks_at d i = rw (at 1, at 2)
-  where
-    at : (j : ℕ) → get_or (drop (3 * i) (drop 1 d)) j 0 ≡ get_or d (3 * i + (j + 1)) 0
-    at j =
-        let e : 1 + (3 * i + j) ≡ 3 * i + (j + 1) = omega arith in
-        get_or-drop (3 * i) (drop 1 d) j 0 ∙ get_or-drop 1 d (3 * i + j) 0 ∙ ap (λ (k : ℕ). get_or d k 0) e
-
 -- ---- the data of a look at a page
 
-pub no_copies : (d : List ℕ) → length d ≡ 0 → formed Copies d ≡ false
-unfolding formed
-no_copies [] e = refl
-no_copies (x ∷ d) e = absurd (omega arith)
-
-and_end : (a : Bool) {b : Bool} → b ≡ false → (a && b) ≡ false
-and_end true e = e
-and_end false e = refl
-
-copies_few : (n : ℕ) → many 1 8 n ≡ not (eqb n 0 || ltb 8 n)
-copies_few n = go (eqb n 0) refl (ltb 8 n) refl
-  where
-    go : (a : Bool) → eqb n 0 ≡ a → (b : Bool) → ltb 8 n ≡ b → many 1 8 n ≡ not (a || b)
-    go true e b f = rw (lt-leb 1 n (let z = eqb-true n 0 e in omega arith)) refl
-    go false e true f = and_end (leb 1 n) (lt-leb n 8 (ltb-true 8 n f))
-    go false e false f = and_intro (le-leb 1 n (let z = eqb-false n 0 e in omega arith)) (le-leb n 8 (ltb-false 8 n f))
-
--- n of 0 or above 8
-pub copies_none : (d : List ℕ) → (eqb (get_or d 0 0) 0 || ltb 8 (get_or d 0 0)) ≡ true → formed Copies d ≡ false
-unfolding formed
-copies_none d e = rw (copies_few (get_or d 0 0), e)
-
--- another length than n says
-pub copies_odd : (d : List ℕ) → (length d ≡ 1 + 3 * get_or d 0 0 → ⊥) → formed Copies d ≡ false
-unfolding formed
-copies_odd d e = rw (ne_eqb (length d) (1 + 3 * get_or d 0 0) e) (and_end (many 1 8 (get_or d 0 0)) refl)
-
--- else the marks decide
-pub copies_marked : (d : List ℕ) → (eqb (get_or d 0 0) 0 || ltb 8 (get_or d 0 0)) ≡ false → length d ≡ 1 + 3 * get_or d 0 0
-    → formed Copies d ≡ each_is (get_or d 0 0) 3 copy_marks_valid (drop 1 d)
-unfolding formed
-copies_marked d e l = rw (copies_few (get_or d 0 0), e, eq-eqb (length d) (1 + 3 * get_or d 0 0) l)
+-- the marks of a copy are among its own three bytes
+pub marks_own : (x l : List ℕ) → length x ≡ 3 → copy_marks_valid (x ++ l) ≡ copy_marks_valid x
+marks_own [] l e = absurd (omega arith)
+marks_own (_ ∷ []) l e = absurd (omega arith)
+marks_own (_ ∷ _ ∷ []) l e = absurd (omega arith)
+marks_own (_ ∷ _ ∷ _ ∷ x) l e = refl
 
 -- ---- a reply
 
 pub reply_long : (k : Kind) (m : List ℕ) → is_reply k m ≡ true → 4 ≤ length m
 unfolding is_reply
 reply_long k m e = leb-true 4 (length m) (and_left (leb 4 (length m)) _ e)
+
+-- one with a number, bytes laid and data, by what they are
+pub reply_is : (k : Kind) (m : List ℕ) → 4 ≤ length m
+    → is_reply k m ≡ ((eqb (number_in m) accepted || listed (number_in m) all_numbers) && may_carry k (number_in m) (laid_stated m) (drop 4 m))
+unfolding is_reply
+reply_is k m h =
+    rw (le-leb 4 (length m) h) (go (eqb (number_in m) accepted) (listed (number_in m) all_numbers))
+  where
+    bare : eqb (length m) 4 ≡ eqb (length (drop 4 m)) 0
+    bare = iff_eq _ _ (λ e. eq-eqb (length (drop 4 m)) 0 (omega (arith, length-drop 4 m, eqb-true (length m) 4 e))) (λ e. eq-eqb (length m) 4 (omega (arith, length-drop 4 m, eqb-true (length (drop 4 m)) 0 e)))
+
+    go : (a b : Bool) → cond a (formed (tells k) (drop 4 m)) (b && (eqb (length m) 4 && eqb (laid_stated m) 0))
+        ≡ ((a || b) && cond a (formed (tells k) (drop 4 m)) (eqb (length (drop 4 m)) 0 && eqb (laid_stated m) 0))
+    go true b = refl
+    go false true = ap (λ (x : Bool). x && eqb (laid_stated m) 0) bare
+    go false false = refl
+
+-- what is read of bytes m, with version 1, where the kind byte that is told is that of k
+module _ (kind : ℕ) (m : List ℕ) (k : Kind) (some : 1 ≤ length m) (version : get_or m 0 0 ≡ 1) (e : accept k ≡ kind_known kind) where
+  known : is_unknown kind ≡ false
+  known = go (is_unknown kind) e
+    where
+      go : (b : Bool) → accept k ≡ test b unknown_kind (accept (kind_of kind)) → b ≡ false
+      go true e = cc
+      go false e = refl
+
+  body_is : read_body kind m ≡ cond (is_reply k m) (Reply (number_in m) (laid_stated m) 6 (length (drop 4 m))) (Refused wrong_length)
+  body_is = rw (ne_eqb (length m) 0 (λ (z : length m ≡ 0). omega arith), eq-eqb (get_or m 0 0) 1 version, known, known_kind kind e) refl
+
+  pub body_cut : length m < 4 → Refused wrong_length ≡ read_body kind m
+  unfolding is_reply
+  body_cut h = sym (body_is ∙ rw (lt-leb 4 (length m) h) refl)
+
+  pub body_unlisted : (refusal : Refusal) → 4 ≤ length m → refuse (refusal_number refusal) ≡ number_read (get_or m 1 0)
+      → Refused (refusal_number refusal) ≡ read_body kind m
+  body_unlisted refusal h n = sym (body_is ∙ rw (reply_is k m h) (go (eqb (number_in m) accepted || listed (number_in m) all_numbers) n))
+    where
+      go : (b : Bool) → refuse (refusal_number refusal) ≡ cond b (accept (number_in m)) (refuse wrong_length)
+          → cond (b && may_carry k (number_in m) (laid_stated m) (drop 4 m)) (Reply (number_in m) (laid_stated m) 6 (length (drop 4 m))) (Refused wrong_length)
+          ≡ Refused (refusal_number refusal)
+      go true n = cc
+      go false n = ap Refused cc
+
+  -- of a number that is read
+  module _ (number : ℕ) (h : 4 ≤ length m) (n : accept number ≡ number_read (get_or m 1 0)) where
+    listed_in : (number_in m ≡ number) × ((eqb (number_in m) accepted || listed (number_in m) all_numbers) ≡ true)
+    listed_in = go (eqb (number_in m) accepted || listed (number_in m) all_numbers) n
+      where
+        go : (b : Bool) → accept number ≡ cond b (accept (number_in m)) (refuse wrong_length) → (number_in m ≡ number) × (b ≡ true)
+        go true n = (cc, refl)
+        go false n = (cc, cc)
+
+    carries : (laid : ℕ) (d : List ℕ) → laid ≡ laid_stated m → d ≡ drop 4 m → (b : Bool) → b ≡ may_carry k number laid d → is_reply k m ≡ b
+    carries laid d l q b c = rw (reply_is k m h, listed_in.1, listed_in.0, ← l, ← q, ← c) refl
+
+    pub body_misfit : (laid : ℕ) (d : List ℕ) → laid ≡ laid_stated m → d ≡ drop 4 m → false ≡ may_carry k number laid d → Refused wrong_length ≡ read_body kind m
+    body_misfit laid d l q c = sym (body_is ∙ rw (carries laid d l q false c) refl)
+
+    pub body_told : (laid : ℕ) (d : List ℕ) → laid ≡ laid_stated m → d ≡ drop 4 m → true ≡ may_carry k number laid d
+        → Reply number laid 6 (length d) ≡ read_body kind m
+    body_told laid d l q c = sym (body_is ∙ rw (carries laid d l q true c, listed_in.0, ← l, ← q) refl)
 
 -- no data are longer than 64 bytes
 pub formed_short : (t : Data) (d : List ℕ) → formed t d ≡ true → length d ≤ 64
@@ -302,5 +313,16 @@ reading_meant kind l = next (next_at l 0) refl
     next End e = refl
 
 -- so the answer has what `read_reply` promises
-pub read_of : (kind : ℕ) (l : List ℕ) (r : Reading) → r ≡ read_reply kind l → ReadOf kind l r
-read_of kind l r e = record { told = e; meant = ap (reading_of l) e ∙ reading_meant kind l }
+pub read_of : (kind : ℕ) (l : List ℕ) {r : Result Told Refusal} → reading r ≡ read_reply kind l → ReadOf kind l r
+read_of kind l e = record { told = e; meant = ap (reading_of l) e ∙ reading_meant kind l }
+
+-- also where no whole message stands at the front
+pub read_none : (kind : ℕ) (l : List ℕ) (n : Next) → n ≡ next_at l 0 → ((start len next : ℕ) → n ≡ Message start len next → ⊥)
+    → ReadOf kind l (Err CutShort)
+unfolding read_reply
+read_none kind l n e none = read_of kind l (go n e none)
+  where
+    go : (n : Next) → n ≡ next_at l 0 → ((start len next : ℕ) → n ≡ Message start len next → ⊥) → Refused cut_short ≡ read_next kind l (next_at l 0)
+    go (Message start len next) e none = absurd (none start len next refl)
+    go Cut e none = rw (← e) refl
+    go End e none = rw (← e) refl

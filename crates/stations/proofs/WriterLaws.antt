@@ -1,34 +1,37 @@
--- The writer. In order: the lengths of a kind's messages; its arguments, and where they stand; a message as the code
+-- The writer. In order: the lengths of a kind's messages; its arguments; a message as the code
 -- lays it; what a call comes to; what the writer leaves.
 use Prim.Native.Nat.{ℕ, zero, suc, ◌+◌, ◌-◌, ◌/◌, ◌%◌, ◌≤◌, ◌<◌}
 use mathlib.Core.Path.{◌≡◌, refl, sym, ap, subst, ◌∙◌}
 use mathlib.Core.Bool.{Bool, true, false, ◌&&◌, cond, false≢true}
 use mathlib.Core.List.{List, [], ◌∷◌, ◌++◌, append_assoc, append-nil}
 use native.Mathlib.Omega.{arith}
-use lib.ListN.{length, get_or, take, drop, replicate, length-append, length-take, length-drop, length-set}
+use Rattle.std.specs.Prelude.{Ok, Err}
+use lib.ListN.{length, get_or, take, drop, replicate, length-append, length-take}
 use native.Mathlib.Numerals.{add-one}
 use lib.Seq.{length-take-le, take-append-add, take_all, drop-drop, drop-cons}
 use lib.Dec.{leb, ltb, eqb}
 use borrow.Author.Tests.{lt-ltb, le-ltb, ltb-true, ltb-false, leb-true, eqb-true, eqb-false}
 use Rattle.tables.specs.Lists.{all}
-use Rattle.tables.specs.Numbers.{accepted, unknown_kind, short_buffer}
-use Rattle.tables.proofs.ListLaws.{and_left, and_right, or_left, or_right, all_at}
+use Rattle.tables.specs.declared.refusals.Refusal.{Refusal}
+use Rattle.tables.specs.declared.refusals.Refusal.TheVariants.{ShortBuffer}
+use Rattle.tables.specs.Numbers.{accepted, unknown_kind, short_buffer, refusal_number}
+use Rattle.tables.proofs.ListLaws.{and_left, and_right, or_left, or_right}
 use Rattle.steps.specs.declared.Kind.{Kind}
 use Rattle.steps.specs.declared.Kind.TheVariants.{Create, DeletePage, Grant, Read, Write, MakeCopy, DeleteCopy, SetCurrent, RemoveCurrent, LookPage, LookFrame, Retire}
 use Rattle.steps.specs.declared.Call.{Call}
 use Rattle.steps.specs.Kinds.{Name, offset, bytes, names, kinds, kind_number, is_unknown, kind_of, code, among, has, least_length, most_length, argument, call_of, value, values}
 use Rattle.steps.specs.Calls.{bad_span, outside}
 use Rattle.steps.specs.Stores.{splice, spliced_within, over}
-use Rattle.steps.specs.Steps.{Outcome, refuse, accept, guarded}
-use Rattle.steps.proofs.KindLaws.{kind_numbered, number_known, each_kind, number_kind}
+use Rattle.steps.specs.Steps.{Outcome, refuse, accept, test, guarded}
+use Rattle.steps.specs.Promises.{kind_known}
+use Rattle.steps.proofs.KindLaws.{known_kind, no_kind, kind_numbered, number_known, each_kind, number_kind}
 use Rattle.steps.proofs.StoreLaws.{length_splice, laid_fitting, splice_front, splice_right}
-use Rattle.steps.proofs.GuardLaws.{turned_back, passed}
+use Rattle.steps.proofs.GuardLaws.{turned_back, passed, refusal_some}
 use Rattle.steps.proofs.RangeLaws.{span_within, ranged}
 use Rattle.messages.specs.Replies.{be16}
-use Rattle.stations.specs.declared.Written.{Written}
-use Rattle.stations.specs.Writer.{message_of, canonical, composed, written, written_as, message_in}
+use Rattle.stations.specs.Writer.{message_of, canonical, composed, written, written_as, message_in, Written, written_length}
 use Rattle.stations.specs.Promises.{Wrote}
-use Rattle.stations.specs.Private.{singles, tail, Lengths, laid_message, MessageRoom, places, Within, at_places}
+use Rattle.stations.specs.Private.{singles, tail, Lengths, laid_message, MessageRoom, arguments}
 
 -- ---- the lengths of a kind's messages
 
@@ -142,11 +145,11 @@ gets_part i (suc n) r h =
     ∙ ap (take (suc n)) (sym (drop-cons r i 0 (omega arith)))
 
 -- what is known of each kind k, of its calls c and of arguments r: the arguments of a call, asked for again, make the
--- same call, also where they stand at their places; the arguments of a call that was asked for are those that it was
+-- same call, also with 0 past the last one; the arguments of a call that was asked for are those that it was
 -- made of
 pub record KindLaws (k : Kind) (c : Call) (r bs : List ℕ) : Type 0 where
   pub asked_again : call_of k (values (names k) c bs) ≡ call_of k (values (names k) c [])
-  pub placed_again : call_of k (drop 1 (at_places c (places k))) ≡ call_of k (values (names k) c [])
+  pub placed_again : call_of k (arguments k c) ≡ call_of k (values (names k) c [])
   pub same_values : values (names k) (call_of k (values (names k) c [])) bs ≡ values (names k) c bs
   pub made_again : call_of k (values (names k) (call_of k r) []) ≡ call_of k r
   pub values_again : values (names k) (call_of k r) bs ≡ gets 0 (count k) r ++ ending k bs
@@ -178,39 +181,6 @@ kind_laws LookFrame c r bs =
 kind_laws Retire c r bs =
     record { asked_again = refl; placed_again = refl; same_values = refl; made_again = refl; values_again = refl }
 
--- ---- where they stand
-
-abbrev eight : Call → List ℕ
-eight at = at.station ∷ at.page ∷ at.other ∷ at.right ∷ at.offset ∷ at.count ∷ at.copy ∷ at.frame ∷ []
-
-eight_low : (k : Kind) → all (λ (i : ℕ). ltb i 5) (eight (places k)) ≡ true
-unfolding all kinds names code argument call_of
-eight_low k = each_kind (λ (x : Kind). all (λ (i : ℕ). ltb i 5) (eight (places x))) refl k
-
-pub places_within : (k : Kind) → Within (places k)
-places_within k =
-    record {
-      station_low = low 0 (omega arith);
-      page_low = low 1 (omega arith);
-      other_low = low 2 (omega arith);
-      right_low = low 3 (omega arith);
-      offset_low = low 4 (omega arith);
-      count_low = low 5 (omega arith);
-      copy_low = low 6 (omega arith);
-      frame_low = low 7 (omega arith);
-    }
-  where
-    low : (i : ℕ) → i < 8 → get_or (eight (places k)) i 0 < 5
-    low i h = ltb-true _ 5 (all_at (λ (j : ℕ). ltb j 5) (eight (places k)) i 0 (eight_low k) h)
-
--- one after the other
-pub four_of : (c at : Call) → gets 1 4 (at_places c at) ≡ drop 1 (at_places c at)
-four_of c at = gets_part 1 4 (at_places c at) (simp length-set (omega arith)) ∙ take_all 4 (drop 1 (at_places c at)) (simp (length-drop, length-set) (omega arith))
-
--- there are as many as any kind has
-pub four_long : (c : Call) → count c.kind ≤ length (drop 1 (at_places c (places c.kind)))
-four_long c = simp (length-drop, length-set) (omega (arith, few_singles c.kind))
-
 -- ---- a message as the code lays it
 
 -- its first bytes, and then those that end it
@@ -223,6 +193,22 @@ parts_laid h t out mid last n first second e room =
     ∙ ap (λ (k : ℕ). splice (over h out) k t) (let k : n ≡ length h + 0 = omega arith in k) ∙ splice_right h (drop (length h) out) 0 t
     ∙ ap (λ (l : List ℕ). h ++ l) (splice_front (drop (length h) out) t ∙ ap (λ (l : List ℕ). t ++ l) (drop-drop (length t) (length h) out))
     ∙ sym (append_assoc h t (drop (length h + length t) out)) ∙ ap (λ (k : ℕ). (h ++ t) ++ drop k out) (sym (length-append h t))
+
+-- with the four arguments one by one
+four_are : (r : List ℕ) → length r ≡ 4 → gets 0 4 r ≡ r
+four_are r e = gets_part 0 4 r (omega arith) ∙ take_all 4 r (omega arith)
+
+pub message_laid : (kind least most : ℕ) (r bs t out mid last : List ℕ) (n : ℕ) → length r ≡ 4 → MessageRoom least most bs out
+    → n ≡ singles least most → t ≡ tail least most bs
+    → mid ≡ spliced_within out 0 (take (4 + n) (0 ∷ (2 + n + length t) ∷ 1 ∷ kind ∷ gets 0 4 r)) → last ≡ spliced_within mid (4 + n) t
+    → last ≡ over (laid_message kind least most r bs) out
+message_laid kind least most r bs t out mid last n four room count end first second =
+    let few : n ≤ 4 = rw count room.few in
+    let short : n + length t ≤ 67 = rw (count, end) room.short in
+    let h : List ℕ = 0 ∷ (2 + n + length t) ∷ 1 ∷ kind ∷ r in
+    rw (← count, ← end)
+    (parts_laid (take (4 + n) h) t out mid last (4 + n) (first ∙ rw (four_are r four) refl) second (simp length-take (omega arith))
+    (omega (arith, room.room)))
 
 -- ---- what a call comes to
 
@@ -317,20 +303,21 @@ laid_short room kind r bs h =
         (simp (length-append, length-take) (omega arith))
 
 -- the arguments of any call
-pub values_are : (c : Call) (bs : List ℕ)
-    → values (names c.kind) c bs ≡ take (count c.kind) (drop 1 (at_places c (places c.kind))) ++ ending c.kind bs
+pub four_long : (c : Call) → length (arguments c.kind c) ≡ 4
+four_long c = simp (length-take, length-append) (omega arith)
+
+pub values_are : (c : Call) (bs : List ℕ) → values (names c.kind) c bs ≡ take (count c.kind) (arguments c.kind c) ++ ending c.kind bs
 values_are c bs =
     let k = c.kind in
-    let r = drop 1 (at_places c (places k)) in
     sym (kind_laws k c [] bs).same_values ∙ ap (λ (d : Call). values (names k) d bs) (sym (kind_laws k c [] bs).placed_again)
-    ∙ values_of k r bs (four_long c)
+    ∙ values_of k (arguments k c) bs (omega (arith, four_long c, few_singles k))
 
 pub values_count : (c : Call) (bs : List ℕ) → length (values (names c.kind) c bs) ≡ count c.kind + length (ending c.kind bs)
 values_count c bs =
     let k = c.kind in
-    let few = four_long c in
-    ap length (values_are c bs) ∙ length-append (take (count k) (drop 1 (at_places c (places k)))) (ending k bs)
-    ∙ ap (λ (n : ℕ). n + length (ending k bs)) (length-take-le (count k) (drop 1 (at_places c (places k))) few)
+    let few = few_singles k in
+    ap length (values_are c bs) ∙ length-append (take (count k) (arguments k c)) (ending k bs)
+    ∙ ap (λ (n : ℕ). n + length (ending k bs)) (length-take-le (count k) (arguments k c) (omega (arith, four_long c)))
 
 -- a call with the arguments that its kind names is written as the call
 pub same_message : (c : Call) (bs : List ℕ) → message_of (canonical c) bs ≡ message_of c bs
@@ -348,26 +335,79 @@ pub written_known : (room kind : ℕ) (r bs : List ℕ) → is_unknown kind ≡ 
 unfolding written written_as
 written_known room kind r bs e = rw e
 
--- of a call whose arguments stand at their places
-pub written_placed : (room : ℕ) (c : Call) (bs : List ℕ)
-    → written_as room (kind_number c.kind) (drop 1 (at_places c (places c.kind))) bs ≡ written room c bs
+-- of a call by the arguments of its kind
+pub written_arguments : (room : ℕ) (c : Call) (bs : List ℕ) → written_as room (kind_number c.kind) (arguments c.kind c) bs ≡ written room c bs
 unfolding written written_as
-written_placed room c bs =
+written_arguments room c bs =
     rw (number_known c.kind, kind_numbered c.kind, (kind_laws c.kind c [] bs).placed_again, composed_named c bs) refl
 
 -- ---- what the writer leaves
 
-pub wrote_refused : (o : Outcome (List ℕ)) (n : ℕ) (out : List ℕ) (r : Written) → o ≡ refuse n → r ≡ record { number = n; len = 0 } → Wrote o out out r
-wrote_refused o n out r e p = rw (e, p) (record { number_told = refl; len_told = refl; buffer_out = refl })
+pub wrote_same : {o o' : Outcome (List ℕ)} {out out' : List ℕ} {w : Written} → o ≡ o' → Wrote o out out' w → Wrote o' out out' w
+wrote_same {out = out} {out' = out'} {w = w} e x = subst (λ (o : Outcome (List ℕ)). Wrote o out out' w) e x
 
-pub wrote_accepted : (o : Outcome (List ℕ)) (m out out' : List ℕ) (len : ℕ) → o ≡ accept m → len ≡ length m → out' ≡ over m out
-    → Wrote o out out' (record { number = 0; len = len })
-wrote_accepted o m out out' len e l p = rw e (record { number_told = refl; len_told = l; buffer_out = p })
+left_refused : (o : Outcome (List ℕ)) (refusal : Refusal) (out : List ℕ) → o ≡ refuse (refusal_number refusal) → Wrote o out out (Err refusal)
+left_refused o refusal out e = rw e (record { number_told = refl; len_told = refl; buffer_out = refl })
 
-pub wrote_same : {o o' : Outcome (List ℕ)} {out out' : List ℕ} {r : Written} → o ≡ o' → Wrote o out out' r → Wrote o' out out' r
-wrote_same {out = out} {out' = out'} {r = r} e w = subst (λ (x : Outcome (List ℕ)). Wrote x out out' r) e w
+-- by a kind byte, with arguments r
+module _ (kind : ℕ) (r bs out : List ℕ) where
+  pub wrote_no_room : length out < 71 → Wrote (written_as (length out) kind r bs) out out (Err ShortBuffer)
+  wrote_no_room h = left_refused _ ShortBuffer out (as_short (length out) kind r bs h)
+
+  pub wrote_unknown : (refusal : Refusal) → 71 ≤ length out → refuse (refusal_number refusal) ≡ kind_known kind
+      → Wrote (written_as (length out) kind r bs) out out (Err refusal)
+  wrote_unknown refusal h e =
+      left_refused _ refusal out (as_unknown (length out) kind r bs h (no_kind kind e) ∙ ap refuse (go (is_unknown kind) e))
+    where
+      go : (b : Bool) → refuse (refusal_number refusal) ≡ test b unknown_kind (accept (kind_of kind)) → unknown_kind ≡ refusal_number refusal
+      go true e = cc
+      go false e = cc
+
+  -- of a known one, which is that of kind k
+  module _ (k : Kind) (h : 71 ≤ length out) (e : accept k ≡ kind_known kind) where
+    known : is_unknown kind ≡ false
+    known = go (is_unknown kind) e
+      where
+        go : (b : Bool) → accept k ≡ test b unknown_kind (accept (kind_of kind)) → b ≡ false
+        go true e = cc
+        go false e = refl
+
+    of_kind : kind_of kind ≡ k
+    of_kind = known_kind kind e
+
+    number_of_kind : kind ≡ kind_number k
+    number_of_kind = sym (number_kind kind known) ∙ ap kind_number of_kind
+
+    inside : accepted ≡ outside 254 (length bs) (call_of k r) → outside 254 (length bs) (call_of (kind_of kind) r) ≡ accepted
+    inside o = rw (of_kind, ← o) refl
+
+    pub wrote_outside : (refusal : Refusal) → refusal_number refusal ≡ outside 254 (length bs) (call_of k r)
+        → Wrote (written_as (length out) kind r bs) out out (Err refusal)
+    wrote_outside refusal o =
+        left_refused _ refusal out
+        (as_outside (length out) kind r bs h known (refusal_number refusal) (o ∙ rw of_kind refl) (refusal_some refusal))
+
+    pub room_left : accepted ≡ outside 254 (length bs) (call_of k r) → MessageRoom (least_length k) (most_length k) bs out
+    room_left o = room_for k r bs out (sym o) h
+
+    pub wrote_message : (len : ℕ) (out' : List ℕ) → 4 ≤ length r → accepted ≡ outside 254 (length bs) (call_of k r)
+        → len ≡ length (laid_message (kind_number k) (least_length k) (most_length k) r bs)
+        → out' ≡ over (laid_message (kind_number k) (least_length k) (most_length k) r bs) out
+        → Wrote (written_as (length out) kind r bs) out out' (Ok len)
+    wrote_message len out' four o l b =
+        let is : written_as (length out) kind r bs ≡ accept (laid_message (kind_number k) (least_length k) (most_length k) r bs) =
+        as_inside (length out) kind r bs h known (inside o) (omega (arith, few_singles (kind_of kind))) ∙ rw (of_kind, number_of_kind) refl in
+        rw is (record { number_told = refl; len_told = l; buffer_out = b })
+
+-- by a call, with its arguments one by one
+pub wrote_call : (c : Call) (bs out out' : List ℕ) (w : Written) (kind : ℕ) (r : List ℕ) → kind ≡ kind_number c.kind → r ≡ arguments c.kind c
+    → Wrote (written_as (length out) kind (gets 0 4 r) bs) out out' w → Wrote (written (length out) c bs) out out' w
+wrote_call c bs out out' w kind r k a x =
+    wrote_same
+    (rw (k, a) (ap (λ (l : List ℕ). written_as (length out) (kind_number c.kind) l bs) (four_are (arguments c.kind c) (four_long c))
+    ∙ written_arguments (length out) c bs)) x
 
 -- its message has 71 bytes at the most
 pub wrote_short : (room kind : ℕ) (r bs : List ℕ) {out out' : List ℕ} {w : Written} → Wrote (written_as room kind r bs) out out' w → 4 ≤ length r
-    → w.len ≤ 71
+    → written_length w ≤ 71
 wrote_short room kind r bs x h = omega (arith, x.len_told, laid_short room kind r bs h)

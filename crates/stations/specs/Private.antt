@@ -1,9 +1,13 @@
 -- What the private functions of this layer ask of each other and promise. For the proofs alone: no exported contract
 -- names it.
-use Rattle.std.specs.Prelude.{ℕ, ◌+◌, ◌-◌, ◌<◌, ◌≤◌, cond, List, [], ◌∷◌, ◌++◌, length, take, set, replicate, ltb}
+use Rattle.std.specs.Prelude.{ℕ, ◌+◌, ◌-◌, ◌<◌, ◌≤◌, Bool, ◌&&◌, ◌||◌, cond, List, [], ◌∷◌, ◌++◌, length, take, replicate, ltb, eqb}
+use Rattle.tables.specs.Lists.{listed}
+use Rattle.tables.specs.Numbers.{accepted, wrong_length, all_numbers}
 use Rattle.steps.specs.declared.Kind.{Kind}
 use Rattle.steps.specs.declared.Call.{Call}
-use Rattle.steps.specs.Kinds.{call_of}
+use Rattle.steps.specs.Kinds.{names, tells, values}
+use Rattle.steps.specs.Data.{formed}
+use Rattle.steps.specs.Steps.{Outcome, refuse, accept}
 
 -- ---- a message by the lengths of its kind's messages
 
@@ -20,8 +24,8 @@ pub record Lengths (least most : ℕ) : Type 0 where
 
 -- the message with four arguments, as many of them as there are
 abbrev pub laid_message : ℕ → ℕ → ℕ → List ℕ → List ℕ → List ℕ
-laid_message kind least most arguments bs =
-    take (4 + singles least most) (0 ∷ (2 + singles least most + length (tail least most bs)) ∷ 1 ∷ kind ∷ arguments)
+laid_message kind least most r bs =
+    take (4 + singles least most) (0 ∷ (2 + singles least most + length (tail least most bs)) ∷ 1 ∷ kind ∷ r)
     ++ tail least most bs
 
 -- room for it
@@ -31,27 +35,18 @@ pub record MessageRoom (least most : ℕ) (bs out : List ℕ) : Type 0 where
   pub short : singles least most + length (tail least most bs) ≤ 67
   pub room : 71 ≤ length out
 
--- ---- where the arguments of a call stand
+-- ---- the arguments of a call
 
--- the places from 1 on, as the table of kinds gives them to its arguments
-abbrev pub places : Kind → Call
-places k = call_of k (1 ∷ 2 ∷ 3 ∷ 4 ∷ [])
+-- in the order of a kind, one byte each, with 0 past the last one
+abbrev pub arguments : Kind → Call → List ℕ
+arguments k c = take 4 (values (names k) c [] ++ replicate 4 0)
 
--- each is one of five
-pub record Within (at : Call) : Type 0 where
-  pub station_low : at.station < 5
-  pub page_low : at.page < 5
-  pub other_low : at.other < 5
-  pub right_low : at.right < 5
-  pub offset_low : at.offset < 5
-  pub count_low : at.count < 5
-  pub copy_low : at.copy < 5
-  pub frame_low : at.frame < 5
+-- ---- what a reply carries
 
--- the arguments of a call at these places; what its kind does not name goes to place 0
-abbrev pub at_places : Call → Call → List ℕ
-at_places c at =
-    set (set (set (set (set
-    (set (set (set (replicate 5 0) at.station c.station) at.page c.page) at.other c.other)
-    at.right c.right) at.offset c.offset) at.count c.count) at.copy c.copy) at.frame
-    c.frame
+-- its number, where that is 0 or in the table
+abbrev pub number_read : ℕ → Outcome ℕ
+number_read n = cond (eqb n accepted || listed n all_numbers) (accept n) (refuse wrong_length)
+
+-- whether a reply to a message of kind k with this number may have so many bytes laid, and data d
+abbrev pub may_carry : Kind → ℕ → ℕ → List ℕ → Bool
+may_carry k number laid d = cond (eqb number accepted) (formed (tells k) d) (eqb (length d) 0 && eqb laid 0)

@@ -1,7 +1,8 @@
 -- Document 02, request [4]: the reader for replies.
-use Rattle.std.specs.Prelude.{ℕ, Bool, not, ◌&&◌, cond, List, length, get_or, drop, leb, eqb}
+use Rattle.std.specs.Prelude.{ℕ, Bool, not, ◌&&◌, cond, Option, Some, None, List, Result, Ok, Err, length, get_or, drop, leb, eqb}
+use Rattle.tables.specs.declared.refusals.Refusal.{Refusal}
 use Rattle.tables.specs.Lists.{listed}
-use Rattle.tables.specs.Numbers.{accepted, cut_short, foreign_version, unknown_kind, wrong_length, all_numbers}
+use Rattle.tables.specs.Numbers.{accepted, cut_short, foreign_version, unknown_kind, wrong_length, all_numbers, refusal_number}
 use Rattle.steps.specs.declared.Kind.{Kind}
 use Rattle.steps.specs.Kinds.{tells, is_unknown, kind_of}
 use Rattle.steps.specs.Data.{formed}
@@ -12,8 +13,7 @@ use Rattle.messages.specs.declared.Next.TheVariants.{Message, Cut, End}
 use Rattle.messages.specs.Messages.{is_foreign, next_at}
 use Rattle.messages.specs.Replies.{be16_at}
 use Rattle.messages.specs.Run.{Sent, cut, whole}
-use Rattle.stations.specs.declared.Reading.{Reading}
-use Rattle.stations.specs.declared.Reading.TheVariants.{Refused, Reply}
+use Rattle.stations.specs.declared.Reply.{Reply as Told}
 
 -- ---- a reply m: the L bytes after its length. Document 01: "A reply is L, version 1, the number (0 accepted), bytes
 -- laid in two bytes big-endian, then the bytes of a read or look."
@@ -35,6 +35,22 @@ is_refusal_reply m = listed (number_in m) all_numbers && (eqb (length m) 4 && eq
 -- table, a refusal with bytes laid, or a CURRENT or MOST RECENT byte above 1"
 unfoldable pub is_reply : Kind → List ℕ → Bool
 is_reply k m = leb 4 (length m) && cond (eqb (number_in m) accepted) (formed (tells k) (data_in m)) (is_refusal_reply m)
+
+-- what is read: the reader's own number; or what a reply tells: the number that it carries, the bytes laid, and where in
+-- the bytes its data start and how many they are
+pub data Reading : Type 0 where
+  Refused : ℕ → Reading
+  Reply : ℕ → ℕ → ℕ → ℕ → Reading
+
+-- the number that a reply carries
+abbrev pub carried : Option Refusal → ℕ
+carried None = accepted
+carried (Some refusal) = refusal_number refusal
+
+-- what an answer of the code says
+abbrev pub reading : Result Told Refusal → Reading
+reading (Ok r) = Reply (carried r.refusal) r.laid r.start r.len
+reading (Err refusal) = Refused (refusal_number refusal)
 
 -- "2 as for messages, 3 if told an unknown kind, else 4"; the data of a reply stand behind its length and four more
 -- bytes

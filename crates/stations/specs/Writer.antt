@@ -1,5 +1,6 @@
 -- Document 02, request [4]: the writer for calls.
-use Rattle.std.specs.Prelude.{ℕ, List, [], ◌∷◌, ◌++◌, length, ltb}
+use Rattle.std.specs.Prelude.{ℕ, List, [], ◌∷◌, ◌++◌, Result, Ok, Err, length, ltb}
+use Rattle.tables.specs.declared.refusals.Refusal.{Refusal}
 use Rattle.tables.specs.Numbers.{unknown_kind, short_buffer}
 use Rattle.steps.specs.declared.Call.{Call}
 use Rattle.steps.specs.Kinds.{names, kind_number, is_unknown, kind_of, call_of, values}
@@ -40,3 +41,12 @@ written_as room kind arguments bs =
 abbrev pub message_in : Outcome (List ℕ) → List ℕ
 message_in (refuse n) = []
 message_in (accept m) = m
+
+-- ---- what the code gives: the length of the message, or its refusal
+
+abbrev pub Written : Type 0
+Written = Result ℕ Refusal
+
+abbrev pub written_length : Written → ℕ
+written_length (Ok len) = len
+written_length (Err refusal) = 0

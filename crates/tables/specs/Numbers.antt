@@ -1,5 +1,6 @@
 -- Document 01, "Why a message is turned back": its table, a row a name.
-use Rattle.std.specs.Prelude.{ℕ, List, [], ◌∷◌, ◌++◌, Result, Ok, Err}
+use Rattle.std.specs.Prelude.{ℕ, ◌≡◌, false, List, [], ◌∷◌, ◌++◌, Result, Ok, Err}
+use Rattle.tables.specs.Lists.{listed}
 use Rattle.tables.specs.declared.refusals.Refusal.{Refusal}
 use Rattle.tables.specs.declared.refusals.Refusal.TheVariants.{CutShort, ForeignVersion, UnknownKind, WrongLength, BrokenTables, MisfitStore, OutOfRange, PageStands, NoPage, NoRight, NothingCurrent, NoCopy, FrameHeld, EightCopies, LastRecent, Stale, NoFrame, ShortBuffer, TooManyFrames, Retired}
 
@@ -125,3 +126,8 @@ refusal_number Retired = retired
 abbrev pub answer_number : {A : Type 0} → Result A Refusal → ℕ
 answer_number (Ok x) = accepted
 answer_number (Err refusal) = refusal_number refusal
+
+-- what a number is taken for: the refusal that has it, or else itself, where it is no row's
+abbrev pub RefusalOf : ℕ → Result Refusal ℕ → Type 0
+RefusalOf number (Ok refusal) = refusal_number refusal ≡ number
+RefusalOf number (Err other) = (other ≡ number) × (listed number all_numbers ≡ false)

@@ -1,6 +1,6 @@
 // Why a message is turned back, and why fresh tables are not made: document 01's table, a variant a row.
 ghost use Rattle.std.specs.Prelude.{◌≡◌};
-ghost use Rattle.tables.specs.Numbers.{refusal_number};
+ghost use Rattle.tables.specs.Numbers.{refusal_number, RefusalOf};
 
 #[derive(Clone, Copy, Debug, PartialEq, Eq)]
 pub enum Refusal {
@@ -51,6 +51,39 @@ impl From<Refusal> for u8 {
             Refusal::ShortBuffer => 18,
             Refusal::TooManyFrames => 19,
             Refusal::Retired => 20,
+        }
+    }
+}
+
+// The refusal with a number; a number of no row is handed back.
+impl TryFrom<u8> for Refusal {
+    type Error = u8;
+
+    ghost try_from_gives = { λ number answer. RefusalOf number answer };
+
+    fn try_from(number: u8) -> Result<Refusal, u8> {
+        match number {
+            1 => Ok(Refusal::CutShort),
+            2 => Ok(Refusal::ForeignVersion),
+            3 => Ok(Refusal::UnknownKind),
+            4 => Ok(Refusal::WrongLength),
+            5 => Ok(Refusal::BrokenTables),
+            6 => Ok(Refusal::MisfitStore),
+            7 => Ok(Refusal::OutOfRange),
+            8 => Ok(Refusal::PageStands),
+            9 => Ok(Refusal::NoPage),
+            10 => Ok(Refusal::NoRight),
+            11 => Ok(Refusal::NothingCurrent),
+            12 => Ok(Refusal::NoCopy),
+            13 => Ok(Refusal::FrameHeld),
+            14 => Ok(Refusal::EightCopies),
+            15 => Ok(Refusal::LastRecent),
+            16 => Ok(Refusal::Stale),
+            17 => Ok(Refusal::NoFrame),
+            18 => Ok(Refusal::ShortBuffer),
+            19 => Ok(Refusal::TooManyFrames),
+            20 => Ok(Refusal::Retired),
+            _ => Err(number),
         }
     }
 }

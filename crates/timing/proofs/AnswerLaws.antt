@@ -1,12 +1,18 @@
 -- Messages that are answered one by one, each by itself, come to the run over their file.
 use Prim.Native.Nat.{ℕ, ◌-◌, ◌≤◌}
-use mathlib.Core.Path.{◌≡◌, sym, ◌∙◌}
+use mathlib.Core.Path.{◌≡◌, refl, sym, ◌∙◌}
 use mathlib.Core.Bool.{not}
 use mathlib.Core.List.{List, ◌∷◌}
 use native.Mathlib.Omega.{arith}
 use lib.ListN.{length, take, drop, length-drop}
 use lib.Seq.{take_all}
 use lib.Dec.{eqb}
+use borrow.Author.Tests.{ne_eqb}
+use Rattle.std.specs.Prelude.{Ok, Err, is_err}
+use Rattle.std.specs.Prelude.{Result as Sum}
+use Rattle.tables.specs.declared.refusals.Refusal.{Refusal}
+use Rattle.tables.specs.Numbers.{refusal_number, answer_number}
+use Rattle.steps.proofs.GuardLaws.{refusal_some}
 use Rattle.steps.specs.Effects.{State}
 use Rattle.messages.specs.declared.Next.{Next}
 use Rattle.messages.specs.declared.Next.TheVariants.{Message, Cut, End}
@@ -37,6 +43,11 @@ sent_here file at x xs e =
 
 -- ---- the loop
 
+-- an answer that is a refusal has a number
+told : (r : Sum (Unit {0}) Refusal) → is_err r ≡ not (eqb (answer_number r) 0)
+told (Ok x) = refl
+told (Err refusal) = rw (ne_eqb (refusal_number refusal) 0 (refusal_some refusal))
+
 -- where the loop stands at a place in the file: the lengths are as at the start
 pub record Going (s₀ : State) (file out₀ : List ℕ) (n₀ : Tally) (at : ℕ) (s : State) (out : List ℕ) (n : Tally) : Type 0 where
   pub in_file : at ≤ length file
@@ -50,7 +61,7 @@ module _ {s₀ : State} {file out₀ : List ℕ} {n₀ : Tally} {at : ℕ} {s : 
   pub going_on : (x : Sent) (next : ℕ) (s' : State) (out' : List ℕ) (n' : Tally) (a : Answered) → Follows file at x next
       → Replied s (answer (length out) s (sent_alone (take (length file - at) (drop at file)))) out s' out' a
       → length s'.fast ≡ length s.fast → length s'.slow ≡ length s.slow → length out' ≡ length out
-      → n' ≡ counted n (not (eqb a.number 0)) a.laid → Going s₀ file out₀ n₀ next s' out' n'
+      → n' ≡ counted n (is_err a.answer) a.laid → Going s₀ file out₀ n₀ next s' out' n'
   going_on x next s' out' n' a f v lx ly lo en =
       let w = rw (sent_here file at x (messages_of (drop next file)) f.is) at v in
       record {
@@ -61,7 +72,7 @@ module _ {s₀ : State} {file out₀ : List ℕ} {n₀ : Tally} {at : ℕ} {s : 
         rest =
             rest_on (length out₀) file s₀ out₀ n₀ at s out n q.rest x next s' out' n' f
             (rw q.out_long at w.state_out) (rw q.out_long at w.reply_out)
-            (en ∙ rw (← q.out_long, answer_told (length out) s x, w.number_told, w.laid_told));
+            (en ∙ rw (← q.out_long, told a.answer, answer_told (length out) s x, w.number_told, w.laid_told));
       }
 
   -- at the end

@@ -46,7 +46,7 @@ fn answers(
         };
         let a = answer(tables, fast, slow, &file[at..], out);
         tables = a.tables;
-        tally = tally_after(tally, a.number != 0, a.laid);
+        tally = tally_after(tally, a.answer.is_err(), a.laid);
         at = next;
     }
 }

@@ -47,7 +47,7 @@ returns c =
     put_moved b t moved low (λ e. held_answer _ b a.fast.now a.slow.now _ (sym q.moved_told ∙ e))
     (λ e. ap (λ (s : State). s.tables) q.state_out ∙ unmoved _ _ _ (sym q.moved_told ∙ e)) in
     record {
-      told = c.packed.ensures ∙ rw (q.number_told, q.len_told, q.laid_told);
+      told = c.packed.ensures ∙ rw (c.answer_number.ensures, q.number_told, q.len_told, q.laid_told);
       tables_out = put ∙ back ∙ ap (λ (s : State). with_tables b s.tables) q.state_out ∙ left_in_lem b a.fast.now a.slow.now o low;
       lent_out = rw (ap (λ (s : State). s.fast) q.state_out, ap (λ (s : State). s.slow) q.state_out, q.reply_out);
     }

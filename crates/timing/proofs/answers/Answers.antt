@@ -1,6 +1,8 @@
 -- `answers` meets its contract: the rest of the run gives what the whole run does. The measure is what is left of the
 -- file.
-use mathlib.Core.Path.{refl, sym, ◌∙◌}
+use mathlib.Core.Bool.{Bool}
+use mathlib.Core.Path.{refl, sym, ap, ◌∙◌}
+use Rattle.messages.specs.Replies.{counted}
 use native.Mathlib.Omega.{arith}
 use Rattle.messages.specs.Run.{Sent, cut}
 use Rattle.timing.proofs.RestLaws.{Follows, follows_message, follows_cut, rest_all}
@@ -28,7 +30,8 @@ pub loop-next-preserved : goal.loop-next-preserved
 loop-next-preserved c =
     let (x, f) = follows c in
     let a = c.answer-a in
-    going_on c.loop-next.invariant x _ _ _ _ a.result f a.ensures a.auto.fast a.auto.slow a.auto.out c.tally_after-tally.ensures
+    going_on c.loop-next.invariant x _ _ _ _ a.result f a.ensures a.auto.fast a.auto.slow a.auto.out
+    (c.tally_after-tally.ensures ∙ ap (λ (b : Bool). counted c.loop-next.tally b a.result.laid) c.is_err.ensures.value)
 
 pub returns-in-End : goal.returns-in-End
 returns-in-End c = going_none c.loop-next.invariant (sym c.in-End.is ∙ c.message_at.ensures.told)
