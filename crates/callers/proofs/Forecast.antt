@@ -11,9 +11,8 @@ use Rattle.tables.specs.Numbers.{accepted, broken_tables}
 use Rattle.tables.specs.Rules.{sound}
 use Rattle.steps.proofs.StepLaws.{rules_good}
 use Rattle.messages.specs.declared.Tally.{Tally}
-use Rattle.messages.specs.declared.Figures.{Figures}
 use Rattle.messages.specs.Run.{messages_of}
-use Rattle.messages.specs.Forecast.{at_start, forecast_of, no_forecast, forecast}
+use Rattle.messages.specs.Forecast.{Forecast, at_start, forecast_of, no_forecast, forecast}
 use Rattle.theorems.proofs.Forecast.{number_stays, foretold}
 use Rattle.embed.specs.Exports.{tables_of, figures_size, figure_numbers, ForecastPromised, Kept, state_in}
 use Rattle.callers.specs.Calls.{kept_after}
@@ -44,7 +43,7 @@ zeros t file = by (sound t)
 
 module _ (k : Kept) (file l l' : List ℕ) (r : ℕ) (sized : length l ≡ figures_size)
     (q : ForecastPromised k.tables file l l' r) where
-  abbrev f : Figures
+  abbrev f : Forecast
   f = forecast (tables_of k.tables) file
 
   laid : l' ≡ figure_numbers f

@@ -5,7 +5,7 @@ use Rattle.tables.specs.Lists.{sum}
 use Rattle.tables.specs.Numbers.{accepted, broken_tables}
 use Rattle.tables.specs.Rules.{sound}
 use Rattle.steps.specs.Steps.{rules_number}
-use Rattle.messages.specs.declared.Figures.{Figures}
+use Rattle.messages.specs.Forecast.{Forecast}
 use Rattle.messages.specs.Replies.{stopped}
 use Rattle.messages.specs.Run.{run}
 use Rattle.theorems.specs.Forecast.{FiguresOf}
@@ -14,7 +14,7 @@ use Rattle.callers.specs.Calls.{Called, Calls, kept_after}
 use Rattle.callers.specs.Lent.{FromFresh}
 
 -- the figures in the number r that was given and the numbers l that were laid, as include/reel.h takes them apart
-abbrev pub figures_in : ℕ → List ℕ → Figures
+abbrev pub figures_in : ℕ → List ℕ → Forecast
 figures_in r l = record { number = r; most = get_or l 0 0; laid = get_or l 1 0; counts = drop 2 l }
 
 -- `reel_rules` answers 0: the tables are sound, and the stores fit

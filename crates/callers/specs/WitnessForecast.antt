@@ -11,10 +11,9 @@ use Rattle.tables.specs.Rules.{sound}
 use Rattle.steps.specs.Data.{each_is}
 use Rattle.steps.specs.Effects.{State}
 use Rattle.messages.specs.declared.Tally.{Tally}
-use Rattle.messages.specs.declared.Figures.{Figures}
 use Rattle.messages.specs.Replies.{stopped, up_to}
 use Rattle.messages.specs.Run.{Turn, Run, run, buffer, tally}
-use Rattle.messages.specs.Forecast.{forecast_of}
+use Rattle.messages.specs.Forecast.{Forecast, forecast_of}
 use Rattle.theorems.specs.Cases.{run_on}
 use Rattle.theorems.specs.Forecast.{most_held, FiguresOf, Foretold}
 use Rattle.theorems.specs.Witness3.{But}
@@ -163,7 +162,7 @@ same_list (x ∷ xs) (y ∷ ys) e h =
     (same_list xs ys (omega (arith, e)) (λ n k. h (suc n) (suc-le-suc k)))
 
 -- a run has one forecast
-same_counts : {room : ℕ} {s : State} {ts : List Turn} {f g : Figures} → FiguresOf room s ts f → FiguresOf room s ts g
+same_counts : {room : ℕ} {s : State} {ts : List Turn} {f g : Forecast} → FiguresOf room s ts f → FiguresOf room s ts g
     → f.counts ≡ g.counts
 same_counts {f = f} {g} a b =
     same_list f.counts g.counts (a.counts_long ∙ sym b.counts_long)
@@ -204,7 +203,7 @@ unfolding run_on flat_map tables_bytes page_bytes tables_from from_each page_fro
 right_numbers l' r q = (q.told, q.figures_out)
 
 -- of any other number of lent numbers each is left alone
-pub left_alone : (f : Figures)
+pub left_alone : (f : Forecast)
     → (with_figures (replicate 33 7) f ≡ replicate 33 7) × (with_figures (replicate 35 7) f ≡ replicate 35 7)
     × (with_figures (replicate 34 7) f ≡ figure_numbers f) × (with_figures [] f ≡ [])
 left_alone f = (refl, refl, refl, refl)

@@ -48,8 +48,6 @@ use Rattle.steps.proofs.DecisionLaws.{page_near}
 use Rattle.steps.proofs.DecideLaws.{IfAccepted, if_refused, if_accepted, past_number, PlanOk, currents_within, removed_placed}
 use Rattle.steps.proofs.PlanLaws.{Access, Needs, copy_plan, plan_for, Does, decide_does}
 use Rattle.steps.proofs.StepLaws.{Good, joined_long, page_stands_lem, rules_listed, Sure, sure, step_good}
-use Rattle.messages.specs.declared.Parsed.{Parsed}
-use Rattle.messages.specs.declared.Parsed.TheVariants.{Refused, Asked}
 use Rattle.messages.specs.Replies.{is_refusal}
 use Rattle.messages.specs.Run.{Sent, asked, bytes_of, respond, answer, Turn, turn_of, left_by, turns_of, end_of}
 use Rattle.theorems.proofs.Frames.{by_message}
@@ -87,22 +85,22 @@ known s c bs =
 -- what a message comes to: refused, or a call that is accepted
 pub data Came (s : State) (x : Sent) : Outcome Result → Type 0 where
   was_refused : {n : ℕ} → Came s x (refuse n)
-  was_accepted : (c : Call) (plan : Plan) → asked x ≡ Asked c → Known s c (bytes_of x) plan
+  was_accepted : (c : Call) (plan : Plan) → asked x ≡ accept c → Known s c (bytes_of x) plan
       → Came s x (accept (carried_out s c (bytes_of x) plan))
 
 pub came : (room : ℕ) (s : State) (x : Sent) → Came s x (answer room s x)
 unfolding answer step
 came room s x = behind (ltb room 70) (asked x) refl
   where
-    by : (c : Call) → asked x ≡ Asked c → (o : Outcome Plan) → IfAccepted (Known s c (bytes_of x)) o
+    by : (c : Call) → asked x ≡ accept c → (o : Outcome Plan) → IfAccepted (Known s c (bytes_of x)) o
         → Came s x (mapped (carried_out s c (bytes_of x)) o)
     by c is (refuse n) k = was_refused
     by c is (accept plan) (if_accepted u) = was_accepted c plan is u
 
-    behind : (b : Bool) (a : Parsed) → asked x ≡ a → Came s x (test b short_buffer (respond s a (bytes_of x)))
+    behind : (b : Bool) (a : Outcome Call) → asked x ≡ a → Came s x (test b short_buffer (respond s a (bytes_of x)))
     behind true a is = was_refused
-    behind false (Refused n) is = was_refused
-    behind false (Asked c) is = by c is _ (known s c (bytes_of x))
+    behind false (refuse n) is = was_refused
+    behind false (accept c) is = by c is _ (known s c (bytes_of x))
 
 module _ (s : State) (c : Call) (bs : List ℕ) (plan : Plan) (u : Known s c bs plan) where
   abbrev t : Tables
@@ -381,7 +379,7 @@ module _ (q : ℕ) (near : q < 64) (n : ℕ) (h : PageHistory) (s : State) (good
         subst (λ (st : List ℕ). Told (suc n) h' st (page_at t' q)) (sym (take-append-drop (length s.fast) laid))
         (subst (λ (i : ℕ). Told (suc n) h' laid (page_at t' i)) (sym e) there)
 
-    accepted_told : ToldIn (followed_in q n (Asked c) bs h) (carried_out s c bs plan).state
+    accepted_told : ToldIn (followed_in q n (accept c) bs h) (carried_out s c bs plan).state
     accepted_told = go (has page c.kind) refl (ℕ_discrete q (page_for c))
       where
         go : (b : Bool) → has page c.kind ≡ b → Dec (q ≡ page_for c)
@@ -404,7 +402,7 @@ module _ (q : ℕ) (near : q < 64) (n : ℕ) (h : PageHistory) (s : State) (good
           → ToldIn (cond (is_refusal o) h (followed_in q n (asked x) (bytes_of x) h)) (left s o)
       go (refuse m) was_refused = same_told
       go (accept _) (was_accepted c plan is u) =
-          subst (λ (a : Parsed). ToldIn (followed_in q n a (bytes_of x) h) (carried_out s c (bytes_of x) plan).state)
+          subst (λ (a : Outcome Call). ToldIn (followed_in q n a (bytes_of x) h) (carried_out s c (bytes_of x) plan).state)
           (sym is) (accepted_told c (bytes_of x) plan u)
 
 -- ---- what is said of a state

@@ -34,8 +34,6 @@ use Rattle.steps.proofs.DecisionLaws.{page_near}
 use Rattle.steps.proofs.DecideLaws.{IfAccepted, if_accepted}
 use Rattle.steps.proofs.PlanLaws.{Access, Needs, copy_plan, plan_for}
 use Rattle.steps.proofs.StepLaws.{Good, page_stands_lem}
-use Rattle.messages.specs.declared.Parsed.{Parsed}
-use Rattle.messages.specs.declared.Parsed.TheVariants.{Refused, Asked}
 use Rattle.messages.specs.Replies.{be16, reply, reply_in, is_refusal}
 use Rattle.messages.specs.Run.{Sent, asked, bytes_of, respond, answer, turn_of, left_by, turns_of, end_of}
 use Rattle.theorems.specs.Flat.{Slot, gone, here}
@@ -271,25 +269,25 @@ module _ (room : ℕ) (s : State) (fast slow : List ℕ) (fl : length s.fast ≡
       let g = page_at s.tables (page_for c) in
       work_data g plan.work plan.len (joined s) ≡ work_data g plan.work plan.len (fast ++ slow)
 
-  reply_same : ((c : Call) (plan : Plan) → asked x ≡ Asked c → Known s c (bytes_of x) plan
+  reply_same : ((c : Call) (plan : Plan) → asked x ≡ accept c → Known s c (bytes_of x) plan
       → answer room s x ≡ accept (carried_out s c (bytes_of x) plan) → ShowsSame c plan)
       → reply_in room (answer room s x) ≡ reply_in room (answer room s' x)
   unfolding answer step reply
   reply_same same = behind (ltb room 70) (asked x) refl refl
     where
-      by : (c : Call) → asked x ≡ Asked c → (o : Outcome Plan) → answer room s x ≡ mapped (carried_out s c (bytes_of x)) o
+      by : (c : Call) → asked x ≡ accept c → (o : Outcome Plan) → answer room s x ≡ mapped (carried_out s c (bytes_of x)) o
           → IfAccepted (Known s c (bytes_of x)) o
           → reply (mapped (carried_out s c (bytes_of x)) o) ≡ reply (mapped (carried_out s' c (bytes_of x)) o)
       by c is (refuse m) out k = refl
       by c is (accept plan) out (if_accepted u) =
           ap (λ (l : List ℕ). be16 (4 + length l) ++ (1 ∷ accepted ∷ be16 plan.laid ++ l)) (same c plan is u out)
 
-      behind : (b : Bool) (a : Parsed) → asked x ≡ a → answer room s x ≡ test b short_buffer (respond s a (bytes_of x))
+      behind : (b : Bool) (a : Outcome Call) → asked x ≡ a → answer room s x ≡ test b short_buffer (respond s a (bytes_of x))
           → cond b [] (reply (test b short_buffer (respond s a (bytes_of x))))
           ≡ cond b [] (reply (test b short_buffer (respond s' a (bytes_of x))))
       behind true a is out = refl
-      behind false (Refused m) is out = refl
-      behind false (Asked c) is out = rw (← fl, ← sl) (by c is _ out (known s c (bytes_of x)))
+      behind false (refuse m) is out = refl
+      behind false (accept c) is out = rw (← fl, ← sl) (by c is _ out (known s c (bytes_of x)))
 
   -- one that is entitled to read no page
   blind : ((q : ℕ) → q < 64 → is_entitled to_read (turn_of room s x) q ≡ false)
@@ -297,7 +295,7 @@ module _ (room : ℕ) (s : State) (fast slow : List ℕ) (fl : length s.fast ≡
   unfolding names among code
   blind none = reply_same (λ c plan is u out. go c plan is u out (is_read c.kind) refl)
     where
-      go : (c : Call) (plan : Plan) → asked x ≡ Asked c → Known s c (bytes_of x) plan
+      go : (c : Call) (plan : Plan) → asked x ≡ accept c → Known s c (bytes_of x) plan
           → answer room s x ≡ accept (carried_out s c (bytes_of x) plan)
           → (b : Bool) → is_read c.kind ≡ b → ShowsSame c plan
       go c plan is u out false e = u.plan_ok.hides e (joined s) (fast ++ slow)
@@ -320,7 +318,7 @@ module _ (room : ℕ) (s : State) (fast slow : List ℕ) (fl : length s.fast ≡
   unfolding shown_of
   own q e held = reply_same go
     where
-      go : (c : Call) (plan : Plan) → asked x ≡ Asked c → Known s c (bytes_of x) plan
+      go : (c : Call) (plan : Plan) → asked x ≡ accept c → Known s c (bytes_of x) plan
           → answer room s x ≡ accept (carried_out s c (bytes_of x) plan)
           → ShowsSame c plan
       go c plan is u out =

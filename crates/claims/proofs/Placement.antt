@@ -38,8 +38,6 @@ use Rattle.steps.specs.Effects.{State, Result, carried_out, step, left}
 use Rattle.steps.proofs.KindLaws.{kind_is}
 use Rattle.steps.proofs.RangeLaws.{outside_listed}
 use Rattle.steps.proofs.StepLaws.{Good, page_stands_lem, good_rules, decide_ruled}
-use Rattle.messages.specs.declared.Parsed.{Parsed}
-use Rattle.messages.specs.declared.Parsed.TheVariants.{Refused, Asked}
 use Rattle.messages.specs.Messages.{parse}
 use Rattle.messages.specs.Replies.{is_refusal}
 use Rattle.messages.specs.Run.{Sent, whole, asked, bytes_of, answer, turn_of, left_by, split, messages_of, turns_of, end_of}
@@ -78,11 +76,11 @@ entitled_none g c e =
     let two = ne_eqb k 2 (omega arith) in
     (rw (one, two, ne_eqb k 5 (omega arith)) refl, rw (one, two, ne_eqb k 3 (omega arith)) refl)
 
-asks_none : (q : ℕ) (f : Call → Bool) (a : Parsed) → unstamped a ≡ true
+asks_none : (q : ℕ) (f : Call → Bool) (a : Outcome Call) → unstamped a ≡ true
     → ((c : Call) → has station c.kind ≡ false → f c ≡ false)
     → asks_for q f a ≡ false
-asks_none q f (Refused n) e h = refl
-asks_none q f (Asked c) e h = rw (h c (not-true _ e)) (and-false (is_of q c))
+asks_none q f (refuse n) e h = refl
+asks_none q f (accept c) e h = rw (h c (not-true _ e)) (and-false (is_of q c))
 
 -- a page that has the same data and the same access is the same
 slot_same : (h h' : PageHistory) (g g' : Page) → data_told h' ≡ data_told h → access_told h' g' ≡ access_told h g
@@ -159,7 +157,7 @@ number_kept (refuse n) f = refl
 number_kept (accept plan) f = refl
 
 -- a message that asks for call c, where the rules hold and the reply buffer is long enough
-answered : (room : ℕ) → 70 ≤ room → (s : State) → Good s → (x : Sent) (c : Call) → asked x ≡ Asked c
+answered : (room : ℕ) → 70 ≤ room → (s : State) → Good s → (x : Sent) (c : Call) → asked x ≡ accept c
     → answer room s x ≡ mapped (carried_out s c (bytes_of x)) (decide s.tables c (length (bytes_of x)))
 unfolding answer step
 answered room wide s good x c is =
@@ -174,10 +172,10 @@ module _ (room q : ℕ) (wide : 70 ≤ room) (near : q < 64) where
       → asks_for q (λ c. is_read c.kind) (asked x) ≡ true → listed (number_of (answer room s x)) fine ≡ true
   reads_answered s good some cur x e = go (asked x) refl e
     where
-      go : (a : Parsed) → asked x ≡ a → asks_for q (λ c. is_read c.kind) a ≡ true
+      go : (a : Outcome Call) → asked x ≡ a → asks_for q (λ c. is_read c.kind) a ≡ true
           → listed (number_of (answer room s x)) fine ≡ true
-      go (Refused n) is e = absurd (false≢true e)
-      go (Asked c) is e =
+      go (refuse n) is e = absurd (false≢true e)
+      go (accept c) is e =
           let of = and_left (is_of q c) _ e in
           let named = eqb-true c.page q (and_right (has page c.kind) _ of) in
           let kind = kind_is c.kind Read (and_right (is_of q c) _ e) in

@@ -8,8 +8,7 @@ use Rattle.steps.specs.declared.Kind.TheVariants.{Create, DeletePage, Grant, Rea
 use Rattle.steps.specs.declared.Call.{Call}
 use Rattle.steps.specs.Kinds.{page, has}
 use Rattle.steps.specs.Stores.{splice, zeros}
-use Rattle.messages.specs.declared.Parsed.{Parsed}
-use Rattle.messages.specs.declared.Parsed.TheVariants.{Refused, Asked}
+use Rattle.steps.specs.Steps.{Outcome, refuse, accept}
 use Rattle.messages.specs.Run.{Sent, asked, bytes_of}
 
 -- ---- what it knows
@@ -101,9 +100,9 @@ followed Retire n c bs h = h
 abbrev pub is_of : ℕ → Call → Bool
 is_of q c = has page c.kind && eqb c.page q
 
-abbrev pub followed_in : ℕ → ℕ → Parsed → List ℕ → PageHistory → PageHistory
-followed_in q n (Refused m) bs h = h
-followed_in q n (Asked c) bs h = cond (is_of q c) (followed c.kind n c bs h) h
+abbrev pub followed_in : ℕ → ℕ → Outcome Call → List ℕ → PageHistory → PageHistory
+followed_in q n (refuse m) bs h = h
+followed_in q n (accept c) bs h = cond (is_of q c) (followed c.kind n c bs h) h
 
 -- the history of page q after message number n, which was refused or accepted
 unfoldable pub history_after : ℕ → ℕ → Sent → Bool → PageHistory → PageHistory

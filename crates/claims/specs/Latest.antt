@@ -11,7 +11,7 @@ use Rattle.steps.specs.Kinds.{is_read}
 use Rattle.steps.specs.Stores.{part, contents}
 use Rattle.steps.specs.Effects.{State, joined, data_of}
 use Rattle.steps.specs.Promises.{state_of}
-use Rattle.messages.specs.declared.Parsed.TheVariants.{Asked}
+use Rattle.steps.specs.Steps.{accept}
 use Rattle.messages.specs.Replies.{is_refusal}
 use Rattle.messages.specs.Run.{Sent, asked, Turn, Run}
 use Rattle.theorems.specs.Hidden.{run_over}
@@ -67,7 +67,7 @@ pub record ReadLast (h : PageHistory) (t : Turn) (c : Call) : Type 0 where
 
 abbrev pub ReadsLast : ℕ → PageHistory → Turn → Type 0
 ReadsLast q h t =
-    (c : Call) → asked t.sent ≡ Asked c → is_read c.kind ≡ true → c.page ≡ q → is_refusal t.outcome ≡ false
+    (c : Call) → asked t.sent ≡ accept c → is_read c.kind ≡ true → c.page ≡ q → is_refusal t.outcome ≡ false
     → ReadLast h t c
 
 -- ---- the theorem

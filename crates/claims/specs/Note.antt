@@ -12,11 +12,9 @@ use Rattle.steps.specs.declared.Kind.TheVariants.{Create, DeletePage, Grant, Wri
 use Rattle.steps.specs.declared.Call.{Call}
 use Rattle.steps.specs.Kinds.{kind_number, is_read}
 use Rattle.steps.specs.Stores.{contents}
-use Rattle.steps.specs.Steps.{Outcome, right_of, owns, copy_at}
+use Rattle.steps.specs.Steps.{Outcome, refuse, accept, right_of, owns, copy_at}
 use Rattle.steps.specs.Effects.{State, joined, Result, left}
 use Rattle.steps.specs.Promises.{state_of}
-use Rattle.messages.specs.declared.Parsed.{Parsed}
-use Rattle.messages.specs.declared.Parsed.TheVariants.{Refused, Asked}
 use Rattle.messages.specs.Replies.{reply_in, is_refusal}
 use Rattle.messages.specs.Run.{Sent, asked, answer, Turn, Run}
 use Rattle.theorems.specs.Flat.{Slot, gone, here}
@@ -74,9 +72,9 @@ pub record CopiesAgree (st : List ℕ) (g : Page) : Type 0 where
 -- ---- of every turn
 
 -- whether a message is a call of page q that f lets pass
-abbrev pub asks_for : ℕ → (Call → Bool) → Parsed → Bool
-asks_for q f (Refused n) = false
-asks_for q f (Asked c) = is_of q c && f c
+abbrev pub asks_for : ℕ → (Call → Bool) → Outcome Call → Bool
+asks_for q f (refuse n) = false
+asks_for q f (accept c) = is_of q c && f c
 
 -- whether a turn is an accepted call of page q that is entitled to what it does, by the page's record as the turn found
 -- that

@@ -23,7 +23,6 @@ use Rattle.steps.specs.Stores.{part, splice, lay_frames}
 use Rattle.steps.specs.Steps.{Outcome, refuse, accept, test, plan_of, no_work, copy_at, currents, number_of}
 use Rattle.steps.specs.Effects.{laid_frames, State, joined, Result, carried_out}
 use Rattle.steps.specs.Promises.{state_of}
-use Rattle.messages.specs.declared.Parsed.TheVariants.{Asked}
 use Rattle.messages.specs.Messages.{parse}
 use Rattle.messages.specs.Run.{Sent, whole, asked, Turn}
 use Rattle.theorems.specs.Cases.{run_on, right_turn}
@@ -275,7 +274,7 @@ unfolding names code argument call_of fresh_page
 creates = (refl, refl)
 
 -- the kinds that no station sends: 6 to 12
-pub unstamped_kinds : map (λ (k : Kind). unstamped (Asked (call_of k []))) kinds
+pub unstamped_kinds : map (λ (k : Kind). unstamped (accept (call_of k []))) kinds
     ≡ false ∷ false ∷ false ∷ false ∷ false ∷ true ∷ true ∷ true ∷ true ∷ true ∷ true ∷ true ∷ []
 unfolding kinds names code among call_of
 unstamped_kinds = refl

@@ -7,20 +7,19 @@ use Rattle.tables.specs.Numbers.{accepted, out_of_range, no_right}
 use Rattle.tables.specs.Model.{frames, is_null, absent, page_at, fresh_tables}
 use Rattle.tables.specs.Rules.{free}
 use Rattle.steps.specs.Kinds.{station, has, is_read}
-use Rattle.steps.specs.Steps.{number_of, copy_at}
+use Rattle.steps.specs.Steps.{Outcome, refuse, accept, number_of, copy_at}
 use Rattle.steps.specs.Effects.{State}
 use Rattle.steps.specs.Promises.{state_of}
-use Rattle.messages.specs.declared.Parsed.{Parsed}
-use Rattle.messages.specs.declared.Parsed.TheVariants.{Refused, Asked}
+use Rattle.steps.specs.declared.Call.{Call}
 use Rattle.messages.specs.Run.{Sent, asked, answer, messages_of, run}
 use Rattle.theorems.specs.Hidden.{run_over}
 use Rattle.claims.specs.Note.{seen, asks_for}
 
 -- Messages that no station sends: "the bus that stamps the station byte" stamps none into moves and looks, which have
 -- no such byte. A message that is refused by its own bytes may be among them.
-abbrev pub unstamped : Parsed → Bool
-unstamped (Refused n) = true
-unstamped (Asked c) = not (has station c.kind)
+abbrev pub unstamped : Outcome Call → Bool
+unstamped (refuse n) = true
+unstamped (accept c) = not (has station c.kind)
 
 abbrev pub from_placement : List Sent → Bool
 from_placement xs = all (λ (x : Sent). unstamped (asked x)) xs

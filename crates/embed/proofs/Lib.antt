@@ -3,4 +3,3 @@ pub mod Forms
 pub mod ImageLaws
 pub mod LentLaws
 pub mod PlaceLaws
-pub mod FigureLaws

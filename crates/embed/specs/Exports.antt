@@ -1,5 +1,6 @@
 -- What the exported functions answer, and what they leave in the bytes that they are lent.
 use Rattle.std.specs.Prelude.{ℕ, ◌+◌, ◌*◌, Bool, ◌&&◌, cond, List, [], ◌∷◌, ◌≡◌, length, get_or, eqb}
+use Rattle.stations.specs.Reader.{Reading, Refused, Reply}
 use Rattle.tables.specs.declared.Tables.{Tables}
 use Rattle.tables.specs.Lists.{all}
 use Rattle.tables.specs.Numbers.{broken_tables}
@@ -11,13 +12,10 @@ use Rattle.steps.specs.Steps.{Outcome, refuse, accept, number_of}
 use Rattle.steps.specs.Effects.{State, Result, left, laid_by, read_place}
 use Rattle.steps.specs.Promises.{state_of, Lent, lent}
 use Rattle.messages.specs.declared.Tally.{Tally}
-use Rattle.messages.specs.declared.Figures.{Figures}
 use Rattle.messages.specs.Replies.{reply_in, zero_tally, is_refusal}
 use Rattle.messages.specs.Run.{answer, Turn, Run, run, buffer, tally, joined_replies, Part, part_from}
-use Rattle.messages.specs.Forecast.{numbers_counted, forecast}
+use Rattle.messages.specs.Forecast.{numbers_counted, forecast, Forecast}
 use Rattle.messages.specs.Promises.{sent_alone}
-use Rattle.stations.specs.declared.Reading.{Reading}
-use Rattle.stations.specs.declared.Reading.TheVariants.{Refused, Reply}
 use Rattle.stations.specs.Writer.{message_in}
 use Rattle.embed.specs.Bytes.{tables_size, tables_bytes, tables_from, marks_valid}
 
@@ -87,11 +85,11 @@ abbrev pub figures_size : ℕ
 figures_size = 2 + numbers_counted
 
 -- the most frames held, the bytes laid, and the counts, from number 0 on
-abbrev pub figure_numbers : Figures → List ℕ
+abbrev pub figure_numbers : Forecast → List ℕ
 figure_numbers f = f.most ∷ f.laid ∷ f.counts
 
 -- 34 lent numbers with the figures of f put into them; any other number of them is left alone
-abbrev pub with_figures : List ℕ → Figures → List ℕ
+abbrev pub with_figures : List ℕ → Forecast → List ℕ
 with_figures l f = cond (eqb (length l) figures_size) (figure_numbers f) l
 
 -- what `reel_forecast` leaves of lent numbers l, on the tables in the bytes b and with a file, and the number that it

@@ -1,8 +1,7 @@
 -- What private functions ask. For the proofs alone: no exported contract names it.
 use Rattle.std.specs.Prelude.{◌≤◌, ◌<◌}
+use Rattle.stations.specs.Reader.{Reading, Refused, Reply}
 use Rattle.steps.specs.declared.Place.{Place}
-use Rattle.stations.specs.declared.Reading.{Reading}
-use Rattle.stations.specs.declared.Reading.TheVariants.{Refused, Reply}
 
 -- a place that goes into one number
 pub record Small (place : Place) : Type 0 where

@@ -14,15 +14,12 @@ ghost use Rattle.embed.specs.Exports.{version, tables_of, fresh_into, read_numbe
 ghost use Rattle.embed.specs.Exports.{AnswerPromised, RunPromised, RepliesPromised, ForecastPromised, WriteLent, reading_number};
 
 use image::{TABLES_SIZE, put_tables};
-use lent::{
-    holds_tables, packed, place_number, put_figures, put_tally, put_where, reading_number,
-    tables_where, tally_of,
-};
+use lent::{answer_number, packed, place_number, put_figures, put_tally, reading_number, tally_of};
 pub use lent::{put_back, tables_of};
-use messages::{answer, fill, forecast, run};
+use messages::{Figures, NUMBERS, answer, fill, forecast, run};
 use stations::{read_reply, write_kind};
-use steps::{BROKEN_TABLES, read_place, rules};
-use tables::Tables;
+use steps::{read_place, rules};
+use tables::{Refusal, Tables};
 
 // The version of what C and Rust see: these functions, what they do, and the tables as bytes.
 const MAJOR: u32 = 5;
@@ -44,7 +41,7 @@ pub fn reel_fresh(p: u8, s: u8, tables: &mut [u8]) -> u8
     ensures tables_after { tables.new ≡ (fresh_into p s tables.old).bytes }
 {
     if tables.len() != TABLES_SIZE {
-        return BROKEN_TABLES;
+        return u8::from(Refusal::BrokenTables);
     }
     let made = Tables::fresh(p, s);
     put_tables(made.tables, tables);
@@ -55,8 +52,7 @@ pub fn reel_fresh(p: u8, s: u8, tables: &mut [u8]) -> u8
 pub fn reel_rules(tables: &[u8], fast: usize, slow: usize) -> u8
     ensures { result ≡ rules_number (tables_of tables.now) fast slow }
 {
-    let t = tables_of(tables);
-    rules(t, fast, slow)
+    answer_number(rules(tables_of(tables), fast, slow))
 }
 
 // A read as a place: its length, 256 times its store (0 fast, 1 slow) and 65536 times the offset in
@@ -90,11 +86,12 @@ pub fn reel_answer(
         message.now out.old
         (kept tables.new fast.new slow.new) out.new result }
 {
-    let holds = holds_tables(&tables[..]);
-    let before = tables_where(holds, &tables[..]);
+    let before = tables_of(&tables[..]);
     let a = answer(before, fast, slow, message, out);
-    put_where(holds & a.moved, a.tables, tables);
-    packed(a.number, a.len, a.laid)
+    if a.moved {
+        put_tables(a.tables, tables);
+    }
+    packed(answer_number(a.answer), a.len, a.laid)
 }
 
 // Runs a call file, and counts on in a tally of three numbers: messages, refusals and bytes laid.
@@ -111,11 +108,12 @@ pub fn reel_run(
         file.now out.old tally.old
         (kept tables.new fast.new slow.new) out.new tally.new }
 {
-    let holds = holds_tables(&tables[..]);
-    let before = tables_where(holds, &tables[..]);
+    let before = tables_of(&tables[..]);
     let counted = tally_of(&tally[..]);
     let ran = run(before, fast, slow, file, out, counted);
-    put_where(holds & ran.moved, ran.tables, tables);
+    if ran.moved {
+        put_tables(ran.tables, tables);
+    }
     put_tally(ran.tally, tally);
 }
 
@@ -137,11 +135,12 @@ pub fn reel_replies(
         (kept tables.new fast.new slow.new) out.new tally.new
         used.new result }
 {
-    let holds = holds_tables(&tables[..]);
-    let before = tables_where(holds, &tables[..]);
+    let before = tables_of(&tables[..]);
     let counted = tally_of(&tally[..]);
     let part = fill(before, fast, slow, file, at, out, counted);
-    put_where(holds & part.moved, part.tables, tables);
+    if part.moved {
+        put_tables(part.tables, tables);
+    }
     put_tally(part.tally, tally);
     *used = part.used;
     part.at
@@ -153,10 +152,21 @@ pub fn reel_forecast(tables: &[u8], file: &[u8], figures: &mut [u32]) -> u8
     ensures { ForecastPromised tables.now file.now figures.old
         figures.new result }
 {
-    let t = tables_of(tables);
-    let f = forecast(t, file);
-    put_figures(f, figures);
-    f.number
+    match forecast(tables_of(tables), file) {
+        Ok(f) => {
+            put_figures(f, figures);
+            0
+        }
+        Err(refusal) => {
+            let zeros = Figures {
+                most: 0,
+                laid: 0,
+                counts: [0; NUMBERS],
+            };
+            put_figures(zeros, figures);
+            u8::from(refusal)
+        }
+    }
 }
 
 // Writes the message of a call to the front of the buffer: its number and 256 times the length of the message, in one.
@@ -173,8 +183,10 @@ pub fn reel_write(
         (written_as (length out.old) kind (first ∷ second ∷ third ∷ fourth ∷ []) bytes.now)
         out.old out.new result }
 {
-    let w = write_kind(kind, first, second, third, fourth, bytes, out);
-    packed(w.number, w.len, 0)
+    match write_kind(kind, first, second, third, fourth, bytes, out) {
+        Ok(len) => packed(0, len, 0),
+        Err(refusal) => packed(u8::from(refusal), 0, 0),
+    }
 }
 
 // Reads the reply to a message of the kind that is told: the reader's own refusal, 1 to 4; or 0 and, in one, 256 times

@@ -15,8 +15,7 @@ use Rattle.tables.specs.Numbers.{accepted, cut_short, short_buffer}
 use Rattle.steps.specs.Steps.{Outcome, refuse, accept, test}
 use Rattle.steps.specs.Effects.{State, Result, left, laid_by, data_of}
 use Rattle.steps.proofs.StepLaws.{data_paid}
-use Rattle.messages.specs.declared.Parsed.{Parsed}
-use Rattle.messages.specs.declared.Parsed.TheVariants.{Refused, Asked}
+use Rattle.steps.specs.declared.Call.{Call}
 use Rattle.messages.specs.declared.Next.TheVariants.{Message, Cut, End}
 use Rattle.messages.specs.declared.Tally.{Tally}
 use Rattle.messages.specs.Messages.{parse, write_bytes, length_at, next_at}
@@ -39,10 +38,10 @@ unfolding answer
 reply_paid room s m =
     rw (← reply_length room (answer room s (whole m))) (under (ltb room 70) _ (by (ltb room 70) (parse m) refl))
   where
-    by : (b : Bool) (p : Parsed) → parse m ≡ p → 4 * (6 + length (data_of (test b short_buffer (respond s p (write_bytes m))))) ≤ 35 * (2 + length m)
+    by : (b : Bool) (p : Outcome Call) → parse m ≡ p → 4 * (6 + length (data_of (test b short_buffer (respond s p (write_bytes m))))) ≤ 35 * (2 + length m)
     by true p e = omega arith
-    by false (Refused n) e = omega arith
-    by false (Asked c) e = omega (arith, data_paid s c (write_bytes m), asked_long m c e)
+    by false (refuse n) e = omega arith
+    by false (accept c) e = omega (arith, data_paid s c (write_bytes m), asked_long m c e)
 
     under : (b : Bool) (n : ℕ) → 4 * (6 + n) ≤ 35 * (2 + length m) → 4 * cond b 0 (6 + n) ≤ 35 * (2 + length m)
     under true n h = omega arith

@@ -6,9 +6,9 @@ use mathlib.Core.List.{List, [], ◌∷◌}
 use native.Mathlib.Nat.{not-suc-le-zero}
 use native.Mathlib.Omega.{arith}
 use lib.ListN.{length, take, drop, get_or, length-drop, drop_of_length-le}
-use lib.Seq.{drop-cons, drop-drop}
+use lib.Seq.{length-take-le, get_or-drop, drop-cons, drop-drop}
 use lib.Dec.{leb, ltb}
-use borrow.Author.Tests.{leb-true, leb-false, ltb-true, ltb-false, lt-ltb, le-ltb, lt-leb}
+use borrow.Author.Tests.{leb-true, leb-false, ltb-true, ltb-false, lt-ltb, le-ltb, lt-leb, le-leb}
 use Rattle.steps.specs.Stores.{part}
 use Rattle.messages.specs.declared.Next.{Next}
 use Rattle.messages.specs.declared.Next.TheVariants.{Message, Cut, End}
@@ -113,14 +113,52 @@ reader_yields file at = first (leb (length file) at) refl
 pub yields_at : (file : List ℕ) (at : ℕ) (r : Next) → r ≡ next_at file at → Yields file at r
 yields_at file at r e = record { told = e; meant = ap (yielded file) e ∙ sym (reader_yields file at) }
 
--- one byte that is left is cut short
-module _ (file : List ℕ) (at : ℕ) (some : at < length file) (few : length file - at < 2) where
-  pub told_cut : Cut ≡ next_at file at
-  unfolding next_at
-  told_cut = simp (lt-leb (length file) at some, lt-ltb (length file) (at + 2) (omega (arith, few)))
+-- as the code finds it, by the bytes l that are left at the place
+module _ (file l : List ℕ) (at : ℕ) (left : l ≡ drop at file) where
+  long : length l ≡ length file - at
+  long = rw left (length-drop at file)
 
-  pub meant_cut : cut ∷ [] ≡ messages_of (drop at file)
-  meant_cut = (yields_at file at Cut told_cut).meant
+  pub yields_end : length l < 1 → Yields file at End
+  unfolding next_at
+  yields_end few = let e = long in yields_at file at End (simp (le-leb (length file) at (omega arith)))
+
+  -- one byte is cut short
+  module _ (some : 1 ≤ length l) (few : length l < 2) where
+    pub told_cut : Cut ≡ next_at file at
+    unfolding next_at
+    told_cut =
+        let e = long in
+        simp (lt-leb (length file) at (omega arith), lt-ltb (length file) (at + 2) (omega arith))
+
+    pub meant_cut : cut ∷ [] ≡ messages_of (drop at file)
+    meant_cut = (yields_at file at Cut told_cut).meant
+
+  -- two bytes are a length
+  module _ (two : 2 ≤ length l) (len : ℕ) (size : len ≡ get_or l 0 0 * 256 + get_or l 1 0) where
+    stated : len ≡ length_at file at
+    stated = let e : at + 0 ≡ at = omega arith in size ∙ rw (left, get_or-drop at file 0 0, get_or-drop at file 1 0, e)
+
+    rest : length (take (length l - 2) (drop 2 l)) ≡ length l - 2
+    rest = length-take-le (length l - 2) (drop 2 l) (omega (arith, length-drop 2 l))
+
+    pub yields_short : length (take (length l - 2) (drop 2 l)) < len → Yields file at Cut
+    unfolding next_at
+    yields_short h =
+        let e = long in
+        let s = stated in
+        let r = rest in
+        yields_at file at Cut
+        (simp (lt-leb (length file) at (omega arith), le-ltb (length file) (at + 2) (omega arith), lt-ltb (length file) (at + 2 + length_at file at) (omega arith)))
+
+    pub yields_message : len ≤ length (take (length l - 2) (drop 2 l)) → Yields file at (Message (at + 2) len (at + 2 + len))
+    unfolding next_at
+    yields_message h =
+        let e = long in
+        let s = stated in
+        let r = rest in
+        yields_at file at (Message (at + 2) len (at + 2 + len))
+        (rw s
+        (simp (lt-leb (length file) at (omega arith), le-ltb (length file) (at + 2) (omega arith), le-ltb (length file) (at + 2 + length_at file at) (omega arith))))
 
 -- ---- a message that the reader yields
 

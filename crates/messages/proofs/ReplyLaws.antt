@@ -1,14 +1,15 @@
--- The laws of replies, in order: six bytes at the front of a list; a reply is its heading and its data; the reply of a
+-- The laws of replies, in order: a reply is its heading and its data; the reply of a
 -- decision as the code lays it, and what that comes to; the length of a reply, which is 70 at the most.
 use Prim.Native.Nat.{ℕ, ◌+◌, ◌≤◌}
 use mathlib.Core.Path.{◌≡◌, refl, sym, ap, ◌∙◌}
 use mathlib.Core.Bool.{Bool, true, false, cond}
-use mathlib.Core.List.{List, [], ◌∷◌, ◌++◌, append_assoc}
+use mathlib.Core.List.{List, [], ◌++◌, append_assoc}
 use native.Mathlib.Omega.{arith}
-use lib.ListN.{length, take, drop, set, length-append, length-drop, take-append-drop}
+use lib.ListN.{length, take, drop, length-append, length-drop, take-append-drop}
 use lib.Seq.{length-take-le, drop_at, drop-drop, drop-append-le}
 use lib.Dec.{ltb}
 use borrow.Rule.Slice.PartMut.{put_mid}
+use Rattle.tables.specs.Numbers.{accepted}
 use Rattle.steps.specs.declared.Call.{Call}
 use Rattle.steps.specs.declared.Decision.{Decision}
 use Rattle.steps.specs.Stores.{part, over}
@@ -18,17 +19,6 @@ use Rattle.steps.specs.Promises.{Lent, lent, carried}
 use Rattle.steps.proofs.StepLaws.{Carries, data_short}
 use Rattle.messages.specs.Replies.{reply, reply_in}
 use Rattle.messages.specs.Private.{heading, replied_with}
-
--- six bytes set at the front of a list
-pub six_set : (l : List ℕ) (a b c d e f : ℕ) → 6 ≤ length l
-    → set (set (set (set (set (set l 0 a) 1 b) 2 c) 3 d) 4 e) 5 f ≡ a ∷ b ∷ c ∷ d ∷ e ∷ f ∷ drop 6 l
-six_set [] a b c d e f h = absurd (omega arith)
-six_set (_ ∷ []) a b c d e f h = absurd (omega arith)
-six_set (_ ∷ _ ∷ []) a b c d e f h = absurd (omega arith)
-six_set (_ ∷ _ ∷ _ ∷ []) a b c d e f h = absurd (omega arith)
-six_set (_ ∷ _ ∷ _ ∷ _ ∷ []) a b c d e f h = absurd (omega arith)
-six_set (_ ∷ _ ∷ _ ∷ _ ∷ _ ∷ []) a b c d e f h = absurd (omega arith)
-six_set (_ ∷ _ ∷ _ ∷ _ ∷ _ ∷ _ ∷ l) a b c d e f h = refl
 
 -- a reply is its first six bytes and its data
 reply_is : (o : Outcome Result) → reply o ≡ heading (number_of o) (laid_by o) (length (data_of o)) ++ data_of o
@@ -41,14 +31,14 @@ reply_is (accept r) = refl
 -- the data in the 64 bytes behind the first six, and the heading, as the code lays them
 pub laid_reply : (d : Decision) (bs fast slow out fast' slow' mid out' : List ℕ) → 70 ≤ length out
     → lent fast' slow' mid ≡ carried d bs (lent fast slow (take 64 (drop 6 out)))
-    → out' ≡ heading d.number d.laid d.len ++ drop 6 (put_mid 6 64 out mid)
+    → out' ≡ heading accepted d.laid d.len ++ drop 6 (put_mid 6 64 out mid)
     → lent fast' slow' out' ≡ replied_with d bs (lent fast slow out)
 unfolding part
 laid_reply d bs fast slow out fast' slow' mid out' room e f =
     let behind : drop 6 (put_mid 6 64 out mid) ≡ mid ++ drop 70 out =
     drop_at (take 6 out) _ 6 (length-take-le 6 out (omega arith)) ∙ ap (λ (r : List ℕ). mid ++ r) (drop-drop 64 6 out) in
-    ap (lent fast' slow') (f ∙ ap (λ (r : List ℕ). heading d.number d.laid d.len ++ r) behind)
-    ∙ ap (λ (l : Lent). lent l.fast l.slow (heading d.number d.laid d.len ++ (l.out ++ drop 70 out))) e
+    ap (lent fast' slow') (f ∙ ap (λ (r : List ℕ). heading accepted d.laid d.len ++ r) behind)
+    ∙ ap (λ (l : Lent). lent l.fast l.slow (heading accepted d.laid d.len ++ (l.out ++ drop 70 out))) e
 
 -- bytes laid over a part at the front of a list
 over_part : (d l : List ℕ) (n : ℕ) → length d ≤ n → n ≤ length l → over d (take n l) ++ drop n l ≡ over d l
@@ -87,9 +77,10 @@ pub carried_reply : (s : State) (c : Call) (bs out : List ℕ) (d : Decision) �
     ≡ lent (left s (step s c bs)).fast (left s (step s c bs)).slow (over (reply (step s c bs)) out)
 carried_reply s c bs out d room q =
     let o = step s c bs in
-    ap (λ (l : Lent). lent l.fast l.slow (heading d.number d.laid d.len ++ (l.out ++ drop 70 out))) q.left_is
+    ap (λ (l : Lent). lent l.fast l.slow (heading accepted d.laid d.len ++ (l.out ++ drop 70 out))) q.left_is
     ∙ ap (lent (left s o).fast (left s o).slow)
-    (rw (q.number_is, q.laid_is, q.len_is) (reply_over o out (data_short s c bs) room))
+    (ap (λ (n : ℕ). heading n d.laid d.len ++ (over (data_of o) (part out 6 64) ++ drop 70 out)) (sym q.accepted_is)
+    ∙ rw (q.laid_is, q.len_is) (reply_over o out (data_short s c bs) room))
 
 -- ---- the length of a reply
 

@@ -2,17 +2,20 @@
 -- loop's invariant, after a message and at the end.
 use Prim.Native.Nat.{ℕ, ◌+◌, ◌-◌, ◌≤◌, ◌<◌}
 use mathlib.Core.Path.{◌≡◌, refl, sym, ap, ◌∙◌}
-use mathlib.Core.Bool.{Bool, true, false, not, ◌||◌, cond}
+use mathlib.Core.Bool.{Bool, true, false, ◌||◌, cond}
 use mathlib.Core.List.{List, [], ◌∷◌, ◌++◌, append-nil}
 use native.Mathlib.Omega.{arith}
 use lib.ListN.{length, take, drop, length-drop, drop_of_length-le}
 use lib.Seq.{length-take-le, take_all, drop-drop}
-use lib.Dec.{leb, ltb, eqb}
+use lib.Dec.{leb, ltb}
 use borrow.Author.Tests.{leb-false, ltb-true, ltb-false, lt-ltb, le-ltb}
 use borrow.Rule.Slice.PartMut.{put_mid, same_len_mid}
 use Rattle.steps.specs.Stores.{part, splice, over}
-use Rattle.steps.specs.Steps.{Outcome, number_of}
+use Rattle.tables.specs.declared.Tables.{Tables}
+use Rattle.steps.specs.declared.Decision.{Decision}
+use Rattle.steps.specs.Steps.{Outcome}
 use Rattle.steps.specs.Effects.{State, Result, left, moved_by, laid_by}
+use Rattle.steps.specs.Promises.{state_of, lent}
 use Rattle.messages.specs.declared.Next.{Next}
 use Rattle.messages.specs.declared.Next.TheVariants.{Message, Cut, End}
 use Rattle.messages.specs.declared.Tally.{Tally}
@@ -20,10 +23,9 @@ use Rattle.messages.specs.Messages.{length_at, next_at}
 use Rattle.messages.specs.Replies.{reply, reply_in, counted, is_refusal}
 use Rattle.messages.specs.Run.{Sent, answer, messages_of, yielded, split, full, passed}
 use Rattle.messages.specs.Promises.{sent_by}
-use Rattle.messages.specs.Private.{due_at, is_end, past_of, Serving, serving, ahead, served_one, served_all}
+use Rattle.messages.specs.Private.{due_at, is_end, past_of, replied_by, refused_then, laid_then, reply_len, moves_then, settled_then, Serving, serving, ahead, served_one, served_all}
 use Rattle.messages.proofs.ReaderLaws.{message_at, reader_yields}
-use Rattle.messages.proofs.ReplyLaws.{reply_length}
-use Rattle.messages.proofs.TurnLaws.{rules_of, Served, answer_told, rules_kept, reply_short}
+use Rattle.messages.proofs.TurnLaws.{rules_of, Decided, served, reply_long, rules_kept, reply_short}
 
 -- ---- the reader's answer
 
@@ -166,44 +168,44 @@ same_serving ea eu es eo en em = cc
 
 module _ {keep : Bool} {file : List ℕ} {v₀ : Serving} {known : ℕ} {v : Serving} (q : Going keep file v₀ known v) where
   -- after a message, of which the reader says what follows: its reply laid into what is left of the buffer
-  pub going_on : (next : Next) (number laid few used' : ℕ) (moved moved' : Bool) (s' : State) (tail' out' : List ℕ) (n' : Tally)
+  pub going_on : (next : Next) (d : Outcome Decision) (bs : List ℕ) (used' : ℕ) (moved' : Bool) (t' : Tables) (fast' slow' tail' out' : List ℕ) (n' : Tally)
       → let room = length v₀.buffer in
       let rest = length v.buffer - v.used in
       let tail = take rest (drop v.used v.buffer) in
       Due file v.at (full room v.used) next → is_end next ≡ false
-      → Served v.state (answer (length tail) v.state (sent_by file next)) tail number moved laid few s' tail'
+      → Decided v.state (answer (length tail) v.state (sent_by file next)) tail bs d
+      → t' ≡ settled_then v.state.tables d → lent fast' slow' tail' ≡ replied_by d bs (lent v.state.fast v.state.slow tail)
       → out' ≡ put_mid v.used rest v.buffer tail' → length tail' ≡ length tail
-      → used' ≡ ahead keep v.used (cond (ltb (length tail) 70) 0 (6 + few))
-      → n' ≡ counted v.tally (not (eqb number 0)) laid
-      → moved' ≡ (v.moved || moved)
-      → length s'.fast ≡ length v.state.fast → length s'.slow ≡ length v.state.slow
-      → Going keep file v₀ known (serving (past_of (length file) next) used' s' out' n' moved')
-  going_on next number laid few used' moved moved' s' tail' out' n' d goes a eo lo eu en em lx ly =
+      → used' ≡ ahead keep v.used (reply_len (length tail) d)
+      → n' ≡ counted v.tally (refused_then d) (laid_then d)
+      → moved' ≡ (v.moved || moves_then d)
+      → length fast' ≡ length v.state.fast → length slow' ≡ length v.state.slow
+      → Going keep file v₀ known (serving (past_of (length file) next) used' (state_of t' fast' slow') out' n' moved')
+  going_on next d bs used' moved' t' fast' slow' tail' out' n' due goes a et el eo lo eu en em lx ly =
       let room : ℕ = length v₀.buffer in
       let rest : ℕ = length v.buffer - v.used in
       let tail : List ℕ = take rest (drop v.used v.buffer) in
       let x : Sent = sent_by file next in
+      let s' : State = state_of t' fast' slow' in
+      let w = served a et el in
       let cut : rest ≤ length (drop v.used v.buffer) = omega (arith, length-drop v.used v.buffer) in
       let long : v.used + length tail ≡ room = omega (arith, length-take-le rest (drop v.used v.buffer) cut, q.inside, q.out_long) in
-      let same = same_room room v.used d.roomy (length tail) long in
+      let same = same_room room v.used due.roomy (length tail) long in
       let o₁ : Outcome Result = answer (length tail) v.state x in
       let o : Outcome Result = answer room v.state x in
       let is : o₁ ≡ o = same_answer (length tail) room v.state x same in
       let replies : reply_in (length tail) o₁ ≡ reply_in room o = same_reply (length tail) room o₁ o same is in
-      let f = follows file v.at next d.found goes in
+      let f = follows file v.at next due.found goes in
       let e_u : used' ≡ ahead keep v.used (length (reply_in room o)) =
-      eu
-      ∙ ap (ahead keep v.used)
-      (ap (λ (k : ℕ). cond (ltb (length tail) 70) 0 (6 + k)) a.len_is ∙ reply_length (length tail) o₁ ∙ ap (λ (l : List ℕ). length l) replies) in
-      let e_s : s' ≡ left v.state o = a.state_out ∙ ap (left v.state) is in
+      eu ∙ ap (ahead keep v.used) (reply_long a ∙ ap (λ (l : List ℕ). length l) replies) in
+      let e_s : s' ≡ left v.state o = w.state_out ∙ ap (left v.state) is in
       let e_o : out' ≡ splice v.buffer v.used (reply_in room o) =
       eo
-      ∙ ap (λ (l : List ℕ). put_mid v.used rest v.buffer l) (a.reply_out ∙ ap (λ (r : List ℕ). over r tail) replies)
+      ∙ ap (λ (l : List ℕ). put_mid v.used rest v.buffer l) (w.reply_out ∙ ap (λ (r : List ℕ). over r tail) replies)
       ∙ put_rest v.buffer v.used (reply_in room o) (omega (arith, q.inside, q.out_long)) in
       let e_n : n' ≡ counted v.tally (is_refusal o) (laid_by o) =
       en
-      ∙ ap (λ (k : ℕ). counted v.tally (not (eqb k 0)) laid) (a.number_is ∙ ap (λ (p : Outcome Result). number_of p) is)
-      ∙ ap (λ (b : Bool). counted v.tally b laid) (sym (answer_told room v.state x))
+      ∙ ap (λ (b : Bool). counted v.tally b (laid_then d)) (a.refused_is ∙ ap is_refusal is)
       ∙ ap (counted v.tally (is_refusal o)) (a.laid_is ∙ ap laid_by is) in
       let e_m : moved' ≡ (v.moved || moved_by o) = em ∙ ap (λ (b : Bool). v.moved || b) (a.moved_is ∙ ap moved_by is) in
       let one : serving (past_of (length file) next) used' s' out' n' moved' ≡ served_one keep room v (passed (length file) v.at x) o =
@@ -213,10 +215,10 @@ module _ {keep : Bool} {file : List ℕ} {v₀ : Serving} {known : ℕ} {v : Ser
         slow_long = ly ∙ q.slow_long;
         out_long = ap (λ (l : List ℕ). length l) eo ∙ same_len_mid v.used rest v.buffer tail' lo ∙ q.out_long;
         rules = q.rules ∙ sym (rules_kept room v.state x) ∙ ap rules_of (sym e_s);
-        inside = rw e_u (ahead_inside keep v.used (length (reply_in room o)) room (reply_inside room v.used d.roomy v.state x));
+        inside = rw e_u (ahead_inside keep v.used (length (reply_in room o)) room (reply_inside room v.used due.roomy v.state x));
         rest =
             ap (λ (u : Serving). served_all keep room (length file) u (messages_of (drop (past_of (length file) next) file))) one
-            ∙ sym (served_step keep room (length file) v x (messages_of (drop (past_of (length file) next) file)) d.roomy)
+            ∙ sym (served_step keep room (length file) v x (messages_of (drop (past_of (length file) next) file)) due.roomy)
             ∙ ap (served_all keep room (length file) v) (sym f.messages)
             ∙ q.rest;
       }

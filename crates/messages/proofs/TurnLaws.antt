@@ -1,6 +1,6 @@
--- One message, in order: no number of its own bytes is 0; it is turned back early, or it is a step; a refusal is told
--- by its number; what either leaves, as `answer` and `run` have it; the reader's answer as a message; the rules are
--- kept; tables that did not move; a reply is short.
+-- One message, in order: no number of its own bytes is 0; a refusal is told by its number; what a message leaves that is
+-- turned back or decided on, as `answer` and `run` have it; the reader's answer as a message; the rules are kept; tables
+-- that did not move; a reply is short.
 use Prim.Native.Nat.{ℕ, ◌+◌, ◌≤◌, zero-le}
 use mathlib.Core.Path.{◌≡◌, refl, sym, ap, ◌∙◌}
 use mathlib.Core.Bool.{Bool, true, false, not, cond}
@@ -9,25 +9,25 @@ use native.Mathlib.Omega.{arith}
 use lib.ListN.{length}
 use lib.Dec.{ltb, eqb}
 use borrow.Author.Tests.{ltb-false, le-ltb, eqb-true, eqb-false, ne_eqb}
+use Rattle.std.specs.Prelude.{Option, Some, None, is_some}
+use Rattle.tables.specs.declared.Change.{Change}
 use Rattle.tables.specs.declared.Tables.{Tables}
-use Rattle.tables.specs.Numbers.{accepted, short_buffer}
+use Rattle.tables.specs.Numbers.{accepted, short_buffer, answer_number}
 use Rattle.steps.specs.declared.Call.{Call}
 use Rattle.steps.specs.declared.Decision.{Decision}
 use Rattle.steps.specs.Stores.{part, over}
 use Rattle.steps.specs.Steps.{Outcome, refuse, accept, test, number_of, rules_number, decide_any}
 use Rattle.steps.specs.Effects.{State, Result, step, left, moved_by, laid_by, data_of}
-use Rattle.steps.specs.Promises.{state_of, decision_of, Lent, lent, settled}
-use Rattle.steps.proofs.StepLaws.{carries, step_unruled, step_ruled, step_unmoved, data_short, step_told}
-use Rattle.messages.specs.declared.Parsed.{Parsed}
-use Rattle.messages.specs.declared.Parsed.TheVariants.{Refused, Asked}
+use Rattle.steps.specs.Promises.{state_of, decision_of, moved_to, Lent, lent, settled}
+use Rattle.steps.proofs.StepLaws.{carries, step_refused, step_unruled, step_ruled, step_unmoved, data_short, step_told}
 use Rattle.messages.specs.declared.Next.{Next}
 use Rattle.messages.specs.declared.Next.TheVariants.{Message, Cut, End}
 use Rattle.messages.specs.declared.Answered.{Answered}
 use Rattle.messages.specs.Messages.{write_bytes}
-use Rattle.messages.specs.Replies.{reply, reply_in, is_refusal}
+use Rattle.messages.specs.Replies.{reply_in, is_refusal}
 use Rattle.messages.specs.Run.{Sent, asked, bytes_of, respond, answer, left_by}
 use Rattle.messages.specs.Promises.{sent_by, Replied}
-use Rattle.messages.specs.Private.{message_bytes, asked_at, unless_known, early, replied_with}
+use Rattle.messages.specs.Private.{message_bytes, asked_at, unless_known, early, and_then, RoomFor, replied_by, refused_then, laid_then, data_len, reply_len, moves_then, settled_then}
 use Rattle.messages.proofs.ParseLaws.{Known, bad, asked_known}
 use Rattle.messages.proofs.ReplyLaws.{part_long, carried_reply, reply_length}
 
@@ -35,72 +35,15 @@ use Rattle.messages.proofs.ReplyLaws.{part_long, carried_reply, reply_length}
 abbrev pub rules_of : State → ℕ
 rules_of s = rules_number s.tables (length s.fast) (length s.slow)
 
--- ---- a message's own number, and the early one
+-- ---- a message's own number
 
 -- its own bytes give no number 0
-asked_some : (x : Sent) (n : ℕ) → asked x ≡ Refused n → n ≡ accepted → ⊥
+asked_some : (x : Sent) (n : ℕ) → asked x ≡ refuse n → n ≡ accepted → ⊥
 asked_some x n e z = go (asked x) (asked_known x) e
   where
-    go : (m : Parsed) → Known m → m ≡ Refused n → ⊥
-    go (Refused k) (bad some few) e = let w : k ≡ n = cc in omega arith
-    go (Asked c) k e = let w : ◌≡◌ {A = ℕ} 0 1 = cc in omega arith
-
-module _ (room : ℕ) (s : State) (x : Sent) (known : ℕ) where
-  -- no early number is 0
-  early_some : (n : ℕ) → early (asked x) known room ≡ Refused n → n ≡ accepted → ⊥
-  early_some n = by (ltb room 70) (asked x) refl
-    where
-      by : (b : Bool) (m : Parsed) → asked x ≡ m → cond b (Refused short_buffer) (unless_known known m) ≡ Refused n
-          → n ≡ accepted → ⊥
-      by true m f e z = let w : short_buffer ≡ n = cc in omega arith
-      by false (Refused k) f e z = let w : k ≡ n = cc in asked_some x k f (w ∙ z)
-      by false (Asked c) f e z = on (eqb known accepted) refl e
-        where
-          on : (b : Bool) → eqb known accepted ≡ b → cond b (Asked c) (Refused known) ≡ Refused n → ⊥
-          on true g h = let w : ◌≡◌ {A = ℕ} 0 1 = cc in omega arith
-          on false g h = let w : known ≡ n = cc in eqb-false known accepted g (w ∙ z)
-
-  -- a message that is turned back early gets that number
-  early_refused : ((known ≡ accepted → ⊥) → rules_of s ≡ known) → (n : ℕ) → early (asked x) known room ≡ Refused n
-      → answer room s x ≡ refuse n
-  unfolding answer
-  early_refused rules n = by (ltb room 70) (asked x)
-    where
-      by : (b : Bool) (m : Parsed) → cond b (Refused short_buffer) (unless_known known m) ≡ Refused n
-          → test b short_buffer (respond s m (bytes_of x)) ≡ refuse n
-      by true m e = let w : short_buffer ≡ n = cc in ap refuse w
-      by false (Refused k) e = let w : k ≡ n = cc in ap refuse w
-      by false (Asked c) e = on (eqb known accepted) refl e
-        where
-          on : (b : Bool) → eqb known accepted ≡ b → cond b (Asked c) (Refused known) ≡ Refused n
-              → step s c (bytes_of x) ≡ refuse n
-          on true g h = let w : ◌≡◌ {A = ℕ} 0 1 = cc in absurd (omega arith)
-          on false g h =
-              let some = eqb-false known accepted g in
-              let w : known ≡ n = cc in
-              step_unruled s c (bytes_of x) known (rules some) some ∙ ap refuse w
-
-  -- any other is a step
-  record Passed (c : Call) : Type 0 where
-    roomy : 70 ≤ room
-    unknown : known ≡ accepted
-    is_step : answer room s x ≡ step s c (bytes_of x)
-
-  passed : (c : Call) → early (asked x) known room ≡ Asked c → Passed c
-  unfolding answer
-  passed c = by (ltb room 70) refl (asked x) refl
-    where
-      by : (b : Bool) → ltb room 70 ≡ b → (m : Parsed) → asked x ≡ m
-          → cond b (Refused short_buffer) (unless_known known m) ≡ Asked c → Passed c
-      by true e m f h = let w : ◌≡◌ {A = ℕ} 0 1 = cc in absurd (omega arith)
-      by false e (Refused n) f h = let w : ◌≡◌ {A = ℕ} 0 1 = cc in absurd (omega arith)
-      by false e (Asked c') f h = on (eqb known accepted) refl h
-        where
-          on : (b : Bool) → eqb known accepted ≡ b → cond b (Asked c') (Refused known) ≡ Asked c → Passed c
-          on true g h =
-              let w : c' ≡ c = cc in
-              record { roomy = ltb-false room 70 e; unknown = eqb-true known accepted g; is_step = rw (e, f, w) }
-          on false g h = let w : ◌≡◌ {A = ℕ} 0 1 = cc in absurd (omega arith)
+    go : (m : Outcome Call) → Known m → m ≡ refuse n → ⊥
+    go (refuse k) (bad some few) e = let w : k ≡ n = cc in omega arith
+    go (accept c) k e = let w : ◌≡◌ {A = ℕ} 0 1 = cc in omega arith
 
 -- a refusal is told by its number
 pub answer_told : (room : ℕ) (s : State) (x : Sent) → is_refusal (answer room s x) ≡ not (eqb (number_of (answer room s x)) 0)
@@ -111,99 +54,140 @@ answer_told room s x = by (ltb room 70) (asked x) refl
     go (refuse n) h = rw (ne_eqb n 0 (h n refl))
     go (accept r) h = refl
 
-    by : (b : Bool) (m : Parsed) → asked x ≡ m
+    by : (b : Bool) (m : Outcome Call) → asked x ≡ m
         → is_refusal (test b short_buffer (respond s m (bytes_of x))) ≡ not (eqb (number_of (test b short_buffer (respond s m (bytes_of x)))) 0)
     by true m e = refl
-    by false (Refused n) e = rw (ne_eqb n 0 (asked_some x n e))
-    by false (Asked c) e = go (step s c (bytes_of x)) (step_told s c (bytes_of x))
+    by false (refuse n) e = rw (ne_eqb n 0 (asked_some x n e))
+    by false (accept c) e = go (step s c (bytes_of x)) (step_told s c (bytes_of x))
 
 -- ---- what a message leaves
 
--- on state s, a message that comes to o: its number, whether the tables moved, the bytes laid, the length of its data,
--- the state and the buffer
-pub record Served (s : State) (o : Outcome Result) (out : List ℕ) (number : ℕ) (moved : Bool) (laid len : ℕ) (s' : State) (out' : List ℕ) : Type 0 where
-  pub number_is : number ≡ number_of o
-  pub moved_is : moved ≡ moved_by o
-  pub laid_is : laid ≡ laid_by o
-  pub len_is : len ≡ length (data_of o)
+-- on state s, of a message that comes to o and was decided to be d, with a write's bytes bs and a buffer: what the code
+-- reads of d
+pub record Decided (s : State) (o : Outcome Result) (out bs : List ℕ) (d : Outcome Decision) : Type 0 where
+  pub room : RoomFor out d
+  pub number_is : number_of d ≡ number_of o
+  pub refused_is : refused_then d ≡ is_refusal o
+  pub laid_is : laid_then d ≡ laid_by o
+  pub len_is : data_len d ≡ length (data_of o)
+  pub moved_is : moves_then d ≡ moved_by o
+  pub tables_is : settled_then s.tables d ≡ (left s o).tables
+  pub left_is : replied_by d bs (lent s.fast s.slow out)
+      ≡ lent (left s o).fast (left s o).slow (over (reply_in (length out) o) out)
+
+-- turned back
+back : (s : State) (out bs : List ℕ) (n : ℕ) → Decided s (refuse n) out bs (refuse n)
+back s out bs n =
+    record {
+      room = tt;
+      number_is = refl;
+      refused_is = refl;
+      laid_is = refl;
+      len_is = refl;
+      moved_is = refl;
+      tables_is = refl;
+      left_is = refl;
+    }
+
+is_accepted : (o : Outcome Result) → ((n : ℕ) → o ≡ refuse n → n ≡ accepted → ⊥) → number_of o ≡ accepted → false ≡ is_refusal o
+is_accepted (refuse n) some e = absurd (some n refl e)
+is_accepted (accept r) some e = refl
+
+-- a step
+stepping : (s : State) (c : Call) (out bs : List ℕ) → 70 ≤ length out → (d : Outcome Decision)
+    → d ≡ decision_of s.tables c (decide_any s.tables (length s.fast) (length s.slow) c (length bs)) → Decided s (step s c bs) out bs d
+stepping s c out bs roomy (refuse n) e = rw (step_refused s c bs e) (back s out bs n)
+stepping s c out bs roomy (accept d) e =
+    let k = carries s c bs (part out 6 64) d (omega (arith, part_long out roomy)) e in
+    record {
+      room = record { room = roomy; few = rw k.len_is (data_short s c bs) };
+      number_is = sym k.accepted_is;
+      refused_is = is_accepted (step s c bs) (step_told s c bs) k.accepted_is;
+      laid_is = k.laid_is;
+      len_is = k.len_is;
+      moved_is = k.moved_is;
+      tables_is = k.tables_is;
+      left_is = rw (le-ltb (length out) 70 roomy) (carried_reply s c bs out d roomy k);
+    }
+
+-- a message, of which `known` is what the rules were found to give, and f decides its call
+pub decided : (s : State) (x : Sent) (out bs : List ℕ) (known : ℕ) (f : Call → Outcome Decision) → bs ≡ bytes_of x
+    → ((known ≡ accepted → ⊥) → rules_of s ≡ known)
+    → (known ≡ accepted → (c : Call)
+    → f c ≡ decision_of s.tables c (decide_any s.tables (length s.fast) (length s.slow) c (length bs)))
+    → (d : Outcome Decision) → d ≡ and_then (early (asked x) known (length out)) f
+    → Decided s (answer (length out) s x) out bs d
+unfolding answer
+decided s x out bs known f eb rules decides d e = rw e (by (ltb (length out) 70) refl (asked x))
+  where
+    by : (b : Bool) → ltb (length out) 70 ≡ b → (m : Outcome Call)
+        → Decided s (test b short_buffer (respond s m (bytes_of x))) out bs (and_then (cond b (refuse short_buffer) (unless_known known m)) f)
+    by true e m = back s out bs short_buffer
+    by false e (refuse n) = back s out bs n
+    by false e (accept c) = on (eqb known accepted) refl
+      where
+        on : (b : Bool) → eqb known accepted ≡ b
+            → Decided s (step s c (bytes_of x)) out bs (and_then (cond b (accept c) (refuse known)) f)
+        on true g = rw (← eb) (stepping s c out bs (ltb-false (length out) 70 e) (f c) (decides (eqb-true known accepted g) c))
+        on false g =
+            let some = eqb-false known accepted g in
+            rw (step_unruled s c (bytes_of x) known (rules some) some) (back s out bs known)
+
+-- what is known where the code has carried it out and put its change into the tables
+pub record Served (s : State) (o : Outcome Result) (out : List ℕ) (s' : State) (out' : List ℕ) : Type 0 where
   pub state_out : s' ≡ left s o
   pub reply_out : out' ≡ over (reply_in (length out) o) out
 
--- where d is its decision: room for the reply, and what it leaves carried out
-pub record Decided (s : State) (x : Sent) (out bs : List ℕ) (d : Decision) : Type 0 where
-  pub roomy : 70 ≤ length out
-  pub few : d.len ≤ 64
-  pub served : (t' : Tables) (fast' slow' out' : List ℕ) → t' ≡ settled s.tables d
-      → lent fast' slow' out' ≡ replied_with d bs (lent s.fast s.slow out)
-      → Served s (answer (length out) s x) out d.number d.moved d.laid d.len (state_of t' fast' slow') out'
+pub served : {s : State} {o : Outcome Result} {out bs : List ℕ} {d : Outcome Decision} → Decided s o out bs d
+    → {t' : Tables} {fast' slow' out' : List ℕ} → t' ≡ settled_then s.tables d
+    → lent fast' slow' out' ≡ replied_by d bs (lent s.fast s.slow out) → Served s o out (state_of t' fast' slow') out'
+served {s} {o} {out} q {t'} {fast'} {slow'} {out'} et el =
+    let e : lent fast' slow' out' ≡ lent (left s o).fast (left s o).slow (over (reply_in (length out) o) out) = el ∙ q.left_is in
+    record {
+      state_out =
+          ap (λ (l : Lent). state_of t' l.fast l.slow) e
+          ∙ ap (λ (t : Tables). state_of t (left s o).fast (left s o).slow) (et ∙ q.tables_is);
+      reply_out = ap (λ (l : Lent). l.out) e;
+    }
 
--- the message that was parsed to m, of which p is left to ask for
-module _ (s : State) (x : Sent) (m p : Parsed) (known : ℕ) (out : List ℕ) (em : m ≡ asked x)
-    (ep : p ≡ early m known (length out)) where
-  is_early : p ≡ early (asked x) known (length out)
-  is_early = rw em at ep
+-- the length of its reply
+pub reply_long : {s : State} {o : Outcome Result} {out bs : List ℕ} {d : Outcome Decision} → Decided s o out bs d
+    → reply_len (length out) d ≡ length (reply_in (length out) o)
+reply_long {s} {o} {out} q = rw q.len_is (reply_length (length out) o)
 
-  -- turned back early
-  pub served_early : (n : ℕ) (out' : List ℕ) → p ≡ Refused n → ((known ≡ accepted → ⊥) → rules_of s ≡ known)
-      → out' ≡ over (reply_in (length out) (refuse n)) out
-      → Served s (answer (length out) s x) out n false 0 0 s out'
-  served_early n out' e rules f =
-      let is = early_refused (length out) s x known rules n (sym is_early ∙ e) in
-      rw is (record { number_is = refl; moved_is = refl; laid_is = refl; len_is = refl; state_out = refl; reply_out = f })
+-- the data has 64 bytes at the most
+pub data_few : (out : List ℕ) (d : Outcome Decision) → RoomFor out d → data_len d ≤ 64
+data_few out (refuse n) k = zero-le
+data_few out (accept d) k = k.few
 
-  -- with a number that is not 0
-  pub some_number : (n : ℕ) → p ≡ Refused n → n ≡ accepted → ⊥
-  some_number n e = early_some (length out) s x known n (sym is_early ∙ e)
-
-  -- decided on
-  pub decided : (c : Call) (bs : List ℕ) (d : Decision) → p ≡ Asked c → bs ≡ bytes_of x
-      → (known ≡ accepted
-      → d ≡ decision_of s.tables c (decide_any s.tables (length s.fast) (length s.slow) c (length bs)))
-      → Decided s x out bs d
-  decided c bs d e eb q =
-      let p = passed (length out) s x known c (sym is_early ∙ e) in
-      let o = step s c bs in
-      let is : answer (length out) s x ≡ o = p.is_step ∙ rw eb in
-      let k = carries s c bs (part out 6 64) d (omega (arith, part_long out p.roomy)) (q p.unknown) in
-      record {
-        roomy = p.roomy;
-        few = rw k.len_is (data_short s c bs);
-        served = λ t' fast' slow' out' et el.
-            let e : lent fast' slow' out' ≡ lent (left s o).fast (left s o).slow (over (reply o) out) = el ∙ carried_reply s c bs out d p.roomy k in
-            rw is
-            (record {
-              number_is = k.number_is;
-              moved_is = k.moved_is;
-              laid_is = k.laid_is;
-              len_is = k.len_is;
-              state_out =
-                  ap (λ (l : Lent). state_of t' l.fast l.slow) e
-                  ∙ ap (λ (t : Tables). state_of t (left s o).fast (left s o).slow) (et ∙ k.tables_is);
-              reply_out = rw (le-ltb (length out) 70 p.roomy) (ap (λ (l : Lent). l.out) e);
-            });
-      }
-
--- a decision that does not move the tables leaves them
-pub unsettled : (t : Tables) (d : Decision) → d.moved ≡ false → t ≡ settled t d
-unsettled t d e = rw e
+-- no change leaves the tables
+pub unsettled : (t : Tables) (d : Decision) → is_some d.change ≡ false → t ≡ settled t d
+unsettled t d e = by d.change e
+  where
+    by : (change : Option Change) → is_some change ≡ false → t ≡ moved_to t change
+    by None e = refl
+    by (Some x) e = cc
 
 -- what `answer` promises
-pub replied : (s : State) (o : Outcome Result) (out out' : List ℕ) (s' : State) (len : ℕ) (moved : Bool) (r : Answered)
-    → Served s o out r.number moved r.laid len s' out' → r.moved ≡ moved → r.len ≡ cond (ltb (length out) 70) 0 (6 + len)
-    → Replied s o out s' out' r
-replied s o out out' s' len moved r q m e =
+pub replied : {s : State} {o : Outcome Result} {out bs : List ℕ} {d : Outcome Decision} → Decided s o out bs d
+    → {t' : Tables} {fast' slow' out' : List ℕ} → (r : Answered) → t' ≡ settled_then s.tables d
+    → lent fast' slow' out' ≡ replied_by d bs (lent s.fast s.slow out)
+    → answer_number r.answer ≡ number_of d → r.len ≡ reply_len (length out) d → r.laid ≡ laid_then d → r.moved ≡ moves_then d
+    → Replied s o out (state_of t' fast' slow') out' r
+replied q r et el en em ei ev =
+    let w = served q et el in
     record {
-      number_told = q.number_is;
-      len_told = e ∙ rw q.len_is (reply_length (length out) o);
-      laid_told = q.laid_is;
-      state_out = q.state_out;
-      reply_out = q.reply_out;
-      moved_told = m ∙ q.moved_is;
+      number_told = en ∙ q.number_is;
+      len_told = em ∙ reply_long q;
+      laid_told = ei ∙ q.laid_is;
+      state_out = w.state_out;
+      reply_out = w.reply_out;
+      moved_told = ev ∙ q.moved_is;
     }
 
 -- ---- the message that the reader yields, as the code comes to it
 
-pub asked_by : (l m : List ℕ) (next : Next) (p : Parsed) → m ≡ message_bytes l next → p ≡ asked_at next m → p ≡ asked (sent_by l next)
+pub asked_by : (l m : List ℕ) (next : Next) (p : Outcome Call) → m ≡ message_bytes l next → p ≡ asked_at next m → p ≡ asked (sent_by l next)
 asked_by l m next p f g = g ∙ rw f (by next)
   where
     by : (x : Next) → asked_at x (message_bytes l x) ≡ asked (sent_by l x)
@@ -230,10 +214,10 @@ rules_kept room s x = by (ltb room 70) (asked x)
     go c true e = let k = eqb-true (rules_of s) 0 e in step_ruled s c (bytes_of x) k ∙ sym k
     go c false e = ap (λ (o : Outcome Result). rules_of (left s o)) (step_unruled s c (bytes_of x) (rules_of s) refl (eqb-false (rules_of s) 0 e))
 
-    by : (b : Bool) (m : Parsed) → rules_of (left s (test b short_buffer (respond s m (bytes_of x)))) ≡ rules_of s
+    by : (b : Bool) (m : Outcome Call) → rules_of (left s (test b short_buffer (respond s m (bytes_of x)))) ≡ rules_of s
     by true m = refl
-    by false (Refused n) = refl
-    by false (Asked c) = go c (eqb (rules_of s) 0) refl
+    by false (refuse n) = refl
+    by false (accept c) = go c (eqb (rules_of s) 0) refl
 
 -- ---- the tables
 
@@ -242,11 +226,11 @@ pub unmoved : (room : ℕ) (s : State) (x : Sent) → moved_by (answer room s x)
 unfolding answer
 unmoved room s x = by (ltb room 70) (asked x)
   where
-    by : (b : Bool) (m : Parsed)
+    by : (b : Bool) (m : Outcome Call)
         → moved_by (test b short_buffer (respond s m (bytes_of x))) ≡ false → (left s (test b short_buffer (respond s m (bytes_of x)))).tables ≡ s.tables
     by true m e = refl
-    by false (Refused n) e = refl
-    by false (Asked c) e = step_unmoved s c (bytes_of x) e
+    by false (refuse n) e = refl
+    by false (accept c) e = step_unmoved s c (bytes_of x) e
 
 -- ---- a reply has 70 bytes at the most
 
@@ -257,10 +241,10 @@ reply_short room s x =
     let few = by (ltb room 70) (asked x) in
     rw (← k) (under (ltb room 70) few)
   where
-    by : (b : Bool) (m : Parsed) → length (data_of (test b short_buffer (respond s m (bytes_of x)))) ≤ 64
+    by : (b : Bool) (m : Outcome Call) → length (data_of (test b short_buffer (respond s m (bytes_of x)))) ≤ 64
     by true m = zero-le
-    by false (Refused n) = zero-le
-    by false (Asked c) = data_short s c (bytes_of x)
+    by false (refuse n) = zero-le
+    by false (accept c) = data_short s c (bytes_of x)
 
     under : (b : Bool) {n : ℕ} → n ≤ 64 → cond b 0 (6 + n) ≤ 70
     under true h = zero-le

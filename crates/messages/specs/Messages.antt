@@ -2,8 +2,9 @@
 use Rattle.std.specs.Prelude.{ℕ, ◌+◌, Bool, not, ◌||◌, cond, List, length, drop, get_or, leb, ltb, eqb}
 use Rattle.tables.specs.Numbers.{foreign_version, unknown_kind, wrong_length}
 use Rattle.steps.specs.Kinds.{is_unknown, kind_of, least_length, most_length, call_of}
-use Rattle.messages.specs.declared.Parsed.{Parsed}
-use Rattle.messages.specs.declared.Parsed.TheVariants.{Refused, Asked}
+use Rattle.steps.specs.Steps.{Outcome, refuse, accept}
+use Rattle.steps.specs.declared.Kind.{Kind}
+use Rattle.steps.specs.declared.Call.{Call}
 use Rattle.messages.specs.declared.Next.{Next}
 use Rattle.messages.specs.declared.Next.TheVariants.{Message, Cut, End}
 use Rattle.messages.specs.Replies.{be16_at}
@@ -11,21 +12,24 @@ use Rattle.messages.specs.Replies.{be16_at}
 -- ---- a message m: the L bytes after its length
 
 -- 4: "L not as listed for the kind"; else the call: "then the arguments in the order above"
-abbrev pub parse_kind : ℕ → List ℕ → Parsed
-parse_kind kind m =
-    cond (ltb (length m) (least_length (kind_of kind)) || ltb (most_length (kind_of kind)) (length m))
-    (Refused wrong_length)
-    (Asked (call_of (kind_of kind) (drop 2 m)))
+abbrev pub parse_as : Kind → List ℕ → Outcome Call
+parse_as kind m =
+    cond (ltb (length m) (least_length kind) || ltb (most_length kind) (length m))
+    (refuse wrong_length)
+    (accept (call_of kind (drop 2 m)))
+
+abbrev pub parse_kind : ℕ → List ℕ → Outcome Call
+parse_kind kind m = parse_as (kind_of kind) m
 
 -- 2: "L is 0, or version not 1"
 abbrev pub is_foreign : List ℕ → Bool
 is_foreign m = eqb (length m) 0 || not (eqb (get_or m 0 0) 1)
 
 -- "a version byte 1, a kind byte .. as numbered above"; 3: L is 1, or the kind is unknown
-unfoldable pub parse : List ℕ → Parsed
+unfoldable pub parse : List ℕ → Outcome Call
 parse m =
-    cond (is_foreign m) (Refused foreign_version)
-    (cond (eqb (length m) 1 || is_unknown (get_or m 1 0)) (Refused unknown_kind)
+    cond (is_foreign m) (refuse foreign_version)
+    (cond (eqb (length m) 1 || is_unknown (get_or m 1 0)) (refuse unknown_kind)
     (parse_kind (get_or m 1 0) m))
 
 -- "write ends with 1 to 64 bytes", after the version, the kind and three arguments

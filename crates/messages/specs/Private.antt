@@ -1,16 +1,15 @@
 -- What the private functions of this layer ask of each other and promise. For the proofs alone: no exported contract
 -- names it.
-use Rattle.std.specs.Prelude.{ℕ, ◌+◌, ◌≤◌, ◌≡◌, Bool, true, false, ◌||◌, cond, List, [], ◌∷◌, ◌++◌, length, drop, ltb, eqb}
+use Rattle.std.specs.Prelude.{ℕ, ◌+◌, ◌≤◌, ◌≡◌, Bool, true, false, ◌||◌, cond, is_some, List, [], ◌∷◌, ◌++◌, length, drop, ltb, eqb}
 use Rattle.tables.specs.declared.Tables.{Tables}
 use Rattle.tables.specs.Numbers.{accepted, cut_short, short_buffer}
 use Rattle.tables.specs.Rules.{frames_held, sound}
 use Rattle.steps.specs.declared.Decision.{Decision}
-use Rattle.steps.specs.Stores.{part, splice}
-use Rattle.steps.specs.Steps.{Outcome}
+use Rattle.steps.specs.Stores.{part, over, splice}
+use Rattle.steps.specs.Steps.{Outcome, refuse, accept, decide, decide_any}
 use Rattle.steps.specs.Effects.{State, Result, left, moved_by, laid_by}
-use Rattle.steps.specs.Promises.{Lent, lent, carried}
-use Rattle.messages.specs.declared.Parsed.{Parsed}
-use Rattle.messages.specs.declared.Parsed.TheVariants.{Refused, Asked}
+use Rattle.steps.specs.Promises.{decision_of, Lent, lent, carried, settled}
+use Rattle.steps.specs.declared.Call.{Call}
 use Rattle.messages.specs.declared.Next.{Next}
 use Rattle.messages.specs.declared.Next.TheVariants.{Message, Cut, End}
 use Rattle.messages.specs.declared.Tally.{Tally}
@@ -50,20 +49,33 @@ message_bytes l Cut = []
 message_bytes l End = []
 
 -- what a message m at which the reader stood asks for
-abbrev pub asked_at : Next → List ℕ → Parsed
+abbrev pub asked_at : Next → List ℕ → Outcome Call
 asked_at (Message start len next) m = parse m
-asked_at Cut m = Refused cut_short
-asked_at End m = Refused cut_short
+asked_at Cut m = refuse cut_short
+asked_at End m = refuse cut_short
 
 -- a refusal as it is, and a call turned back with `known`, unless that is 0
-abbrev pub unless_known : ℕ → Parsed → Parsed
-unless_known known (Refused n) = Refused n
-unless_known known (Asked c) = cond (eqb known accepted) (Asked c) (Refused known)
+abbrev pub unless_known : ℕ → Outcome Call → Outcome Call
+unless_known known (refuse n) = refuse n
+unless_known known (accept c) = cond (eqb known accepted) (accept c) (refuse known)
+
+-- turned back, or what f makes of its call
+abbrev pub and_then : Outcome Call → (Call → Outcome Decision) → Outcome Decision
+and_then (refuse n) f = refuse n
+and_then (accept c) f = f c
+
+-- a message that asks for m, with `size` bytes of a write, decided on sound tables with stores that fit
+abbrev pub decided_on : Tables → ℕ → Outcome Call → Outcome Decision
+decided_on t size m = and_then m (λ (c : Call). decision_of t c (decide t c size))
+
+-- and on any tables, with stores of any lengths
+abbrev pub decided_any : Tables → ℕ → ℕ → ℕ → Outcome Call → Outcome Decision
+decided_any t fast slow size m = and_then m (λ (c : Call). decision_of t c (decide_any t fast slow c size))
 
 -- the first of these that turns a message back, and else its call, with a reply buffer of `room` bytes: 18; the
 -- message's own 1 to 4; `known`, which is 5, 6 or 0
-abbrev pub early : Parsed → ℕ → ℕ → Parsed
-early m known room = cond (ltb room 70) (Refused short_buffer) (unless_known known m)
+abbrev pub early : Outcome Call → ℕ → ℕ → Outcome Call
+early m known room = cond (ltb room 70) (refuse short_buffer) (unless_known known m)
 
 -- ---- replies
 
@@ -91,8 +103,47 @@ replied_with d bs l =
     record {
       fast = (carried d bs (data_part l)).fast;
       slow = (carried d bs (data_part l)).slow;
-      out = heading d.number d.laid d.len ++ ((carried d bs (data_part l)).out ++ drop 70 l.out);
+      out = heading accepted d.laid d.len ++ ((carried d bs (data_part l)).out ++ drop 70 l.out);
     }
+
+-- ---- what a message was decided to be: turned back, or a decision
+
+-- a buffer with room for the reply, where there is a decision
+abbrev pub RoomFor : List ℕ → Outcome Decision → Type 0
+RoomFor out (refuse n) = Unit {0}
+RoomFor out (accept d) = ReplyRoom out d.len
+
+-- what was decided, carried out and replied
+abbrev pub replied_by : Outcome Decision → List ℕ → Lent → Lent
+replied_by (refuse n) bs l = lent l.fast l.slow (over (reply_in (length l.out) (refuse n)) l.out)
+replied_by (accept d) bs l = replied_with d bs l
+
+-- whether it was turned back
+abbrev pub refused_then : Outcome Decision → Bool
+refused_then (refuse n) = true
+refused_then (accept d) = false
+
+-- the bytes laid, and the length of the data
+abbrev pub laid_then : Outcome Decision → ℕ
+laid_then (refuse n) = 0
+laid_then (accept d) = d.laid
+
+abbrev pub data_len : Outcome Decision → ℕ
+data_len (refuse n) = 0
+data_len (accept d) = d.len
+
+-- the length of the reply, into a buffer of `room` bytes
+abbrev pub reply_len : ℕ → Outcome Decision → ℕ
+reply_len room o = cond (ltb room 70) 0 (6 + data_len o)
+
+-- whether it moves the tables, and the tables after it
+abbrev pub moves_then : Outcome Decision → Bool
+moves_then (refuse n) = false
+moves_then (accept d) = is_some d.change
+
+abbrev pub settled_then : Tables → Outcome Decision → Tables
+settled_then t (refuse n) = t
+settled_then t (accept d) = settled t d
 
 -- ---- the forecast
 

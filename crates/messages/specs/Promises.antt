@@ -1,5 +1,6 @@
 -- What the functions that this layer exports promise.
 use Rattle.std.specs.Prelude.{ℕ, ◌≤◌, ◌≡◌, List, [], ◌∷◌, ◌++◌, length, take, drop}
+use Rattle.tables.specs.Numbers.{answer_number}
 use Rattle.steps.specs.Stores.{part, over}
 use Rattle.steps.specs.Steps.{Outcome, number_of}
 use Rattle.steps.specs.Effects.{State, Result, left, moved_by, laid_by}
@@ -33,7 +34,7 @@ sent_alone l = sent_by l (next_at l 0)
 -- Where the tables did not move they are the same (`unmoved`), and whoever holds them elsewhere need not put them back.
 pub record Replied (s : State) (o : Outcome Result) (out : List ℕ) (s' : State) (out' : List ℕ)
     (r : Answered) : Type 0 where
-  pub number_told : r.number ≡ number_of o
+  pub number_told : answer_number r.answer ≡ number_of o
   pub len_told : r.len ≡ length (reply_in (length out) o)
   pub laid_told : r.laid ≡ laid_by o
   pub state_out : s' ≡ left s o

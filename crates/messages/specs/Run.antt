@@ -3,10 +3,9 @@ use Rattle.std.specs.Prelude.{ℕ, zero, suc, ◌+◌, ◌-◌, ◌*◌, Bool, f
 use mathlib.Core.List.{List, [], ◌∷◌, map, flatten}
 use Rattle.tables.specs.Numbers.{cut_short, short_buffer}
 use Rattle.steps.specs.Stores.{part, over}
-use Rattle.steps.specs.Steps.{Outcome, refuse, test}
+use Rattle.steps.specs.Steps.{Outcome, refuse, accept, test}
 use Rattle.steps.specs.Effects.{State, Result, step, left, moved_by, laid_by}
-use Rattle.messages.specs.declared.Parsed.{Parsed}
-use Rattle.messages.specs.declared.Parsed.TheVariants.{Refused, Asked}
+use Rattle.steps.specs.declared.Call.{Call}
 use Rattle.messages.specs.declared.Next.{Next}
 use Rattle.messages.specs.declared.Next.TheVariants.{Message, Cut, End}
 use Rattle.messages.specs.declared.Tally.{Tally}
@@ -19,18 +18,18 @@ pub data Sent : Type 0 where
   whole : List ℕ → Sent
 
 -- what a message asks for by its own bytes
-abbrev pub asked : Sent → Parsed
-asked cut = Refused cut_short
+abbrev pub asked : Sent → Outcome Call
+asked cut = refuse cut_short
 asked (whole m) = parse m
 
 abbrev pub bytes_of : Sent → List ℕ
 bytes_of cut = []
 bytes_of (whole m) = write_bytes m
 
--- what `Parsed` says, case by case: a message's own number, or its call, which is a step
-abbrev pub respond : State → Parsed → List ℕ → Outcome Result
-respond s (Refused n) bs = refuse n
-respond s (Asked c) bs = step s c bs
+-- what a message asks for, case by case: its own number, or its call, which is a step
+abbrev pub respond : State → Outcome Call → List ℕ → Outcome Result
+respond s (refuse n) bs = refuse n
+respond s (accept c) bs = step s c bs
 
 -- One message, with a reply buffer of `room` bytes: 18, 1, 2, 3, 4, and then the step.
 unfoldable pub answer : ℕ → State → Sent → Outcome Result

@@ -11,36 +11,16 @@ mod turns;
 
 pub use forecasts::forecast;
 pub use reading::{message_at, next_at, next_message, open};
-use steps::Call;
-use tables::Tables;
+use tables::{Refusal, Tables};
 pub use tallies::{count, tally_after};
 pub use turns::{answer, fill, run};
-
-// The numbers of document 01's table that a message's own bytes give.
-pub const CUT_SHORT: u8 = 1;
-
-pub const FOREIGN_VERSION: u8 = 2;
-
-pub const UNKNOWN_KIND: u8 = 3;
-
-pub const WRONG_LENGTH: u8 = 4;
-
-// The number of a message whose reply buffer is below 70 bytes.
-pub const SHORT_BUFFER: u8 = 18;
 
 // How many numbers a forecast counts messages under: 0 to 31, of which the papers name 0 to 27.
 pub const NUMBERS: usize = 32;
 
-// What a message's own bytes come to: a number that turns it back, 1 to 4, or a call.
-#[derive(Clone, Copy)]
-pub enum Parsed {
-    Refused { number: u8 },
-    Asked { call: Call },
-}
-
 // What the reader yields at a place of the file: a message, with the place of its first byte after
 // the length, its length and the place past it; a message that is cut short; or the end.
-#[derive(Clone, Copy)]
+#[derive(Clone, Copy, Debug, PartialEq, Eq)]
 pub enum Next {
     Message {
         start: usize,
@@ -59,30 +39,29 @@ pub struct Reader<'a> {
 }
 
 // Messages, refusals and bytes laid; each stops at 4294967295.
-#[derive(Clone, Copy)]
+#[derive(Clone, Copy, Debug, PartialEq, Eq)]
 pub struct Tally {
     pub messages: u32,
     pub refusals: u32,
     pub laid: u32,
 }
 
-// What is forecast of a call file: 0, or 5 for broken tables; the most frames held at the start or after any message;
-// the bytes laid in all; and for each number how many messages get it. The bytes laid and each count stop at
-// 4294967295; the most frames held is never above 254.
+// What is forecast of a call file: the most frames held at the start or after any message; the bytes laid in all; and
+// for each number how many messages get it. The bytes laid and each count stop at 4294967295; the most frames held is
+// never above 254.
 #[derive(Clone, Copy)]
 pub struct Figures {
-    pub number: u8,
     pub most: u8,
     pub laid: u32,
     pub counts: [u32; NUMBERS],
 }
 
-// What a message comes to: its number, the length of its reply, the bytes laid, the tables, and whether it moved them;
+// What a message comes to: its answer, the length of its reply, the bytes laid, the tables, and whether it moved them;
 // where it did not they are as they were. Here and below `tables` stands before `moved`: a byte before the tables would
 // be padded, at the price of one more copy of them.
 #[derive(Clone, Copy)]
 pub struct Answered {
-    pub number: u8,
+    pub answer: Result<(), Refusal>,
     pub len: usize,
     pub laid: u16,
     pub tables: Tables,

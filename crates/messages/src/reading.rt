@@ -1,31 +1,36 @@
 // The reader over a call file.
-ghost use Rattle.std.specs.Prelude.{◌≡◌};
+ghost use Rattle.std.specs.Prelude.{◌≡◌, drop};
 ghost use Rattle.messages.specs.Promises.{Yields};
 
 use crate::{Next, Reader};
+
+// The bytes from a place on; none past the end.
+pub(crate) fn bytes_from(bytes: &[u8], at: usize) -> &[u8]
+    ensures { result.now ≡ drop at bytes.now }
+{
+    bytes.get(at..).unwrap_or(&[])
+}
 
 // What stands at a place of the file.
 #[tactic(auto, using(crate::proofs::ReaderLaws::told_cut, crate::proofs::ReaderLaws::meant_cut))]
 pub fn next_at(file: &[u8], at: usize) -> Next
     ensures { Yields file.now at result }
 {
-    let end = file.len();
-    if at >= end {
-        return Next::End;
-    }
-    let left = end - at;
-    if left < 2 {
-        return Next::Cut;
-    }
-    let len = (file[at] as usize) * 256 + (file[at + 1] as usize);
-    if left - 2 < len {
-        return Next::Cut;
-    }
-    let start = at + 2;
-    Next::Message {
-        start: start,
-        len: len,
-        next: start + len,
+    match bytes_from(file, at) {
+        [] => Next::End,
+        [_] => Next::Cut,
+        [high, low, rest @ ..] => {
+            let len = u16::from_be_bytes([*high, *low]) as usize;
+            if rest.len() < len {
+                return Next::Cut;
+            }
+            let start = at + 2;
+            Next::Message {
+                start,
+                len,
+                next: start + len,
+            }
+        }
     }
 }
 

@@ -1,35 +1,35 @@
 // One message, and the run over a call file.
-ghost use Rattle.std.specs.Prelude.{◌≡◌, false, length, ◌+◌, ◌-◌, ◌<◌};
+ghost use Rattle.std.specs.Prelude.{◌≡◌, false, length, ◌+◌, ◌<◌};
+ghost use Rattle.tables.specs.Numbers.{answer_number};
+ghost use Rattle.steps.specs.Steps.{outcome_of};
 ghost use Rattle.steps.specs.Promises.{state_of};
 ghost use Rattle.messages.specs.Run.{answer, run, part_from};
 ghost use Rattle.messages.specs.Promises.{sent_alone, Replied, RunEnded, PartEnded};
-ghost use Rattle.messages.specs.Private.{due_at, is_end, past_of, FoundIn, message_bytes, asked_at, early, serving, ahead, ServeEnded};
+ghost use Rattle.messages.specs.Private.{due_at, is_end, past_of, FoundIn, message_bytes, asked_at, early, decided_on, decided_any, serving, ahead, ServeEnded};
 
 use crate::parse::{parse, write_bytes};
 use crate::reading::message_at;
-use crate::replies::{reply_decided, reply_length, reply_refusal};
-use crate::tallies::tally_after;
-use crate::{Answered, CUT_SHORT, Filled, Next, Parsed, Ran, SHORT_BUFFER, Tally};
-use steps::{ACCEPTED, decide, decide_any, rules, settle};
-use tables::Tables;
+use crate::replies::reply;
+use crate::tallies::count;
+use crate::{Answered, Filled, Next, Ran, Tally};
+use steps::{Call, Decision, decide, decide_any, rules, settle};
+use tables::{Refusal, Tables};
 
 // The first of these that turns a message back, and else its call: 18; its own 1 to 4; `known`, which in a run is the 5
-// or 6 of its tables and stores, and else 0 (`answer` leaves these to `decide_any`).
-fn early(parsed: Parsed, known: u8, room: usize) -> Parsed
-    ensures { result ≡ early parsed known room }
+// or 6 of its tables and stores (`answer` leaves these to `decide_any`).
+fn early(
+    parsed: Result<Call, Refusal>,
+    known: Result<(), Refusal>,
+    room: usize,
+) -> Result<Call, Refusal>
+    ensures { outcome_of result ≡ early (outcome_of parsed) (answer_number known) room }
 {
     if room < 70 {
-        return Parsed::Refused {
-            number: SHORT_BUFFER,
-        };
+        return Err(Refusal::ShortBuffer);
     }
-    if known == ACCEPTED {
-        return parsed;
-    }
-    match parsed {
-        Parsed::Refused { number } => Parsed::Refused { number },
-        Parsed::Asked { call: _ } => Parsed::Refused { number: known },
-    }
+    let call = parsed?;
+    known?;
+    Ok(call)
 }
 
 // The bytes after the length of the message that the reader yields; none where it is cut short.
@@ -45,14 +45,38 @@ pub(crate) fn bytes_in(file: &[u8], next: Next) -> &[u8]
 }
 
 // What it asks for: no bytes at all count as cut short.
-pub(crate) fn asked_in(next: Next, m: &[u8]) -> Parsed
-    ensures { result ≡ asked_at next m.now }
+pub(crate) fn asked_in(next: Next, m: &[u8]) -> Result<Call, Refusal>
+    ensures { outcome_of result ≡ asked_at next m.now }
 {
     match next {
         Next::Message { .. } => parse(m),
-        Next::Cut => Parsed::Refused { number: CUT_SHORT },
-        Next::End => Parsed::Refused { number: CUT_SHORT },
+        Next::Cut => Err(Refusal::CutShort),
+        Next::End => Err(Refusal::CutShort),
     }
+}
+
+// What a message that asks for this comes to on tables that keep the rules, with stores that fit.
+pub(crate) fn decide_asked(
+    tables: Tables,
+    asked: Result<Call, Refusal>,
+    size: usize,
+) -> Result<Decision, Refusal>
+    ensures { outcome_of result ≡ decided_on tables size (outcome_of asked) }
+{
+    decide(tables, asked?, size)
+}
+
+// What it comes to on any tables, with stores of any lengths.
+fn decide_asked_any(
+    tables: Tables,
+    asked: Result<Call, Refusal>,
+    size: usize,
+    fast_len: usize,
+    slow_len: usize,
+) -> Result<Decision, Refusal>
+    ensures { outcome_of result ≡ decided_any tables fast_len slow_len size (outcome_of asked) }
+{
+    decide_any(tables, asked?, size, fast_len, slow_len)
 }
 
 // One message, its length first, on any tables and stores and with any reply buffer.
@@ -70,48 +94,26 @@ pub fn answer(
 {
     let next = message_at(message, 0);
     let m = bytes_in(message, next);
-    let parsed = asked_in(next, m);
-    match early(parsed, ACCEPTED, out.len()) {
-        Parsed::Refused { number } => {
-            reply_refusal(out, number);
-            return Answered {
-                number,
-                len: reply_length(out.len(), 0),
-                laid: 0,
-                moved: false,
-                tables,
-            };
-        }
-        Parsed::Asked { call } => {
-            let bytes = write_bytes(m);
-            let d = decide_any(tables, call, bytes.len(), fast.len(), slow.len());
-            reply_decided(d, bytes, fast, slow, out);
-            if d.moved {
-                let left = settle(tables, d);
-                return Answered {
-                    number: d.number,
-                    len: 6 + d.len,
-                    laid: d.laid,
-                    moved: true,
-                    tables: left,
-                };
-            }
-            Answered {
-                number: d.number,
-                len: 6 + d.len,
-                laid: d.laid,
-                moved: false,
-                tables,
-            }
-        }
+    let bytes = write_bytes(m);
+    let asked = early(asked_in(next, m), Ok(()), out.len());
+    let decided = decide_asked_any(tables, asked, bytes.len(), fast.len(), slow.len());
+    let len = reply(decided, bytes, fast, slow, out);
+    match decided {
+        Ok(d) => Answered {
+            answer: Ok(()),
+            len,
+            laid: d.laid,
+            moved: d.change.is_some(),
+            tables: settle(tables, d),
+        },
+        Err(refusal) => Answered {
+            answer: Err(refusal),
+            len,
+            laid: 0,
+            moved: false,
+            tables,
+        },
     }
-}
-
-// The last place of a buffer at which a reply can begin.
-fn last_start(room: usize) -> usize
-    ensures { result ≡ room - 70 }
-{
-    if room < 70 { 0 } else { room - 70 }
 }
 
 // What is due at a place of the file: nothing more, as at the end, where the reply buffer is full.
@@ -127,11 +129,7 @@ fn due_at(file: &[u8], at: usize, full: bool) -> Next
 pub(crate) fn is_end(next: Next) -> bool
     ensures { result ≡ is_end next }
 {
-    match next {
-        Next::End => true,
-        Next::Cut => false,
-        Next::Message { .. } => false,
-    }
+    matches!(next, Next::End)
 }
 
 // The place past a message; one cut short ends the file.
@@ -171,9 +169,9 @@ fn serve(
         (state_of result.tables fast.new slow.new) out.new result }
 {
     let known = rules(tables, fast.len(), slow.len());
+    let last = out.len().saturating_sub(70);
     let mut moved = false;
     let mut used = 0;
-    let last = last_start(out.len());
     loop {
         let next = due_at(file, at, used > last);
         if is_end(next) {
@@ -187,25 +185,21 @@ fn serve(
         }
         at = past(next, file.len());
         let m = bytes_in(file, next);
+        let bytes = write_bytes(m);
         let rest = &mut out[used..];
-        let room = rest.len();
-        match early(asked_in(next, m), known, room) {
-            Parsed::Refused { number } => {
-                reply_refusal(rest, number);
-                used = ahead(keep, used, reply_length(room, 0));
-                tally = tally_after(tally, true, 0);
-            }
-            Parsed::Asked { call } => {
-                let bytes = write_bytes(m);
-                let d = decide(tables, call, bytes.len());
-                reply_decided(d, bytes, fast, slow, rest);
-                used = ahead(keep, used, 6 + d.len);
-                tally = tally_after(tally, d.number != ACCEPTED, d.laid);
-                if d.moved {
+        let asked = early(asked_in(next, m), known, rest.len());
+        let decided = decide_asked(tables, asked, bytes.len());
+        let len = reply(decided, bytes, fast, slow, rest);
+        used = ahead(keep, used, len);
+        match decided {
+            Ok(d) => {
+                count(&mut tally, false, d.laid);
+                if d.change.is_some() {
                     tables = settle(tables, d);
                     moved = true;
                 }
             }
+            Err(_) => count(&mut tally, true, 0),
         }
     }
 }

@@ -14,15 +14,11 @@ use tables::{Copy, Edit, NULL_FRAME, Page, Refusal};
 fn copy_at(page: Page, k: u8) -> Copy
     ensures { result ≡ copy_at page k }
 {
-    let i = k as usize;
-    if i < 8 {
-        return page.copies[i];
-    }
-    Copy {
+    page.copies.get(k as usize).copied().unwrap_or(Copy {
         frame: 0,
         current: false,
         recent: false,
-    }
+    })
 }
 
 // 9 and 12 of a step on copy k.

@@ -1,5 +1,6 @@
 // The kinds of call: what each names, how long its messages are, and what its replies tell.
 ghost use Rattle.std.specs.Prelude.{◌≡◌, ◌∷◌, []};
+ghost use Rattle.steps.specs.declared.Kind.TheVariants.{Grant};
 ghost use Rattle.steps.specs.Kinds.{kind_number, is_unknown};
 ghost use Rattle.steps.specs.Steps.{outcome_of};
 ghost use Rattle.steps.specs.Promises.{kind_known, kind_form, form_of};
@@ -73,6 +74,52 @@ impl Call {
     }
 }
 
+// A call that names a station and a page.
+fn by_station(kind: Kind, station: u8, page: u8) -> Call
+    ensures { result ≡ call_with kind station page 0 0 0 0 0 0 }
+{
+    Call {
+        station,
+        page,
+        ..Call::of(kind)
+    }
+}
+
+// A grant, which names the other station and its right besides.
+fn by_owner(station: u8, page: u8, other: u8, right: u8) -> Call
+    ensures { result ≡ call_with Grant station page other right 0 0 0 0 }
+{
+    Call {
+        other,
+        right,
+        ..by_station(Kind::Grant, station, page)
+    }
+}
+
+// A read or a write, which names a part of the page besides. A write names no count: the number of its bytes stands in
+// for that.
+fn on_bytes(kind: Kind, station: u8, page: u8, offset: u8, count: u8) -> Call
+    ensures { result ≡ call_with kind station page 0 0 offset count 0 0 }
+{
+    Call {
+        offset,
+        count,
+        ..by_station(kind, station, page)
+    }
+}
+
+// A move of a copy, a look or a retire: these name no station.
+fn by_placement(kind: Kind, page: u8, copy: u8, frame: u8) -> Call
+    ensures { result ≡ call_with kind 0 page 0 0 0 0 copy frame }
+{
+    Call {
+        page,
+        copy,
+        frame,
+        ..Call::of(kind)
+    }
+}
+
 fn form(least: u8, most: u8, tells: Data, call: Call) -> Form
     ensures { result ≡ record { least = least; most = most; tells = tells; call = call } }
 {
@@ -92,107 +139,18 @@ impl Kind {
         ensures { result ≡ kind_form self arguments }
     {
         let [a, b, c, d] = arguments;
-        let call = Call::of(self);
         match self {
-            Kind::Create => form(
-                4,
-                4,
-                Data::Empty,
-                Call {
-                    station: a,
-                    page: b,
-                    ..call
-                },
-            ),
-            Kind::DeletePage => form(
-                4,
-                4,
-                Data::Empty,
-                Call {
-                    station: a,
-                    page: b,
-                    ..call
-                },
-            ),
-            Kind::Grant => form(
-                6,
-                6,
-                Data::Empty,
-                Call {
-                    station: a,
-                    page: b,
-                    other: c,
-                    right: d,
-                    ..call
-                },
-            ),
-            Kind::Read => form(
-                6,
-                6,
-                Data::Bytes,
-                Call {
-                    station: a,
-                    page: b,
-                    offset: c,
-                    count: d,
-                    ..call
-                },
-            ),
-            Kind::Write => form(
-                6,
-                69,
-                Data::Empty,
-                Call {
-                    station: a,
-                    page: b,
-                    offset: c,
-                    ..call
-                },
-            ),
-            Kind::MakeCopy => form(
-                5,
-                5,
-                Data::Empty,
-                Call {
-                    page: a,
-                    copy: b,
-                    frame: c,
-                    ..call
-                },
-            ),
-            Kind::DeleteCopy => form(
-                4,
-                4,
-                Data::Empty,
-                Call {
-                    page: a,
-                    copy: b,
-                    ..call
-                },
-            ),
-            Kind::SetCurrent => form(
-                4,
-                4,
-                Data::Empty,
-                Call {
-                    page: a,
-                    copy: b,
-                    ..call
-                },
-            ),
-            Kind::RemoveCurrent => form(
-                4,
-                4,
-                Data::Empty,
-                Call {
-                    page: a,
-                    copy: b,
-                    ..call
-                },
-            ),
-            Kind::LookPage => form(3, 3, Data::Copies, Call { page: a, ..call }),
-            Kind::LookFrame => form(3, 3, Data::Holder, Call { frame: a, ..call }),
-            Kind::Retire => form(3, 3, Data::Empty, Call { frame: a, ..call }),
+            Kind::Create | Kind::DeletePage => form(4, 4, Data::Empty, by_station(self, a, b)),
+            Kind::Grant => form(6, 6, Data::Empty, by_owner(a, b, c, d)),
+            Kind::Read => form(6, 6, Data::Bytes, on_bytes(self, a, b, c, d)),
+            Kind::Write => form(6, 69, Data::Empty, on_bytes(self, a, b, c, 0)),
+            Kind::MakeCopy => form(5, 5, Data::Empty, by_placement(self, a, b, c)),
+            Kind::DeleteCopy | Kind::SetCurrent | Kind::RemoveCurrent => {
+                form(4, 4, Data::Empty, by_placement(self, a, b, 0))
+            }
+            Kind::LookPage => form(3, 3, Data::Copies, by_placement(self, a, 0, 0)),
+            Kind::LookFrame => form(3, 3, Data::Holder, by_placement(self, 0, 0, a)),
+            Kind::Retire => form(3, 3, Data::Empty, by_placement(self, 0, 0, a)),
         }
     }
 }

@@ -31,7 +31,6 @@ use Rattle.steps.specs.Steps.{Outcome, accept, mapped, plan_of, no_work, page_fo
 use Rattle.steps.specs.Effects.{laid_frames, State, carried_out, step, left}
 use Rattle.steps.specs.Promises.{state_of}
 use Rattle.steps.proofs.StepLaws.{Good, good_rules, rules_good, decide_ruled}
-use Rattle.messages.specs.declared.Parsed.TheVariants.{Asked}
 use Rattle.messages.specs.Messages.{parse, write_bytes}
 use Rattle.messages.specs.Replies.{reply, reply_in}
 use Rattle.messages.specs.Run.{Sent, whole, answer, left_by, turns_of, end_of, split, messages_of, replies, run}
@@ -89,7 +88,7 @@ module _ (room : ℕ) (s : State) (c : Call) (e : Edit) (wide : 70 ≤ room) (go
   answer_is : decide s.tables c (length bs) ≡ accept plan → answer room s (whole (body c [])) ≡ accept (carried_out s c bs plan)
   unfolding answer step
   answer_is d =
-      let asks : parse (body c []) ≡ Asked c = parsed c [] i ∙ ap Asked plain in
+      let asks : parse (body c []) ≡ accept c = parsed c [] i ∙ ap accept plain in
       rw (le-ltb room 70 wide, asks)
       (ap (mapped (carried_out s c bs)) (decide_ruled s.tables (length s.fast) (length s.slow) c (length bs) (good_rules good) ∙ d))
 

@@ -27,13 +27,10 @@ use Rattle.steps.specs.Effects.{State, tables_left, Result, carried_out, step, l
 use Rattle.steps.specs.Promises.{laid_of}
 use Rattle.steps.proofs.DecideLaws.{IfDecided, if_refused, call_numbers, decide_ok}
 use Rattle.steps.proofs.StepLaws.{Good, step_good, good_rules, decide_ruled}
-use Rattle.messages.specs.declared.Parsed.{Parsed}
-use Rattle.messages.specs.declared.Parsed.TheVariants.{Refused, Asked}
 use Rattle.messages.specs.declared.Tally.{Tally}
-use Rattle.messages.specs.declared.Figures.{Figures}
 use Rattle.messages.specs.Replies.{reply, reply_in, stopped, up_to, counted, zero_tally, is_refusal}
 use Rattle.messages.specs.Run.{Sent, asked, bytes_of, respond, answer, Turn, turn_of, left_by, turns_of, messages_of, run, tally}
-use Rattle.messages.specs.Forecast.{Foreseen, foreseen_by, foreseen, numbers_counted, counted_under, at_start, with_message, forecast_of, no_forecast, forecast}
+use Rattle.messages.specs.Forecast.{Forecast, Foreseen, foreseen_by, foreseen, numbers_counted, counted_under, at_start, with_message, forecast_of, no_forecast, forecast}
 use Rattle.messages.proofs.ParseLaws.{own_numbers, Known, bad, good, asked_known}
 use Rattle.messages.proofs.TurnLaws.{answer_told}
 use Rattle.messages.proofs.ForecastLaws.{came, stops, none_more, foreseen_sound}
@@ -62,9 +59,9 @@ module _ (room : ℕ) (roomy : 70 ≤ room) where
       decided c bs (refuse n) = refl
       decided c bs (accept plan) = refl
 
-      parsed : (a : Parsed) (bs : List ℕ) → had s (respond s a bs) ≡ foreseen_by s.tables a (length bs)
-      parsed (Refused n) bs = refl
-      parsed (Asked c) bs =
+      parsed : (a : Outcome Call) (bs : List ℕ) → had s (respond s a bs) ≡ foreseen_by s.tables a (length bs)
+      parsed (refuse n) bs = refl
+      parsed (accept c) bs =
           ap (λ (o : Outcome Plan). had s (mapped (carried_out s c bs) o))
           (decide_ruled s.tables _ _ c (length bs) (good_rules i))
           ∙ decided c bs (decide s.tables c (length bs))
@@ -89,7 +86,7 @@ unfolding up_to
 from_zero n = omega arith
 
 -- figures within their limits
-record Within (f : Figures) : Type 0 where
+record Within (f : Forecast) : Type 0 where
   laid_low : f.laid ≤ 4294967295
   count_low : (n : ℕ) → get_or f.counts n 0 ≤ 4294967295
   long : length f.counts ≡ numbers_counted
@@ -103,7 +100,7 @@ counted_at c k n h = by (ℕ_discrete k n)
     by (yes e) = rw (eq-eqb k n e, ← e) (get_or-set_same c k (up_to (get_or c k 0) 1) 0 h)
     by (no d) = rw (ne_eqb k n d) (get_or-set_other c k n (up_to (get_or c k 0) 1) 0 (λ e. d (sym e)))
 
-with_within : (f : Figures) (m : Foreseen) → Within f → m.number < numbers_counted → Within (with_message f m)
+with_within : (f : Forecast) (m : Foreseen) → Within f → m.number < numbers_counted → Within (with_message f m)
 with_within f m w low =
     record {
       laid_low = stops f.laid m.laid;
@@ -131,7 +128,7 @@ start_within t =
 -- ---- the figures after messages
 
 -- what turns ts add to the figures f, which makes them g
-record Adds (room : ℕ) (f : Figures) (ts : List Turn) (g : Figures) : Type 0 where
+record Adds (room : ℕ) (f : Forecast) (ts : List Turn) (g : Forecast) : Type 0 where
   number : g.number ≡ f.number
   most : g.most
       ≡ max f.most
@@ -142,7 +139,7 @@ record Adds (room : ℕ) (f : Figures) (ts : List Turn) (g : Figures) : Type 0 w
 
 module _ (room : ℕ) (roomy : 70 ≤ room) where
   -- one message before others
-  adds_more : (s : State) (x : Sent) (f : Figures) → Within f → (ts : List Turn) (g : Figures)
+  adds_more : (s : State) (x : Sent) (f : Forecast) → Within f → (ts : List Turn) (g : Forecast)
       → Adds room (with_message f (had s (answer room s x))) ts g
       → Adds room f (turn_of room s x ∷ ts) g
   unfolding count
@@ -175,7 +172,7 @@ module _ (room : ℕ) (roomy : 70 ≤ room) where
       by n true = more_then (get_or f.counts n 0) 1 (how_many_get room ts n)
       by n false = let z : 0 + how_many_get room ts n ≡ how_many_get room ts n = omega arith in rw z
 
-  adds : (xs : List Sent) (s : State) → Good s → (f : Figures) → Within f
+  adds : (xs : List Sent) (s : State) → Good s → (f : Forecast) → Within f
       → Adds room f (turns_of room s xs) (forecast_of f s.tables xs)
   unfolding turns_of forecast_of count
   adds [] s i f w =
@@ -227,7 +224,7 @@ same_tally : {a a' b b' c c' : ℕ} → a ≡ a' → b ≡ b' → c ≡ c'
 same_tally p q r = cc
 
 module _ (room : ℕ) (roomy : 70 ≤ room) where
-  tallied_one : (s : State) (x : Sent) (f : Figures) → Within f
+  tallied_one : (s : State) (x : Sent) (f : Forecast) → Within f
       → let o = answer room s x in
       counted (tally_forecast f) (is_refusal o) (laid_by o) ≡ tally_forecast (with_message f (had s o))
   tallied_one s x f w =
@@ -238,7 +235,7 @@ module _ (room : ℕ) (roomy : 70 ≤ room) where
       ∙ refusals_counted f.counts (number_of o) low (w.count_low (number_of o)))
       refl
 
-  tally_told : (xs : List Sent) (s : State) → Good s → (f : Figures) → Within f
+  tally_told : (xs : List Sent) (s : State) → Good s → (f : Forecast) → Within f
       → tally (turns_of room s xs) (tally_forecast f) ≡ tally_forecast (forecast_of f s.tables xs)
   unfolding turns_of tally forecast_of
   tally_told [] s i f w = refl
@@ -266,12 +263,12 @@ number_given t ok x = by (asked_known x) (length (bytes_of x))
     decided c (refuse n) (if_refused row) = all_listed given call_numbers n refl row
     decided c (accept plan) k = refl
 
-    by : {a : Parsed} → Known a → (size : ℕ) → given (foreseen_by t a size).number ≡ true
+    by : {a : Outcome Call} → Known a → (size : ℕ) → given (foreseen_by t a size).number ≡ true
     by (bad {n} some own) size = all_listed given own_numbers n refl own
     by (good {c}) size = decided c (decide t c size) (decide_ok t c size ok)
 
 -- so nothing is counted under them
-none_counted : (n : ℕ) → listed n not_given ≡ true → (xs : List Sent) (t : Tables) → sound t ≡ true → (f : Figures)
+none_counted : (n : ℕ) → listed n not_given ≡ true → (xs : List Sent) (t : Tables) → sound t ≡ true → (f : Forecast)
     → get_or (forecast_of f t xs).counts n 0 ≡ get_or f.counts n 0
 unfolding forecast_of
 none_counted n h [] t ok f = refl
@@ -294,7 +291,7 @@ all_counted = refl
 
 -- ---- files that differ in what writes carry
 
-same_forecast : (xs xs' : List Sent) → SameBut xs xs' → (f : Figures) (t : Tables)
+same_forecast : (xs xs' : List Sent) → SameBut xs xs' → (f : Forecast) (t : Tables)
     → forecast_of f t xs ≡ forecast_of f t xs'
 unfolding forecast_of
 same_forecast [] [] e f t = refl
@@ -309,7 +306,7 @@ same_forecast (x ∷ xs) (x' ∷ xs') e f t =
 
 -- ---- fresh tables
 
-pub number_stays : (xs : List Sent) (t : Tables) (f : Figures) → (forecast_of f t xs).number ≡ f.number
+pub number_stays : (xs : List Sent) (t : Tables) (f : Forecast) → (forecast_of f t xs).number ≡ f.number
 unfolding forecast_of
 number_stays [] t f = refl
 number_stays (x ∷ xs) t f = number_stays xs (foreseen t x).tables (with_message f (foreseen t x))
@@ -329,7 +326,7 @@ module _ (room : ℕ) (file : List ℕ) (s : State) (roomy : 70 ≤ room) (ok : 
   figures_are =
       rw ok (by (adds room roomy (messages_of file) s in_order (at_start s.tables) (start_within s.tables)))
     where
-      by : {g : Figures} → Adds room (at_start s.tables) (run room file s).turns g
+      by : {g : Forecast} → Adds room (at_start s.tables) (run room file s).turns g
           → FiguresOf room s (run room file s).turns g
       by a =
           record {

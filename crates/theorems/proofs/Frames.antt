@@ -13,15 +13,13 @@ use Rattle.steps.specs.declared.Plan.{Plan}
 use Rattle.steps.specs.Steps.{Outcome, refuse, accept, test, mapped, decide_any}
 use Rattle.steps.specs.Effects.{State, Result, carried_out, step, left}
 use Rattle.steps.proofs.StepLaws.{step_long}
-use Rattle.messages.specs.declared.Parsed.{Parsed}
-use Rattle.messages.specs.declared.Parsed.TheVariants.{Refused, Asked}
 use Rattle.messages.specs.Run.{Sent, asked, bytes_of, respond, answer, left_by, end_of}
 
 -- what holds of a state, and of the state that any call leaves of it, holds of the one that a message leaves
 module _ (s : State) (P : State → Type 0) (here : P s) (by_call : (c : Call) (bs : List ℕ) → P (left s (step s c bs))) where
-  by_parsed : (a : Parsed) (bs : List ℕ) → P (left s (respond s a bs))
-  by_parsed (Refused n) bs = here
-  by_parsed (Asked c) bs = by_call c bs
+  by_parsed : (a : Outcome Call) (bs : List ℕ) → P (left s (respond s a bs))
+  by_parsed (refuse n) bs = here
+  by_parsed (accept c) bs = by_call c bs
 
   pub by_message : (room : ℕ) (x : Sent) → P (left_by room s x)
   unfolding answer

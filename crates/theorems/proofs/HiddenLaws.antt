@@ -27,8 +27,6 @@ use Rattle.steps.specs.Effects.{State, Result, carried_out, step, left, moved_by
 use Rattle.steps.specs.Promises.{state_of}
 use Rattle.steps.proofs.DecideLaws.{IfAccepted, if_accepted, call_numbers}
 use Rattle.steps.proofs.StepLaws.{fit_lengths, joined_long, Sure, sure, step_long, sound_number}
-use Rattle.messages.specs.declared.Parsed.{Parsed}
-use Rattle.messages.specs.declared.Parsed.TheVariants.{Refused, Asked}
 use Rattle.messages.specs.declared.Tally.{Tally}
 use Rattle.messages.specs.Messages.{parse, length_at}
 use Rattle.messages.specs.Replies.{reply, reply_in, counted, zero_tally, is_refusal}
@@ -180,18 +178,18 @@ unfolding answer
 message_both room s s' w x x' e =
     behind (ltb room 70) (asked x) (asked x') (same_asked x x' e) (bytes_of x) (bytes_of x') (same_carried x x' e)
   where
-    parsed : (a : Parsed) (bs bs' : List ℕ) → length bs ≡ length bs'
+    parsed : (a : Outcome Call) (bs bs' : List ℕ) → length bs ≡ length bs'
         → Both (asks_read a) (respond s a bs) (respond s' a bs')
-    parsed (Refused n) bs bs' l = both_refused
-    parsed (Asked c) bs bs' l =
+    parsed (refuse n) bs bs' l = both_refused
+    parsed (accept c) bs bs' l =
         subst (λ (t : Tables). Both (is_read c.kind) (step s c bs) (step (state_of t s'.fast s'.slow) c bs'))
         w.tables
         (call_both s.tables s.fast s.slow s'.fast s'.slow c bs bs' w.fast w.slow l)
 
-    behind : (b : Bool) (a a' : Parsed) → a ≡ a' → (bs bs' : List ℕ) → length bs ≡ length bs'
+    behind : (b : Bool) (a a' : Outcome Call) → a ≡ a' → (bs bs' : List ℕ) → length bs ≡ length bs'
         → Both (asks_read a) (test b short_buffer (respond s a bs)) (test b short_buffer (respond s' a' bs'))
     behind true a a' q bs bs' l = both_refused
-    behind false a a' q bs bs' l = subst (λ (z : Parsed). Both (asks_read a) (respond s a bs) (respond s' z bs')) q
+    behind false a a' q bs bs' l = subst (λ (z : Outcome Call). Both (asks_read a) (respond s a bs) (respond s' z bs')) q
         (parsed a bs bs' l)
 
 -- what is seen of its reply
@@ -289,7 +287,7 @@ module _ (room : ℕ) (s s' : State) (w : Twins s s') (x x' : Sent) (same : mess
   covered_alike : reply_covered room (turn_of room s x) ≡ reply_covered room (turn_of room s' x')
   covered_alike =
       reply_both room (asks_read (asked x)) o o' (message_both room s s' w x x' same)
-      ∙ ap (λ (a : Parsed). cond (asks_read a) (covered 6 (reply_in room o')) (reply_in room o')) (same_asked x x' same)
+      ∙ ap (λ (a : Outcome Call). cond (asks_read a) (covered 6 (reply_in room o')) (reply_in room o')) (same_asked x x' same)
 
   -- of one message before those that are alike
   more_alike : (n : Tally) (ts ts' : List Turn) (f f' : State)
@@ -502,9 +500,9 @@ module _ (s : State) (ok : sound s.tables ≡ true) (room : ℕ) (x : Sent) wher
   unfolding answer all
   not_five = behind (ltb room 70) (respond s (asked x) (bytes_of x)) (parsed (asked x) (bytes_of x) (asked_known x))
     where
-      parsed : (a : Parsed) (bs : List ℕ) → Known a → unlike_five (number_of (respond s a bs)) ≡ true
-      parsed (Refused n) bs (bad some own) = all_listed unlike_five own_numbers n refl own
-      parsed (Asked c) bs k = all_listed unlike_five (accepted ∷ misfit_store ∷ call_numbers)
+      parsed : (a : Outcome Call) (bs : List ℕ) → Known a → unlike_five (number_of (respond s a bs)) ≡ true
+      parsed (refuse n) bs (bad some own) = all_listed unlike_five own_numbers n refl own
+      parsed (accept c) bs k = all_listed unlike_five (accepted ∷ misfit_store ∷ call_numbers)
           (number_of (step s c bs)) refl (sound_number s c bs ok)
 
       behind : (b : Bool) (o : Outcome Result) → unlike_five (number_of o) ≡ true

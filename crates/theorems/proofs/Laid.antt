@@ -4,10 +4,9 @@ use Rattle.tables.specs.Model.{page_at}
 use Rattle.steps.specs.declared.Plan.{Plan}
 use Rattle.steps.specs.Steps.{Outcome, refuse, accept, mapped, page_for}
 use Rattle.steps.specs.Effects.{laid_frames, bytes_laid, joined, carried_out, step, laid_by}
-use Rattle.steps.specs.Promises.{work_of}
 use Rattle.steps.proofs.DecideLaws.{IfAccepted, if_accepted}
 use Rattle.steps.proofs.StepLaws.{joined_long, Sure, sure}
-use Rattle.theorems.specs.Laid.{BytesCounted}
+use Rattle.theorems.specs.Laid.{work_of, BytesCounted}
 
 pub bytes_counted : BytesCounted
 unfolding step laid_frames

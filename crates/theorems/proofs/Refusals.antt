@@ -10,14 +10,14 @@ use lib.ListN.{length}
 use lib.Dec.{ltb, eqb}
 use borrow.Author.Tests.{ltb-true, lt-ltb, ne_eqb}
 use Rattle.tables.specs.Lists.{all, count}
-use Rattle.tables.specs.Numbers.{accepted, short_buffer, message_numbers}
+use Rattle.tables.specs.Numbers.{accepted, short_buffer, message_numbers, answer_number}
 use Rattle.tables.proofs.ListLaws.{all_listed}
 use Rattle.steps.specs.Stores.{over}
 use Rattle.steps.specs.Steps.{Outcome, refuse, accept, test, number_of}
 use Rattle.steps.specs.Effects.{State, Result, left, laid_by}
 use Rattle.steps.specs.Promises.{state_of}
 use Rattle.steps.proofs.StepLaws.{step_number}
-use Rattle.messages.specs.declared.Parsed.{Parsed}
+use Rattle.steps.specs.declared.Call.{Call}
 use Rattle.messages.specs.declared.Tally.{Tally}
 use Rattle.messages.specs.Promises.{sent_alone}
 use Rattle.messages.specs.Replies.{reply, reply_in, up_to, counted, is_refusal}
@@ -30,7 +30,7 @@ use Rattle.theorems.specs.Demand1.{TallyObeys, WithinLimit, Demand1}
 
 -- ---- the number
 
-responded : (s : State) {a : Parsed} (bs : List ℕ) → Known a → allowed (number_of (respond s a bs)) ≡ true
+responded : (s : State) {a : Outcome Call} (bs : List ℕ) → Known a → allowed (number_of (respond s a bs)) ≡ true
 unfolding all
 responded s bs (bad {n} some own) = all_listed allowed own_numbers n refl own
 responded s bs (good {c}) = step_number s c bs
@@ -86,7 +86,7 @@ one_message t fast slow message out fast' slow' out' n n' r low k counts =
       short = λ h. k.number_told ∙ answer_short (length out) s x h;
       unchanged = λ h. k.state_out ∙ left_as_before s o (told h);
       none_laid = λ h. k.laid_told ∙ none_laid o (told h);
-      tallied = λ h. counts ∙ counted_once n r.number r.laid low h (k.laid_told ∙ none_laid o (told h));
+      tallied = λ h. counts ∙ counted_once n (answer_number r.answer) r.laid low h (k.laid_told ∙ none_laid o (told h));
       fixed = λ h. k.reply_out ∙ ap (λ (l : List ℕ). over l out) (reply_is h);
       len_fixed = λ h. k.len_told ∙ ap length (reply_is h);
     }
@@ -100,10 +100,10 @@ one_message t fast slow message out fast' slow' out' n n' r low k counts =
     o : Outcome Result
     o = answer (length out) s x
 
-    told : r.number ≢ accepted → number_of o ≢ accepted
+    told : answer_number r.answer ≢ accepted → number_of o ≢ accepted
     told h e = h (k.number_told ∙ e)
 
-    reply_is : r.number ≢ accepted → reply_in (length out) o ≡ refusal_in (length out) r.number
+    reply_is : answer_number r.answer ≢ accepted → reply_in (length out) o ≡ refusal_in (length out) (answer_number r.answer)
     reply_is h = fixed (length out) o (told h) ∙ ap (refusal_in (length out)) (sym k.number_told)
 
 -- ---- a run

@@ -37,8 +37,6 @@ use Rattle.steps.proofs.DecisionLaws.{page_near}
 use Rattle.steps.proofs.DecideLaws.{IfAccepted, if_accepted, past_number}
 use Rattle.steps.proofs.PlanLaws.{retire_plans}
 use Rattle.steps.proofs.StepLaws.{rules_listed, Sure, sure}
-use Rattle.messages.specs.declared.Parsed.{Parsed}
-use Rattle.messages.specs.declared.Parsed.TheVariants.{Refused, Asked}
 use Rattle.messages.specs.Run.{Sent, asked, bytes_of, respond, answer, left_by, turns_of, end_of, messages_of}
 use Rattle.theorems.specs.Clean.{ever_held}
 use Rattle.theorems.specs.Retired.{three_numbers, retires_frame, ever_retired, NeverAgain, only_retired, RetiredFrames}
@@ -90,13 +88,13 @@ module _ (t : Tables) (x f : ℕ) (long : length t.register ≡ 254) where
   marked true false low e = retired_more t x f (rw long (low refl))
 
 call_retired : (s : State) (f : ℕ) (c : Call) (bs : List ℕ)
-    → retired_at (left s (step s c bs)).tables f ≡ (retired_at s.tables f || retires_frame (Asked c) (step s c bs) f)
+    → retired_at (left s (step s c bs)).tables f ≡ (retired_at s.tables f || retires_frame (accept c) (step s c bs) f)
 unfolding step
 call_retired s f c bs = go _ (sure s c bs)
   where
     go : (o : Outcome Plan) → IfAccepted (Sure s c bs) o
         → retired_at (left s (mapped (carried_out s c bs) o)).tables f
-        ≡ (retired_at s.tables f || retires_frame (Asked c) (mapped (carried_out s c bs) o) f)
+        ≡ (retired_at s.tables f || retires_frame (accept c) (mapped (carried_out s c bs) o) f)
     go (refuse n) k = sym (or-false (retired_at s.tables f))
     go (accept plan) (if_accepted u) =
         let t = s.tables in
@@ -110,12 +108,12 @@ message_marks : (room : ℕ) (s : State) (x : Sent) (f : ℕ)
 unfolding answer
 message_marks room s x f = behind (ltb room 70) (asked x)
   where
-    behind : (b : Bool) (a : Parsed) → retired_at (left s (test b short_buffer (respond s a (bytes_of x)))).tables f
+    behind : (b : Bool) (a : Outcome Call) → retired_at (left s (test b short_buffer (respond s a (bytes_of x)))).tables f
         ≡ (retired_at s.tables f || retires_frame a (test b short_buffer (respond s a (bytes_of x))) f)
-    behind true (Refused n) = sym (or-false (retired_at s.tables f))
-    behind true (Asked c) = sym (or-false (retired_at s.tables f))
-    behind false (Refused n) = sym (or-false (retired_at s.tables f))
-    behind false (Asked c) = call_retired s f c (bytes_of x)
+    behind true (refuse n) = sym (or-false (retired_at s.tables f))
+    behind true (accept c) = sym (or-false (retired_at s.tables f))
+    behind false (refuse n) = sym (or-false (retired_at s.tables f))
+    behind false (accept c) = call_retired s f c (bytes_of x)
 
 -- a retire that is accepted retires its frame and does nothing else: the record of page 0 is put back as it was
 call_alone : (s : State) (c : Call) (bs : List ℕ) (r : Result) → is_retire c.kind ≡ true → step s c bs ≡ accept r → r ≡ only_retired s c.frame

@@ -21,8 +21,6 @@ use Rattle.steps.specs.Steps.{Outcome, refuse, accept}
 use Rattle.steps.specs.Effects.{State, Result, step}
 use Rattle.steps.proofs.DecideLaws.{IfAccepted, if_refused, if_accepted}
 use Rattle.steps.proofs.StepLaws.{step_formed}
-use Rattle.messages.specs.declared.Parsed.{Parsed}
-use Rattle.messages.specs.declared.Parsed.TheVariants.{Refused, Asked}
 use Rattle.messages.specs.Replies.{reply}
 use Rattle.messages.specs.Run.{Sent, cut, whole, asked, bytes_of, respond, answer}
 use Rattle.messages.proofs.ParseLaws.{own_numbers, Known, bad, good, asked_known, asked_by}
@@ -72,9 +70,9 @@ tells_of : (room : ℕ) (s : State) (x : Sent) (kind : ℕ) → 70 ≤ room → 
 unfolding answer all
 tells_of room s x kind h k = rw (le-ltb room 70 h) (go (asked x) (asked_known x) refl)
   where
-    go : (p : Parsed) → Known p → asked x ≡ p → Tells kind (respond s p (bytes_of x))
-    go (Refused n) (bad one row) e = if_refused (all_listed (λ (m : ℕ). listed m message_numbers) own_numbers n refl row)
-    go (Asked c) good e =
+    go : (p : Outcome Call) → Known p → asked x ≡ p → Tells kind (respond s p (bytes_of x))
+    go (refuse n) (bad one row) e = if_refused (all_listed (λ (m : ℕ). listed m message_numbers) own_numbers n refl row)
+    go (accept c) good e =
         subst (λ (q : Kind). IfAccepted (λ (r : Result). (formed (tells q) r.data_out ≡ true) × (r.laid ≤ 512)) (step s c (bytes_of x))) (k.same c e)
         (step_formed s c (bytes_of x))
 

@@ -20,8 +20,7 @@ use Rattle.steps.specs.declared.Call.{Call}
 use Rattle.steps.specs.Stores.{fits}
 use Rattle.steps.specs.Effects.{State, joined, step, left}
 use Rattle.steps.proofs.StepLaws.{Good, fit_lengths, page_stands_lem, step_good}
-use Rattle.messages.specs.declared.Parsed.{Parsed}
-use Rattle.messages.specs.declared.Parsed.TheVariants.{Refused, Asked}
+use Rattle.steps.specs.Steps.{Outcome, refuse, accept}
 use Rattle.messages.specs.Run.{Sent, asked, bytes_of, respond, answer, messages_of, turns_of, end_of}
 use Rattle.theorems.specs.Flat.{Flat, Slot, gone, here, slot_at, none, flat_kind, react, react_to, accepts}
 use Rattle.theorems.specs.Demand3.{flat_after, is_answered, lacks, due, SameSlot, AgreesOn, Demand3}
@@ -56,23 +55,23 @@ module _ (s : State) (f : Flat) (i : Inv s f) where
   step_agrees c bs =
       rw (i.good.tables_sound, i.good.stores_fit) (carried_agrees s c bs (kind_agrees c.kind c bs))
 
-  abbrev lacks_in : Parsed → Bool
-  lacks_in (Refused n) = false
-  lacks_in (Asked c) = lacks s.tables c
+  abbrev lacks_in : Outcome Call → Bool
+  lacks_in (refuse n) = false
+  lacks_in (accept c) = lacks s.tables c
 
-  parsed_agrees : (a : Parsed) (bs : List ℕ) → Known a → ResultAgrees f (is_answered a) (lacks_in a) (respond s a bs) (react_to f a bs)
+  parsed_agrees : (a : Outcome Call) (bs : List ℕ) → Known a → ResultAgrees f (is_answered a) (lacks_in a) (respond s a bs) (react_to f a bs)
   unfolding react_to all
-  parsed_agrees (Refused n) bs (bad some own) = turned_back (not-true _ (all_listed (λ m. not (eqb m nothing_current)) own_numbers n refl own))
-  parsed_agrees (Asked c) bs k = step_agrees c bs
+  parsed_agrees (refuse n) bs (bad some own) = turned_back (not-true _ (all_listed (λ m. not (eqb m nothing_current)) own_numbers n refl own))
+  parsed_agrees (accept c) bs k = step_agrees c bs
 
-  parsed_keeps : (a : Parsed) (bs : List ℕ) → Good (left s (respond s a bs))
-  parsed_keeps (Refused n) bs = i.good
-  parsed_keeps (Asked c) bs = step_good s c bs i.good
+  parsed_keeps : (a : Outcome Call) (bs : List ℕ) → Good (left s (respond s a bs))
+  parsed_keeps (refuse n) bs = i.good
+  parsed_keeps (accept c) bs = step_good s c bs i.good
 
-  due_is : (a : Parsed) (bs : List ℕ) → due f s a bs ≡ (accepts (react_to f a bs) && lacks_in a)
+  due_is : (a : Outcome Call) (bs : List ℕ) → due f s a bs ≡ (accepts (react_to f a bs) && lacks_in a)
   unfolding react_to
-  due_is (Refused n) bs = refl
-  due_is (Asked c) bs = refl
+  due_is (refuse n) bs = refl
+  due_is (accept c) bs = refl
 
   pub turn_agrees : (room : ℕ) → 70 ≤ room → (x : Sent) → TurnAgrees Inv room f s x
   unfolding answer flat_after

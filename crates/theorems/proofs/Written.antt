@@ -18,7 +18,6 @@ use Rattle.steps.specs.Calls.{outside}
 use Rattle.steps.specs.Stores.{part}
 use Rattle.steps.specs.Steps.{accept}
 use Rattle.steps.proofs.KindLaws.{kind_numbered, number_known, number_kind}
-use Rattle.messages.specs.declared.Parsed.TheVariants.{Asked}
 use Rattle.messages.specs.declared.Next.{Next}
 use Rattle.messages.specs.declared.Next.TheVariants.{Message, Cut, End}
 use Rattle.messages.specs.Messages.{parse, write_bytes, next_at}
@@ -26,10 +25,9 @@ use Rattle.messages.specs.Replies.{be16}
 use Rattle.messages.specs.Run.{whole}
 use Rattle.messages.specs.Promises.{sent_by, sent_alone}
 use Rattle.messages.proofs.ParseLaws.{AskedBy, asked_by}
-use Rattle.stations.specs.declared.Written.{Written}
-use Rattle.stations.specs.Writer.{body, message_of, canonical, written}
+use Rattle.stations.specs.Writer.{body, message_of, canonical, written, Written, written_length}
 use Rattle.stations.specs.Promises.{Wrote}
-use Rattle.stations.specs.Private.{places, at_places}
+use Rattle.stations.specs.Private.{arguments}
 use Rattle.stations.proofs.WriterLaws.{count, ending, ending_is, count_least, three_singles, short_message, length_fits, kind_laws, named_made, four_long, values_of, values_are, values_count, written_inside, wrote_same}
 use Rattle.stations.proofs.FrontLaws.{next_front, part_front, front_of, front_taken}
 use Rattle.theorems.specs.Stations.{InRange, CallRead, CallsKept, MessagesKept}
@@ -50,7 +48,7 @@ module _ (c : Call) (bs : List ℕ) (i : InRange c bs) where
   body_long : length (body c bs) ≡ 2 + (count k + length (ending k bs))
   body_long = let n = values_count c bs in omega arith
 
-  pub parsed : parse (body c bs) ≡ Asked (canonical c)
+  pub parsed : parse (body c bs) ≡ accept (canonical c)
   unfolding parse call_of
   parsed =
       let m : List ℕ = body c bs in
@@ -59,13 +57,13 @@ module _ (c : Call) (bs : List ℕ) (i : InRange c bs) where
       let none : eqb (length m) 0 ≡ false = ne_eqb (length m) 0 (λ (z : length m ≡ 0). omega arith) in
       let one : eqb (length m) 1 ≡ false = ne_eqb (length m) 1 (λ (z : length m ≡ 1). omega arith) in
       rw (none, one, number_known k, kind_numbered k, le-ltb (length m) (least_length k) (omega (arith, fits.0)), le-ltb (most_length k) (length m) (omega (arith, fits.1)))
-      (ap Asked (kind_laws k c [] bs).asked_again)
+      (ap accept (kind_laws k c [] bs).asked_again)
 
   -- a write's bytes
   bytes_kept : has bytes k ≡ true → write_bytes (body c bs) ≡ bs
   bytes_kept q =
-      ap (drop 3) (values_are c bs ∙ ap (λ (x : List ℕ). take (count k) (drop 1 (at_places c (places k))) ++ x) (ending_is k bs true q))
-      ∙ drop_at (take (count k) (drop 1 (at_places c (places k)))) bs 3 (length-take-le (count k) (drop 1 (at_places c (places k))) (four_long c) ∙ three_singles k q)
+      ap (drop 3) (values_are c bs ∙ ap (λ (x : List ℕ). take (count k) (arguments k c) ++ x) (ending_is k bs true q))
+      ∙ drop_at (take (count k) (arguments k c)) bs 3 (length-take-le (count k) (arguments k c) (omega (arith, four_long c, three_singles k q)) ∙ three_singles k q)
 
   -- it is short
   pub body_short : length (body c bs) ≤ 69
@@ -76,9 +74,9 @@ module _ (c : Call) (bs : List ℕ) (i : InRange c bs) where
   pub left_by : (out out' : List ℕ) (r : Written) → 71 ≤ length out → Wrote (written (length out) c bs) out out' r → Wrote (accept (message_of c bs)) out out' r
   left_by out out' r h w = wrote_same (written_inside (length out) c bs h i) w
 
-  pub taken_by : (out out' : List ℕ) (r : Written) → Wrote (accept (message_of c bs)) out out' r → take r.len out' ≡ message_of c bs
+  pub taken_by : (out out' : List ℕ) (r : Written) → Wrote (accept (message_of c bs)) out out' r → take (written_length r) out' ≡ message_of c bs
   taken_by out out' r a =
-      ap (take r.len) a.buffer_out ∙ take_at (message_of c bs) (drop (length (message_of c bs)) out) r.len (sym a.len_told)
+      ap (take (written_length r)) a.buffer_out ∙ take_at (message_of c bs) (drop (length (message_of c bs)) out) (written_length r) (sym a.len_told)
 
   read_by : (rest : List ℕ) → CallRead c bs (message_of c bs ++ rest)
   read_by rest =

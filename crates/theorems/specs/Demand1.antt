@@ -4,7 +4,7 @@
 use Rattle.std.specs.Prelude.{ℕ, ◌+◌, ◌≤◌, ◌<◌, ◌≡◌, Bool, true, not, cond, List, [], ◌∷◌, ◌≢◌, length, ltb, eqb}
 use Rattle.tables.specs.declared.Tables.{Tables}
 use Rattle.tables.specs.Lists.{count, listed}
-use Rattle.tables.specs.Numbers.{accepted, short_buffer, message_numbers}
+use Rattle.tables.specs.Numbers.{accepted, short_buffer, message_numbers, answer_number}
 use Rattle.steps.specs.Stores.{over}
 use Rattle.steps.specs.Steps.{number_of}
 use Rattle.steps.specs.Effects.{State, laid_by}
@@ -37,16 +37,16 @@ refused_once n = record { messages = up_to n.messages 1; refusals = up_to n.refu
 
 -- of a message that was answered with r, between b before it and a after it
 pub record Obeys (b : Loan) (r : Answered) (a : Loan) : Type 0 where
-  pub in_table : allowed r.number ≡ true
+  pub in_table : allowed (answer_number r.answer) ≡ true
   -- 18 before all others
-  pub short : length b.out < 70 → r.number ≡ short_buffer
+  pub short : length b.out < 70 → answer_number r.answer ≡ short_buffer
   -- "Tables and stores remain exactly as they were in every row."
-  pub unchanged : r.number ≢ accepted → a.state ≡ b.state
-  pub none_laid : r.number ≢ accepted → r.laid ≡ 0
-  pub tallied : r.number ≢ accepted → a.tally ≡ refused_once b.tally
+  pub unchanged : answer_number r.answer ≢ accepted → a.state ≡ b.state
+  pub none_laid : answer_number r.answer ≢ accepted → r.laid ≡ 0
+  pub tallied : answer_number r.answer ≢ accepted → a.tally ≡ refused_once b.tally
   -- "Reply bytes past the reply remain as lent."
-  pub fixed : r.number ≢ accepted → a.out ≡ over (refusal_in (length b.out) r.number) b.out
-  pub len_fixed : r.number ≢ accepted → r.len ≡ length (refusal_in (length b.out) r.number)
+  pub fixed : answer_number r.answer ≢ accepted → a.out ≡ over (refusal_in (length b.out) (answer_number r.answer)) b.out
+  pub len_fixed : answer_number r.answer ≢ accepted → r.len ≡ length (refusal_in (length b.out) (answer_number r.answer))
 
 -- A tally's numbers are at most 4294967295. The tally is brought up to date with the number and the bytes laid that
 -- were told.
@@ -55,7 +55,7 @@ OneMessage =
     (t : Tables) (fast slow message out fast' slow' out' : List ℕ) (n n' : Tally) (r : Answered) → n.laid ≤ 4294967295
     → Replied (state_of t fast slow) (answer (length out) (state_of t fast slow) (sent_alone message)) out
     (state_of r.tables fast' slow') out' r
-    → n' ≡ counted n (not (eqb r.number accepted)) r.laid
+    → n' ≡ counted n (not (eqb (answer_number r.answer) accepted)) r.laid
     → Obeys (record { state = state_of t fast slow; out = out; tally = n }) r
     (record { state = state_of r.tables fast' slow'; out = out'; tally = n' })
 

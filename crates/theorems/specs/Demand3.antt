@@ -10,10 +10,8 @@ use Rattle.tables.specs.Rules.{is_recent}
 use Rattle.steps.specs.declared.Call.{Call}
 use Rattle.steps.specs.Kinds.{kind_number}
 use Rattle.steps.specs.Stores.{contents}
-use Rattle.steps.specs.Steps.{currents}
+use Rattle.steps.specs.Steps.{Outcome, refuse, accept, currents}
 use Rattle.steps.specs.Effects.{State, joined}
-use Rattle.messages.specs.declared.Parsed.{Parsed}
-use Rattle.messages.specs.declared.Parsed.TheVariants.{Refused, Asked}
 use Rattle.messages.specs.Replies.{reply_in}
 use Rattle.messages.specs.Run.{Sent, asked, bytes_of, Turn, messages_of, Run, run}
 use Rattle.theorems.specs.Flat.{Flat, FlatPage, Slot, gone, here, slot_at, none, Reaction, flat_kind, react, react_to, flat_left, Answer, answers_of, accepts}
@@ -57,9 +55,9 @@ flat_answers f (x ∷ xs) (e ∷ es) = cond e [] (answers_of (reaction f x)) ++ 
 -- ---- "the run's replies to those same messages": those of the kinds that the flat memory answers, 1 to 5, and not
 -- answered 11
 
-abbrev pub is_answered : Parsed → Bool
-is_answered (Refused n) = false
-is_answered (Asked c) = flat_kind c
+abbrev pub is_answered : Outcome Call → Bool
+is_answered (refuse n) = false
+is_answered (accept c) = flat_kind c
 
 -- "each reply taken as its number and the bytes after its first six"
 abbrev pub answer_in : List ℕ → Answer
@@ -77,9 +75,9 @@ run_answers room (t ∷ ts) =
 abbrev pub lacks : Tables → Call → Bool
 lacks t c = (eqb (kind_number c.kind) 4 || eqb (kind_number c.kind) 5) && eqb (currents (page_at t c.page)) 0
 
-abbrev pub due : Flat → State → Parsed → List ℕ → Bool
-due f s (Refused n) bs = false
-due f s (Asked c) bs = accepts (react f c bs) && lacks s.tables c
+abbrev pub due : Flat → State → Outcome Call → List ℕ → Bool
+due f s (refuse n) bs = false
+due f s (accept c) bs = accepts (react f c bs) && lacks s.tables c
 
 -- where 11 is due, turn by turn, beside the flat memory at that point
 unfoldable pub dues : ℕ → Flat → List Turn → List Bool

@@ -1,9 +1,8 @@
 -- Document 01, "The flat memory". Of the kernel it uses what a message asks for (`Call`) and the number of its kind.
+use Rattle.steps.specs.Steps.{Outcome, refuse, accept}
 use Rattle.std.specs.Prelude.{ℕ, ◌+◌, Bool, true, false, not, ◌&&◌, ◌||◌, cond, List, [], ◌∷◌, ◌++◌, length, take, drop, get_or, set, replicate, leb, ltb, eqb}
 use Rattle.steps.specs.declared.Call.{Call}
 use Rattle.steps.specs.Kinds.{kind_number}
-use Rattle.messages.specs.declared.Parsed.{Parsed}
-use Rattle.messages.specs.declared.Parsed.TheVariants.{Refused, Asked}
 
 -- "State: each page absent, or an owner, 16 rights and 64 bytes."
 pub record FlatPage : Type 0 where
@@ -115,9 +114,9 @@ abbrev pub react : Flat → Call → List ℕ → Reaction
 react f c bs = react_as (kind_number c.kind) f c bs
 
 -- ".. and every message that by its own bytes falls under 1 to 4"
-unfoldable pub react_to : Flat → Parsed → List ℕ → Reaction
-react_to f (Refused n) bs = silent
-react_to f (Asked c) bs = react f c bs
+unfoldable pub react_to : Flat → Outcome Call → List ℕ → Reaction
+react_to f (refuse n) bs = silent
+react_to f (accept c) bs = react f c bs
 
 -- "a refusal changes nothing"
 abbrev pub flat_left : Flat → Reaction → Flat

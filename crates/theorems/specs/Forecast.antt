@@ -9,10 +9,9 @@ use Rattle.tables.specs.Rules.{frames_held, sound}
 use Rattle.steps.specs.Stores.{fits}
 use Rattle.steps.specs.Effects.{State, left, laid_by}
 use Rattle.messages.specs.declared.Tally.{Tally}
-use Rattle.messages.specs.declared.Figures.{Figures}
 use Rattle.messages.specs.Replies.{stopped, zero_tally}
 use Rattle.messages.specs.Run.{Turn, messages_of, run, replies, tally}
-use Rattle.messages.specs.Forecast.{numbers_counted, forecast}
+use Rattle.messages.specs.Forecast.{Forecast, numbers_counted, forecast}
 use Rattle.theorems.specs.Demand3.{reply_number}
 use Rattle.theorems.specs.Hidden.{SameBut}
 
@@ -35,7 +34,7 @@ abbrev pub how_many_get : ℕ → List Turn → ℕ → ℕ
 how_many_get room ts n = count (λ (r : List ℕ). eqb (reply_number r) n) (replies room ts)
 
 -- that f are these figures; "Figures stop at 4294967295"
-pub record FiguresOf (room : ℕ) (s : State) (ts : List Turn) (f : Figures) : Type 0 where
+pub record FiguresOf (room : ℕ) (s : State) (ts : List Turn) (f : Forecast) : Type 0 where
   pub number_is : f.number ≡ accepted
   -- never above P+S (`held_low`), so that no stop is needed
   pub most_is : f.most ≡ most_held s ts
@@ -48,7 +47,7 @@ pub record FiguresOf (room : ℕ) (s : State) (ts : List Turn) (f : Figures) : T
 -- ---- the tally
 
 -- that goes with figures f: the messages are the sum of the counts, the refusals that of all but number 0
-abbrev pub tally_forecast : Figures → Tally
+abbrev pub tally_forecast : Forecast → Tally
 tally_forecast f =
     record { messages = stopped (sum f.counts); refusals = stopped (sum (drop 1 f.counts)); laid = f.laid }
 

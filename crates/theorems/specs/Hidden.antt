@@ -11,11 +11,10 @@ use Rattle.tables.specs.Rules.{sound}
 use Rattle.steps.specs.declared.Kind.TheVariants.{Write}
 use Rattle.steps.specs.Kinds.{kind_number, is_read}
 use Rattle.steps.specs.Stores.{fits}
-use Rattle.steps.specs.Steps.{number_of}
+use Rattle.steps.specs.Steps.{Outcome, refuse, accept, number_of}
 use Rattle.steps.specs.Effects.{State, moved_by, laid_by}
 use Rattle.steps.specs.Promises.{state_of}
-use Rattle.messages.specs.declared.Parsed.{Parsed}
-use Rattle.messages.specs.declared.Parsed.TheVariants.{Refused, Asked}
+use Rattle.steps.specs.declared.Call.{Call}
 use Rattle.messages.specs.declared.Tally.{Tally}
 use Rattle.messages.specs.Messages.{length_at}
 use Rattle.messages.specs.Replies.{reply_in}
@@ -46,9 +45,9 @@ SameBut xs xs' = map message_covered xs ≡ map message_covered xs'
 
 -- ---- ".. give replies equal everywhere but in the data of reads, equal tables and equal tallies"
 
-abbrev pub asks_read : Parsed → Bool
-asks_read (Refused n) = false
-asks_read (Asked c) = is_read c.kind
+abbrev pub asks_read : Outcome Call → Bool
+asks_read (refuse n) = false
+asks_read (accept c) = is_read c.kind
 
 -- the reply r to message x, with the data of a read covered: "the bytes of a read" stand after its first six
 abbrev pub data_covered : Sent → List ℕ → List ℕ

@@ -13,8 +13,6 @@ use Rattle.steps.specs.Kinds.{offset, bytes, copy, frame, names, kinds, code, am
 use Rattle.steps.specs.Stores.{part, splice, block, lay_frame, zeros}
 use Rattle.steps.specs.Steps.{Outcome, refuse, accept, copy_at, first_current}
 use Rattle.steps.specs.Effects.{State, joined, Result, left}
-use Rattle.messages.specs.declared.Parsed.{Parsed}
-use Rattle.messages.specs.declared.Parsed.TheVariants.{Refused, Asked}
 use Rattle.messages.specs.Messages.{parse}
 use Rattle.messages.specs.Replies.{reply}
 use Rattle.messages.specs.Run.{Sent, cut, whole, split, messages_of, asked, Turn, bytes_of}
@@ -50,9 +48,9 @@ abbrev pub run_side : Kernel → List Answer
 run_side k = run_answers 70 (worked_by k)
 
 -- the right kernel, but for the calls that are picked
-abbrev pub except : (Call → Bool) → (Call → Outcome Result) → State → Sent → Parsed → Outcome Result
-except picked wrong s x (Refused n) = right_turn s x
-except picked wrong s x (Asked c) = cond (picked c) (wrong c) (right_turn s x)
+abbrev pub except : (Call → Bool) → (Call → Outcome Result) → State → Sent → Outcome Call → Outcome Result
+except picked wrong s x (refuse n) = right_turn s x
+except picked wrong s x (accept c) = cond (picked c) (wrong c) (right_turn s x)
 
 -- acknowledged, and nothing done
 abbrev pub acknowledged : State → ℕ → Outcome Result
@@ -179,9 +177,9 @@ early_messages e = false≢true (ap (λ (l : List Sent). eqb (length l) 6) e)
 
 -- one that stops at a message that is turned back by its own bytes: here L is 0, and the worked example after it is
 -- lost
-abbrev pub unless_refused : Parsed → List Sent → List Sent
-unless_refused (Refused n) xs = []
-unless_refused (Asked c) xs = xs
+abbrev pub unless_refused : Outcome Call → List Sent → List Sent
+unless_refused (refuse n) xs = []
+unless_refused (accept c) xs = xs
 
 abbrev pub stopping : List Sent → List Sent
 stopping [] = []

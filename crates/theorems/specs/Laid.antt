@@ -5,9 +5,14 @@ use Rattle.std.specs.Prelude.{ℕ, ◌≡◌, List, length}
 use Rattle.tables.specs.Model.{page_at}
 use Rattle.steps.specs.declared.Call.{Call}
 use Rattle.steps.specs.declared.Work.{Work}
-use Rattle.steps.specs.Steps.{page_for, decide_any}
+use Rattle.steps.specs.declared.Plan.{Plan}
+use Rattle.steps.specs.Steps.{Outcome, refuse, accept, no_work, page_for, decide_any}
 use Rattle.steps.specs.Effects.{bytes_laid, State, joined, step, laid_by}
-use Rattle.steps.specs.Promises.{work_of}
+
+-- of what a call comes to
+abbrev pub work_of : Outcome Plan → Work
+work_of (refuse n) = no_work
+work_of (accept plan) = plan.work
 
 -- the work of a call, which `stored` carries out; of a refused one `no_work`, which lays nothing
 abbrev pub work_for : State → Call → List ℕ → Work

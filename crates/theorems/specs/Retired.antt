@@ -11,8 +11,6 @@ use Rattle.steps.specs.Kinds.{is_retire}
 use Rattle.steps.specs.Stores.{block}
 use Rattle.steps.specs.Steps.{Outcome, refuse, accept}
 use Rattle.steps.specs.Effects.{bit, State, Result, joined, step}
-use Rattle.messages.specs.declared.Parsed.{Parsed}
-use Rattle.messages.specs.declared.Parsed.TheVariants.{Refused, Asked}
 use Rattle.messages.specs.Run.{asked, Turn, Run, run}
 use Rattle.theorems.specs.Clean.{ever_held}
 
@@ -21,10 +19,10 @@ abbrev pub three_numbers : Tables → ℕ
 three_numbers t = count_below (frames t) (free t) + frames_held t + count_below (frames t) (retired_at t)
 
 -- "Kind 12, retire (frame)": a message that asks for it, and was accepted
-abbrev pub retires_frame : Parsed → Outcome Result → ℕ → Bool
-retires_frame (Refused n) o f = false
-retires_frame (Asked c) (refuse n) f = false
-retires_frame (Asked c) (accept r) f = is_retire c.kind && eqb c.frame f
+abbrev pub retires_frame : Outcome Call → Outcome Result → ℕ → Bool
+retires_frame (refuse n) o f = false
+retires_frame (accept c) (refuse n) f = false
+retires_frame (accept c) (accept r) f = is_retire c.kind && eqb c.frame f
 
 -- one of the turns retired frame f
 abbrev pub ever_retired : List Turn → ℕ → Bool

@@ -5,10 +5,8 @@ use Rattle.steps.specs.Data.{each_is, formed}
 use Rattle.steps.specs.Stores.{part}
 use Rattle.steps.specs.Steps.{Outcome, refuse, accept}
 use Rattle.messages.specs.Messages.{next_at}
-use Rattle.stations.specs.declared.Reading.{Reading}
-use Rattle.stations.specs.declared.Reading.TheVariants.{Refused, Reply}
 use Rattle.stations.specs.Writer.{written_as}
-use Rattle.stations.specs.Reader.{is_reply, read_reply}
+use Rattle.stations.specs.Reader.{is_reply, read_reply, Reading, Refused, Reply}
 
 -- ---- the writer
 

@@ -2,26 +2,22 @@
 -- what the code gives: of whatever meets the contract of `write_call`, of the reader over messages and `parse`, and of
 -- what `read_reply` gives.
 use Rattle.std.specs.Prelude.{ℕ, ◌+◌, ◌≤◌, ◌<◌, ◌≡◌, true, false, List, [], ◌++◌, length, take, get_or}
-use Rattle.tables.specs.Numbers.{accepted}
+use Rattle.tables.specs.Numbers.{accepted, answer_number}
 use Rattle.steps.specs.declared.Kind.{Kind}
 use Rattle.steps.specs.declared.Call.{Call}
 use Rattle.steps.specs.Kinds.{bytes, is_unknown, kind_of, has, call_of}
 use Rattle.steps.specs.Calls.{outside}
 use Rattle.steps.specs.Stores.{part}
-use Rattle.steps.specs.Steps.{Outcome, number_of}
+use Rattle.steps.specs.Steps.{Outcome, accept, number_of}
 use Rattle.steps.specs.Effects.{State, Result, laid_by, data_of}
-use Rattle.messages.specs.declared.Parsed.TheVariants.{Asked}
 use Rattle.messages.specs.declared.Next.{Next}
 use Rattle.messages.specs.declared.Next.TheVariants.{Message, Cut, End}
 use Rattle.messages.specs.Messages.{parse, write_bytes, next_at}
 use Rattle.messages.specs.Replies.{reply_in}
 use Rattle.messages.specs.Run.{Sent, cut, whole, asked, answer}
 use Rattle.messages.specs.Promises.{sent_alone}
-use Rattle.stations.specs.declared.Written.{Written}
-use Rattle.stations.specs.declared.Reading.{Reading}
-use Rattle.stations.specs.declared.Reading.TheVariants.{Reply}
-use Rattle.stations.specs.Writer.{canonical, written, written_as}
-use Rattle.stations.specs.Reader.{read_reply}
+use Rattle.stations.specs.Writer.{Written, written_length, canonical, written, written_as}
+use Rattle.stations.specs.Reader.{Reading, Reply, read_reply}
 use Rattle.stations.specs.Promises.{Wrote}
 
 -- what a writer makes of a call and a write's bytes, in a buffer of so many bytes: a message, or the number of its
@@ -49,14 +45,14 @@ pub record CallRead (c : Call) (bs l : List ℕ) : Type 0 where
   -- the bytes after the length
   pub message : List ℕ
   pub sent : sent_alone l ≡ whole message
-  pub same_call : parse message ≡ Asked (canonical c)
+  pub same_call : parse message ≡ accept (canonical c)
   pub same_bytes : has bytes c.kind ≡ true → write_bytes message ≡ bs
 
 -- "Every call within document 01's ranges, written and read, is the same call": it is accepted, and so it is read of
 -- the message, whatever stands past it
 pub record CallKept (c : Call) (bs out' : List ℕ) (r : Written) : Type 0 where
-  pub number_told : r.number ≡ accepted
-  pub read : (rest : List ℕ) → CallRead c bs (take r.len out' ++ rest)
+  pub number_told : answer_number r ≡ accepted
+  pub read : (rest : List ℕ) → CallRead c bs (take (written_length r) out' ++ rest)
 
 abbrev pub CallsKept : Writer → Type 0
 CallsKept writes =
@@ -72,13 +68,13 @@ KindsWritten writes writes_as =
 -- "every message of those ranges that isn't refused 1 to 4, written again, has the same bytes": of a message m at the
 -- front of bytes l
 pub record MessageKept (m l out' : List ℕ) (r : Written) : Type 0 where
-  pub number_told : r.number ≡ accepted
-  pub len_told : r.len ≡ 2 + length m
-  pub same : take r.len out' ≡ take (2 + length m) l
+  pub number_told : answer_number r ≡ accepted
+  pub len_told : written_length r ≡ 2 + length m
+  pub same : take (written_length r) out' ≡ take (2 + length m) l
 
 abbrev pub MessagesKept : Writer → Type 0
 MessagesKept writes =
-    (m l : List ℕ) (c : Call) (out out' : List ℕ) (r : Written) → sent_alone l ≡ whole m → parse m ≡ Asked c
+    (m l : List ℕ) (c : Call) (out out' : List ℕ) (r : Written) → sent_alone l ≡ whole m → parse m ≡ accept c
     → outside 254 (length (write_bytes m)) c ≡ accepted → 71 ≤ length out
     → Wrote (writes (length out) c (write_bytes m)) out out' r → MessageKept m l out' r
 
@@ -88,7 +84,7 @@ MessagesKept writes =
 -- message is such a kind (`kind_byte`), and for a message cut short every known kind is (`of_cut`).
 pub record OfKind (kind : ℕ) (x : Sent) : Type 0 where
   pub known : is_unknown kind ≡ false
-  pub same : (c : Call) → asked x ≡ Asked c → c.kind ≡ kind_of kind
+  pub same : (c : Call) → asked x ≡ accept c → c.kind ≡ kind_of kind
 
 -- bytes l with a reply at their front are read as what the message came to
 pub record ReplyTold (reads : ReplyReader) (kind : ℕ) (l : List ℕ) (o : Outcome Result) : Type 0 where

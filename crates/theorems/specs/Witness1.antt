@@ -1,10 +1,12 @@
 -- Demand 1: for each field of `Obeys`, `TurnObeys`, `RunObeys` and `TallyObeys` a wrong answer, turn or tally that this
 -- field rules out and no other does, the numbers that it allows, and the least that it asks for. Computed.
-use Rattle.std.specs.Prelude.{ℕ, ◌<◌, ◌≡◌, refl, true, false, List, [], ◌∷◌, ◌≢◌, length, get_or, set, replicate, eqb}
+use Rattle.std.specs.Prelude.{ℕ, ◌<◌, ◌≡◌, refl, true, false, List, [], ◌∷◌, ◌≢◌, length, get_or, set, replicate, eqb, Err}
 use Rattle.std.proofs.Common.{ap, true≢false, arith}
 use Rattle.std.proofs.lemmas.Bool.{false≢true}
+use Rattle.tables.specs.declared.refusals.Refusal.TheVariants.{NoPage, TooManyFrames}
+use Rattle.tables.specs.declared.refusals.Refusal.{Refusal}
 use Rattle.tables.specs.Lists.{count, all_below, count_below}
-use Rattle.tables.specs.Numbers.{accepted, short_buffer}
+use Rattle.tables.specs.Numbers.{accepted, short_buffer, answer_number}
 use Rattle.tables.specs.Model.{absent, fresh_page, fresh_tables, page_at}
 use Rattle.tables.specs.Changes.{created, after}
 use Rattle.steps.specs.Stores.{over}
@@ -47,14 +49,14 @@ pub record Tried : Type 0 where
 
 module _ (w : Tried) where
   abbrev pub refused : Type 0
-  refused = w.told.number ≢ accepted
+  refused = answer_number w.told.answer ≢ accepted
 
   abbrev pub six_bytes : List ℕ
-  six_bytes = refusal_in (length w.before.out) w.told.number
+  six_bytes = refusal_in (length w.before.out) (answer_number w.told.answer)
 
   abbrev pub Tells : Part → Type 0
-  Tells in_table = allowed w.told.number ≡ true
-  Tells short = length w.before.out < 70 → w.told.number ≡ short_buffer
+  Tells in_table = allowed (answer_number w.told.answer) ≡ true
+  Tells short = length w.before.out < 70 → answer_number w.told.answer ≡ short_buffer
   Tells unchanged = refused → w.after.state ≡ w.before.state
   Tells none_laid = refused → w.told.laid ≡ 0
   Tells tallied = refused → w.after.tally ≡ refused_once w.before.tally
@@ -100,8 +102,8 @@ buffer₇₀ = replicate 70 0xAA
 abbrev pub tally_of : ℕ → ℕ → ℕ → Tally
 tally_of m n laid = record { messages = m; refusals = n; laid = laid }
 
-abbrev pub told : ℕ → ℕ → ℕ → Answered
-told number len laid = record { number = number; len = len; laid = laid; moved = false; tables = fresh_tables 1 1 }
+abbrev pub told : Refusal → ℕ → ℕ → Answered
+told refusal len laid = record { answer = Err refusal; len = len; laid = laid; moved = false; tables = fresh_tables 1 1 }
 
 abbrev pub tried : List ℕ → Answered → State → List ℕ → ℕ → Tried
 tried out r s out' laid =
@@ -116,18 +118,18 @@ nine = over (0 ∷ 4 ∷ 1 ∷ 9 ∷ 0 ∷ 0 ∷ []) buffer₇₀
 
 abbrev pub wrong_answer : Part → Tried
 -- a number that is for making tables
-wrong_answer in_table = tried buffer₇₀ (told 19 6 0) start (over (0 ∷ 4 ∷ 1 ∷ 19 ∷ 0 ∷ 0 ∷ []) buffer₇₀) 5
+wrong_answer in_table = tried buffer₇₀ (told TooManyFrames 6 0) start (over (0 ∷ 4 ∷ 1 ∷ 19 ∷ 0 ∷ 0 ∷ []) buffer₇₀) 5
 -- 9 where 18 comes first
-wrong_answer short = tried [] (told 9 0 0) start [] 5
+wrong_answer short = tried [] (told NoPage 0 0) start [] 5
 -- a byte of the fast store changed
-wrong_answer unchanged = tried buffer₇₀ (told 9 6 0)
+wrong_answer unchanged = tried buffer₇₀ (told NoPage 6 0)
     (record { tables = start.tables; fast = set fast_bytes 0 0; slow = slow_bytes }) nine 5
 -- bytes laid: told, or tallied, or in the reply
-wrong_answer none_laid = tried buffer₇₀ (told 9 6 64) start nine 5
-wrong_answer tallied = tried buffer₇₀ (told 9 6 0) start nine 69
-wrong_answer fixed = tried buffer₇₀ (told 9 6 0) start (over (0 ∷ 4 ∷ 1 ∷ 9 ∷ 0 ∷ 64 ∷ []) buffer₇₀) 5
+wrong_answer none_laid = tried buffer₇₀ (told NoPage 6 64) start nine 5
+wrong_answer tallied = tried buffer₇₀ (told NoPage 6 0) start nine 69
+wrong_answer fixed = tried buffer₇₀ (told NoPage 6 0) start (over (0 ∷ 4 ∷ 1 ∷ 9 ∷ 0 ∷ 64 ∷ []) buffer₇₀) 5
 -- the whole buffer told to be the reply
-wrong_answer len_fixed = tried buffer₇₀ (told 9 70 0) start nine 5
+wrong_answer len_fixed = tried buffer₇₀ (told NoPage 70 0) start nine 5
 
 abbrev pub PartRow : Part → Part → Type 0
 PartRow i j = But (eqb (part_place i) (part_place j)) (Tells (wrong_answer i) j)

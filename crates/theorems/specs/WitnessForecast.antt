@@ -18,10 +18,9 @@ use Rattle.steps.specs.Steps.{refuse, accept}
 use Rattle.steps.specs.Effects.{State}
 use Rattle.steps.specs.Promises.{state_of}
 use Rattle.messages.specs.declared.Tally.{Tally}
-use Rattle.messages.specs.declared.Figures.{Figures}
 use Rattle.messages.specs.Replies.{reply, stopped, up_to, zero_tally}
 use Rattle.messages.specs.Run.{Sent, cut, whole, messages_of, Turn, run, replies, tally}
-use Rattle.messages.specs.Forecast.{Foreseen, foreseen, no_counts, counted_under, at_start, with_message, forecast_of}
+use Rattle.messages.specs.Forecast.{Forecast, Foreseen, foreseen, no_counts, counted_under, at_start, with_message, forecast_of}
 use Rattle.messages.specs.Forecast.{forecast}
 use Rattle.theorems.specs.Demand3.{reply_number}
 use Rattle.theorems.specs.Cases.{run_on, refused_with, laid_reply}
@@ -55,14 +54,14 @@ turns₈ = (run_on state₈ file₈).turns
 abbrev pub replies₈ : List (List ℕ)
 replies₈ = laid_reply 64 ∷ refused_with 20 ∷ laid_reply 128 ∷ refused_with 1 ∷ []
 
-abbrev pub some_figures : ℕ → ℕ → ℕ → List ℕ → Figures
+abbrev pub some_figures : ℕ → ℕ → ℕ → List ℕ → Forecast
 some_figures number most laid counts = record { number = number; most = most; laid = laid; counts = counts }
 
 -- so many messages under 0, 1 and 20
 abbrev pub under : ℕ → ℕ → ℕ → List ℕ
 under a b c = a ∷ b ∷ replicate 18 0 ++ (c ∷ replicate 11 0)
 
-abbrev pub figures₈ : Figures
+abbrev pub figures₈ : Forecast
 figures₈ = some_figures 0 2 192 (under 2 1 1)
 
 pub right_forecast : forecast tables₈ file₈ ≡ figures₈
@@ -102,7 +101,7 @@ place none_other = 5
 -- turns, and the figures that they are said to have
 pub record Claim : Type 0 where
   pub turns : List Turn
-  pub figures : Figures
+  pub figures : Forecast
 
 module _ (w : Claim) where
   abbrev pub Says : Field → Type 0
@@ -243,32 +242,32 @@ alone none_other = each (Row none_other) refl start_held refl none_counted refl 
 -- ---- wrong forecasts of the file
 
 -- what a forecast gives, and that the run has other figures
-abbrev pub Caught : Figures → Figures → Type 0
+abbrev pub Caught : Forecast → Forecast → Type 0
 Caught given f = (given ≡ f) × (FiguresOf 70 state₈ turns₈ f → ⊥)
 
-other_most : (f : Figures) → eqb f.most 2 ≡ false → FiguresOf 70 state₈ turns₈ f → ⊥
+other_most : (f : Forecast) → eqb f.most 2 ≡ false → FiguresOf 70 state₈ turns₈ f → ⊥
 other_most f e k = false≢true (sym e ∙ ap (λ (n : ℕ). eqb n 2) (k.most_is ∙ right_most))
 
 -- other bytes laid, where what is laid is known, and as it is
-laid_apart : stopped (laid_in_all turns₈) ≡ 192 → (f : Figures) → eqb f.laid 192 ≡ false
+laid_apart : stopped (laid_in_all turns₈) ≡ 192 → (f : Forecast) → eqb f.laid 192 ≡ false
     → FiguresOf 70 state₈ turns₈ f → ⊥
 laid_apart is f e k = false≢true (sym e ∙ ap (λ (n : ℕ). eqb n 192) (k.laid_is ∙ is))
 
-other_laid : (f : Figures) → eqb f.laid 192 ≡ false → FiguresOf 70 state₈ turns₈ f → ⊥
+other_laid : (f : Forecast) → eqb f.laid 192 ≡ false → FiguresOf 70 state₈ turns₈ f → ⊥
 unfolding run_on
 other_laid = laid_apart refl
 
 -- one message under 1
-other_cut : (f : Figures) → eqb (get_or f.counts 1 0) 1 ≡ false → FiguresOf 70 state₈ turns₈ f → ⊥
+other_cut : (f : Forecast) → eqb (get_or f.counts 1 0) 1 ≡ false → FiguresOf 70 state₈ turns₈ f → ⊥
 other_cut f e k =
     false≢true (sym e ∙ ap (λ (n : ℕ). eqb n 1) (k.counts_are 1 (omega arith) ∙ sym (right_counts 1 (omega arith))))
 
 -- a forecast from the figures f on, where a message is added by `add`
-unfoldable pub foretold_by : (Figures → Foreseen → Figures) → Figures → Tables → List Sent → Figures
+unfoldable pub foretold_by : (Forecast → Foreseen → Forecast) → Forecast → Tables → List Sent → Forecast
 foretold_by add f t [] = f
 foretold_by add f t (x ∷ xs) = foretold_by add (add f (foreseen t x)) (foreseen t x).tables xs
 
-abbrev pub adding : (Figures → Foreseen → Figures) → Figures
+abbrev pub adding : (Forecast → Foreseen → Forecast) → Forecast
 adding add = foretold_by add (at_start tables₈) tables₈ (messages_of file₈)
 
 -- the frames held at the end alone
@@ -280,7 +279,7 @@ unfolding run_on foretold_by up_to count_below
 end_alone = (refl, other_most _ refl)
 
 -- a forecast with another count of the frames held
-abbrev pub counting : (Tables → ℕ) → Figures
+abbrev pub counting : (Tables → ℕ) → Forecast
 counting held =
     foretold_by
     (λ f m. let g = with_message f m in some_figures g.number (max f.most (held m.tables)) g.laid g.counts)
@@ -358,7 +357,7 @@ unfolding up_to
 counts_stop = (refl, refl, refl)
 
 -- 64 bytes more than so many, with a message that is accepted
-abbrev pub with_laid : ℕ → Figures
+abbrev pub with_laid : ℕ → Forecast
 with_laid laid = with_message (some_figures 0 0 laid no_counts)
     (record { number = 0; laid = 64; tables = fresh_tables 1 1 })
 
@@ -398,7 +397,7 @@ broken_zeros = (refl, refl)
 -- a message counted under 5
 pub five_counted : forecast broken.tables file₃ ≡ some_figures 5 0 0 (set no_counts 5 1) → ⊥
 unfolding run_on
-five_counted e = true≢false (ap (λ (f : Figures). eqb (get_or f.counts 5 0) 0) e)
+five_counted e = true≢false (ap (λ (f : Forecast). eqb (get_or f.counts 5 0) 0) e)
 
 -- ---- the least that `Foretold` asks for
 

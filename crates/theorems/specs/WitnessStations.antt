@@ -2,22 +2,21 @@
 -- hypothesis, which asks no more than the request does. A reader that breaks `replies`, `differ` or `past` keeps the
 -- other two, a writer that breaks `calls` keeps `by_kind` and `messages`, and one by kind bytes breaks `by_kind` alone.
 -- What breaks `messages` breaks `calls` too: a call's message has just one form.
-use Rattle.std.specs.Prelude.{ℕ, zero, suc, ◌+◌, ◌<◌, ◌≡◌, refl, Bool, true, false, ◌&&◌, ◌||◌, cond, List, [], ◌∷◌, ◌++◌, length, drop, get_or, replicate, ltb, eqb}
+use Rattle.std.specs.Prelude.{ℕ, zero, suc, ◌+◌, ◌<◌, ◌≡◌, refl, Bool, true, false, ◌&&◌, ◌||◌, cond, List, [], ◌∷◌, ◌++◌, length, drop, get_or, replicate, ltb, eqb, Ok, Err}
 use Rattle.std.proofs.Common.{sym, ap, subst, ◌∙◌, true≢false, arith, eq-eqb}
+use Rattle.tables.specs.declared.refusals.Refusal.TheVariants.{OutOfRange}
 use Rattle.steps.specs.declared.Kind.{Kind}
 use Rattle.steps.specs.declared.Kind.TheVariants.{Create, MakeCopy}
 use Rattle.steps.specs.declared.Call.{Call}
 use Rattle.steps.specs.Kinds.{names, tells, kinds, kind_number, code, among, is_unknown, kind_of, least_length, most_length, argument, call_of, value, values}
 use Rattle.steps.specs.Data.{each_is, formed}
 use Rattle.steps.specs.Stores.{part, over}
-use Rattle.steps.specs.Steps.{Outcome, refuse, number_of}
-use Rattle.messages.specs.declared.Parsed.TheVariants.{Refused, Asked}
+use Rattle.steps.specs.Steps.{Outcome, refuse, accept, number_of}
 use Rattle.messages.specs.Messages.{is_foreign, parse, write_bytes, next_at}
 use Rattle.messages.specs.Replies.{reply_in}
 use Rattle.messages.specs.Run.{cut, whole, answer}
-use Rattle.stations.specs.declared.Reading.{Reading}
 use Rattle.stations.specs.Writer.{message_of, canonical, written, written_as}
-use Rattle.stations.specs.Reader.{is_reply, read_reply}
+use Rattle.stations.specs.Reader.{is_reply, read_reply, Reading}
 use Rattle.stations.specs.Promises.{Wrote}
 use Rattle.theorems.specs.Stations.{CallKept, CallsKept, KindsWritten, MessageKept, MessagesKept, OfKind, ReplyTold, RepliesTold, reply_at, RepliesDiffer, PastUnread, Exchange}
 use Rattle.theorems.specs.Witness3.{start}
@@ -140,7 +139,7 @@ record Made (c : Call) : Type 0 where
   arguments : List ℕ
   is : c ≡ call_of kind arguments
 
-asked_made : (m : List ℕ) (c : Call) → parse m ≡ Asked c → Made c
+asked_made : (m : List ℕ) (c : Call) → parse m ≡ accept c → Made c
 unfolding parse
 asked_made m c =
     let k = kind_of (get_or m 1 0) in
@@ -148,9 +147,9 @@ asked_made m c =
     (ltb (length m) (least_length k) || ltb (most_length k) (length m))
   where
     go : (a b d : Bool)
-        → cond a (Refused 2) (cond b (Refused 3)
-        (cond d (Refused 4) (Asked (call_of (kind_of (get_or m 1 0)) (drop 2 m)))))
-        ≡ Asked c → Made c
+        → cond a (refuse 2) (cond b (refuse 3)
+        (cond d (refuse 4) (accept (call_of (kind_of (get_or m 1 0)) (drop 2 m)))))
+        ≡ accept c → Made c
     go true b d e = let z : ◌≡◌ {A = ℕ} 0 1 = cc in absurd (omega arith)
     go false true d e = let z : ◌≡◌ {A = ℕ} 0 1 = cc in absurd (omega arith)
     go false false true e = let z : ◌≡◌ {A = ℕ} 0 1 = cc in absurd (omega arith)
@@ -168,7 +167,7 @@ calls_alone x = (
   λ k.
       omega (
         arith,
-        (k idle [] lent71 lent71 (record { number = 7; len = 0 }) refl (omega arith)
+        (k idle [] lent71 lent71 (Err OutOfRange) refl (omega arith)
             (record { number_told = refl; len_told = refl; buffer_out = refl })).number_told,
       ),
   λ room kind arguments bs known.
@@ -192,7 +191,7 @@ messages_ruled k =
     omega (
       arith,
       (k (1 ∷ 10 ∷ 5 ∷ []) (0 ∷ 3 ∷ 1 ∷ 10 ∷ 5 ∷ []) (call_of (kind_of 10) (5 ∷ [])) lent71 lent71
-          (record { number = 7; len = 0 }) refl
+          (Err OutOfRange) refl
           refl refl (omega arith) (record { number_told = refl; len_told = refl; buffer_out = refl })).number_told,
     )
 
@@ -203,22 +202,22 @@ messages_ruled k =
 abbrev pub largest : Call
 largest = call_of MakeCopy (63 ∷ 255 ∷ 253 ∷ [])
 
-pub calls_at_71 : Exchange → CallKept largest [] (over (message_of largest []) lent71) (record { number = 0; len = 7 })
+pub calls_at_71 : Exchange → CallKept largest [] (over (message_of largest []) lent71) (Ok 7)
 unfolding written kinds names code among argument call_of value values
 calls_at_71 x =
-    x.calls largest [] lent71 (over (message_of largest []) lent71) (record { number = 0; len = 7 }) refl (omega arith)
+    x.calls largest [] lent71 (over (message_of largest []) lent71) (Ok 7) refl (omega arith)
     (record { number_told = refl; len_told = refl; buffer_out = refl })
 
 abbrev pub longest : List ℕ
 longest = 1 ∷ 5 ∷ 15 ∷ 63 ∷ 0 ∷ replicate 64 7
 
 pub messages_at_71 : Exchange
-    → MessageKept longest (0 ∷ 69 ∷ (longest ++ (9 ∷ []))) (0 ∷ 69 ∷ longest) (record { number = 0; len = 71 })
+    → MessageKept longest (0 ∷ 69 ∷ (longest ++ (9 ∷ []))) (0 ∷ 69 ∷ longest) (Ok 71)
 unfolding written parse next_at part kinds names code among argument call_of value values
 messages_at_71 x =
     x.messages longest (0 ∷ 69 ∷ (longest ++ (9 ∷ []))) (call_of (kind_of 5) (15 ∷ 63 ∷ 0 ∷ replicate 64 7)) lent71
     (0 ∷ 69 ∷ longest)
-    (record { number = 0; len = 71 }) refl refl refl (omega arith)
+    (Ok 71) refl refl refl (omega arith)
     (record { number_told = refl; len_told = refl; buffer_out = refl })
 
 -- kind 12, the last one

@@ -1,11 +1,13 @@
 -- Borders of the statements about steps and their states: `StaysSound`, `AsSearched`, `Together`, `Unmoved` and
 -- `BytesCounted`, each on tables, stores and buffers at the border of what it is said of, and a computed case or two.
-use Rattle.std.specs.Prelude.{ℕ, ◌≡◌, refl, true, false, List, [], ◌∷◌, length, get_or, replicate, set, eqb}
+use Rattle.std.specs.Prelude.{ℕ, ◌≡◌, refl, true, false, List, [], ◌∷◌, Ok, length, get_or, replicate, set, eqb}
 use Rattle.std.proofs.Common.{ap, arith}
 use Rattle.std.proofs.lemmas.Bool.{false≢true}
 use Rattle.tables.specs.declared.Copy.{Copy}
 use Rattle.tables.specs.declared.Page.{Page}
 use Rattle.tables.specs.declared.Tables.{Tables}
+use Rattle.tables.specs.declared.Holder.TheVariants.{Free}
+use Rattle.tables.specs.declared.Edit.TheVariants.{Kept}
 use Rattle.tables.specs.Numbers.{accepted, broken_tables}
 use Rattle.tables.specs.Model.{fresh_tables, page_at}
 use Rattle.tables.specs.Rules.{sound}
@@ -15,11 +17,12 @@ use Rattle.tables.specs.Changes.{created, with_copies}
 use Rattle.steps.specs.declared.Kind.TheVariants.{Create, LookFrame}
 use Rattle.steps.specs.declared.Call.{Call}
 use Rattle.steps.specs.declared.Lay.TheVariants.{Nothing, ZerosEach, Spread}
-use Rattle.steps.specs.declared.Work.TheVariants.{Lays}
+use Rattle.steps.specs.declared.Show.{Show}
+use Rattle.steps.specs.declared.Work.TheVariants.{Shows, Lays}
 use Rattle.steps.specs.Kinds.{call_of}
-use Rattle.steps.specs.Steps.{page_for, decide, decide_any}
+use Rattle.steps.specs.Steps.{outcome_of, plan_of, page_for, decide, decide_any}
 use Rattle.steps.specs.Effects.{bytes_laid, State, joined, step, left, moved_by, laid_by}
-use Rattle.steps.specs.Promises.{decision_of, carried}
+use Rattle.steps.specs.Promises.{decision_on, decision_of, carried}
 use Rattle.messages.specs.declared.Tally.{Tally}
 use Rattle.messages.specs.declared.Answered.{Answered}
 use Rattle.messages.specs.declared.Ran.{Ran}
@@ -28,7 +31,7 @@ use Rattle.messages.specs.Run.{Sent, answer, run, part_from}
 use Rattle.messages.specs.Promises.{Replied, RunEnded, PartEnded}
 use Rattle.theorems.specs.Sound.{EveryState, rules_on, StaysSound}
 use Rattle.theorems.specs.Searched.{step_searched, AsSearched}
-use Rattle.theorems.specs.Together.{Carried, IsStep, Together}
+use Rattle.theorems.specs.Together.{Decided, Carried, IsStep, Together}
 use Rattle.theorems.specs.Unmoved.{Unmoved}
 use Rattle.theorems.specs.Laid.{work_for, BytesCounted}
 use Rattle.theorems.specs.Witness3.{file₃, start, broken, made}
@@ -73,27 +76,29 @@ searched_on_broken k = k.every_step broken
 abbrev pub out₆₄ : List ℕ
 out₆₄ = replicate 64 0xAA
 
-module _ (c : Call) (bs : List ℕ) (t' : Tables) (fast' slow' out' : List ℕ) where
-  pub together_at_64 : Together
-      → let d = decision_of start.tables c (decide start.tables c (length bs)) in
-      Carried start bs out₆₄ d t' fast' slow' out' → IsStep start c bs out₆₄ d t' fast' slow' out'
-  together_at_64 k h = k.decided start c bs out₆₄ _ t' fast' slow' out' start_ruled (omega arith) refl h
+module _ (c : Call) (bs : List ℕ) (r : Decided) (t' : Tables) (fast' slow' out' : List ℕ) where
+  pub together_at_64 : Together → outcome_of r ≡ decision_of start.tables c (decide start.tables c (length bs))
+      → Carried start bs out₆₄ r t' fast' slow' out' → IsStep start c bs out₆₄ r t' fast' slow' out'
+  together_at_64 k e h = k.decided start c bs out₆₄ r t' fast' slow' out' start_ruled (omega arith) e h
 
-  pub any_at_64 : Together
-      → let d = decision_of broken.tables c (decide_any broken.tables 64 64 c (length bs)) in
-      Carried broken bs out₆₄ d t' fast' slow' out' → IsStep broken c bs out₆₄ d t' fast' slow' out'
-  any_at_64 k h = k.decided_any broken c bs out₆₄ _ t' fast' slow' out' (omega arith) refl h
+  pub any_at_64 : Together → outcome_of r ≡ decision_of broken.tables c (decide_any broken.tables 64 64 c (length bs))
+      → Carried broken bs out₆₄ r t' fast' slow' out' → IsStep broken c bs out₆₄ r t' fast' slow' out'
+  any_at_64 k e h = k.decided_any broken c bs out₆₄ r t' fast' slow' out' (omega arith) e h
 
--- with a byte less nothing is shown, and that is no step: a look at frame 0
+-- with a byte less nothing is shown, and that is no step: a look at frame 0, which is free
 abbrev pub out₆₃ : List ℕ
 out₆₃ = replicate 63 0xAA
 
+abbrev pub looked : Decided
+looked = Ok (decision_on 0 (page_at start.tables 0) (plan_of Kept 255 0 3 (Shows (Show.Holder Free))))
+
 pub not_at_63 : let c = call_of LookFrame (0 ∷ []) in
-    let d = decision_of start.tables c (decide start.tables c 0) in
-    Carried start [] out₆₃ d start.tables start.fast start.slow out₆₃
-    × (IsStep start c [] out₆₃ d start.tables start.fast start.slow out₆₃ → ⊥)
+    (outcome_of looked ≡ decision_of start.tables c (decide start.tables c 0))
+    × Carried start [] out₆₃ looked start.tables start.fast start.slow out₆₃
+    × (IsStep start c [] out₆₃ looked start.tables start.fast start.slow out₆₃ → ⊥)
 unfolding run_on carried
 not_at_63 = (
+  refl,
   record { carry_left = refl; settle_gave = refl },
   λ h. false≢true (ap (λ (l : List ℕ). eqb (get_or l 0 0) 0) h.stepped.data_out),
 )

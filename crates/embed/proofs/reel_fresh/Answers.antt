@@ -6,7 +6,7 @@ use Rattle.embed.proofs.reel_fresh.Goals as goal
 pub returns-then-tables-ne-TABLES_SIZE : goal.returns-then-tables-ne-TABLES_SIZE
 returns-then-tables-ne-TABLES_SIZE c =
     let e = ne_eqb _ _ c.if-tables-ne-TABLES_SIZE.true in
-    record { value = rw e; tables_after = rw e }
+    record { value = rw (c.from.ensures, e); tables_after = rw e }
 
 pub returns : goal.returns
 returns c =

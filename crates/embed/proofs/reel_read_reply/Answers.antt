@@ -3,9 +3,7 @@ use Prim.Native.Nat.{ℕ}
 use mathlib.Core.Path.{◌≡◌, sym, ap, ◌∙◌}
 use mathlib.Core.List.{List}
 use native.Mathlib.Omega.{arith}
-use Rattle.stations.specs.declared.Reading.{Reading}
-use Rattle.stations.specs.declared.Reading.TheVariants.{Refused, Reply}
-use Rattle.stations.specs.Reader.{read_reply}
+use Rattle.stations.specs.Reader.{read_reply, Reading, Refused, Reply, reading}
 use Rattle.stations.proofs.ReaderLaws.{read_within}
 use Rattle.embed.specs.Exports.{reading_number}
 use Rattle.embed.specs.Private.{Low}
@@ -18,7 +16,7 @@ low kind l (Reply number laid start len) e =
     (omega (arith, w.0), omega (arith, w.1))
 
 pub reading_number-requires : goal.reading_number-requires
-reading_number-requires c = low _ _ c.read_reply-told.result (sym c.read_reply-told.ensures.told)
+reading_number-requires c = low _ _ (reading c.read_reply-told.result) (sym c.read_reply-told.ensures.told)
 
 pub returns : goal.returns
 returns c = c.reading_number.ensures ∙ ap reading_number c.read_reply-told.ensures.told

@@ -1,40 +1,22 @@
--- `marks_valid`. The pages from i on give the answer.
-use Prim.Native.Nat.{◌*◌}
+-- `marks_valid` tests each page.
+use Prim.Native.Nat.{◌*◌, ◌-◌}
 use mathlib.Core.Bool.{true, false}
-use mathlib.Core.Path.{◌≡◌, refl, sym, ◌∙◌}
-use native.Mathlib.Omega.{arith}
-use lib.ListN.{drop}
-use lib.Seq.{drop-drop}
+use mathlib.Core.Path.{◌≡◌, refl, ap, ◌∙◌}
 use borrow.Author.Rules.{rules}
-use Rattle.steps.proofs.DataLaws.{each_next}
-use Rattle.steps.specs.Data.{each_is}
+use lib.ListN.{drop, take, length}
+use Rattle.std.proofs.lemmas.List.{take_rest}
+use Rattle.std.proofs.lemmas.Iterator.{cases_from_all, YieldsList-from_range}
 use Rattle.embed.specs.Bytes.{page_size, page_marks_valid, marks_valid}
+use Rattle.embed.proofs.Rows.{each_tested}
 use Rattle.embed.proofs.image.marks_valid.Goals as goal
 
-pub loop-i-init : goal.loop-i-init
-unfolding marks_valid
-loop-i-init c = (search rules, refl)
-
-pub returns-then-not-page_marks_valid : goal.returns-then-not-page_marks_valid
-returns-then-not-page_marks_valid c =
-    let bytes = c.args.bytes.now in
-    let i = c.loop-i.i in
-    let e : page_marks_valid (drop (page_size * i) (drop 2 bytes)) ≡ false =
-    rw (drop-drop (page_size * i) 2 bytes) (sym c.page_marks_valid.ensures ∙ c.if-not-page_marks_valid.true) in
-    let next = each_next page_size page_marks_valid 64 i (drop 2 bytes) (omega arith) in
-    sym (sym c.loop-i.invariant.1 ∙ next ∙ rw e)
-
-pub loop-i-preserved : goal.loop-i-preserved
-loop-i-preserved c =
-    let bytes = c.args.bytes.now in
-    let i = c.loop-i.i in
-    let e : page_marks_valid (drop (page_size * i) (drop 2 bytes)) ≡ true =
-    rw (drop-drop (page_size * i) 2 bytes) (sym c.page_marks_valid.ensures ∙ c.if-not-page_marks_valid.false) in
-    let next = each_next page_size page_marks_valid 64 i (drop 2 bytes) (omega arith) in
-    (search rules, sym (rw e at next) ∙ c.loop-i.invariant.1)
-
 pub returns : goal.returns
-unfolding each_is
+unfolding marks_valid
 returns c =
-    let e : c.loop-i.i ≡ 64 = omega arith in
-    rw e at c.loop-i.invariant.1
+    let bytes = c.args.bytes.now in
+    let pages = take (length bytes - 2) (drop 2 bytes) in
+    each_tested page_size page_marks_valid 64 pages c.all.result
+    (cases_from_all _ _ _ (λ i. page_marks_valid (drop (page_size * i) pages) ≡ true)
+    (λ i. page_marks_valid (drop (page_size * i) pages) ≡ false) c.all.ensures.ran (YieldsList-from_range 0 64 64 refl refl)
+    (λ i q called. (ap (λ s. record { 0 = s }) called.met.1, search rules)) (λ i q called. search rules))
+    ∙ rw take_rest

@@ -1,25 +1,14 @@
 -- `put_copies`. The entries before i are laid.
-use mathlib.Core.Path.{◌≡◌, refl}
+use mathlib.Core.Path.{refl, ◌∙◌}
 use native.Mathlib.Omega.{arith}
-use lib.ListN.{length}
-use borrow.Author.Rules.{rules}
 use Rattle.tables.specs.Model.{zero_copy}
-use Rattle.embed.proofs.Rows.{laid_none, laid_more, laid_all, laid_far}
+use Rattle.embed.proofs.Rows.{laid_none, laid_more}
 use Rattle.embed.proofs.image.put_copies.Goals as goal
 
 pub loop-i-init : goal.loop-i-init
-loop-i-init c = (search rules, refl, laid_none)
+loop-i-init c = laid_none
 
 pub loop-i-preserved : goal.loop-i-preserved
 loop-i-preserved c =
-    let n : length c.args.copies ≡ 8 = search rules in
-    let l = c.loop-i in
-    let e = c.put_copy.ensures in
-    (search rules, search rules, laid_more zero_copy l.invariant.2 (omega arith) refl e)
-
-pub returns : goal.returns
-returns c =
-    let n : length c.args.copies ≡ 8 = search rules in
-    let l = c.loop-i in
-    let e : l.i ≡ 8 = omega arith in
-    record { bytes_after = laid_all l.invariant.2 (omega arith); copies_len = rw e at (laid_far l.invariant.2 (omega arith)) }
+    let e = c.copy_from_slice.ensures.after in
+    laid_more zero_copy c.loop-i.invariant (omega arith) (omega arith) (e ∙ c.copy_bytes.ensures) (rw (e, c.copy_bytes.ensures) refl)

@@ -1,41 +1,15 @@
--- `next_at` meets its contract: each way out decides the tests of `next_at`; what the answer means is the law
--- `yields_at`. One byte that is left is by the laws that the function names.
-use Prim.Native.Nat.{◌+◌}
-use native.Mathlib.Omega.{arith}
-use lib.ListN.{length}
-use borrow.Author.Tests.{le-ltb, lt-ltb, le-leb, lt-leb}
-use Rattle.messages.specs.Messages.{length_at, next_at}
-use Rattle.messages.proofs.ReaderLaws.{yields_at}
+-- `next_at` meets its contract: what is left of the file is nothing, or begins with a length. One byte that is left is
+-- by the laws that the function names.
+use Rattle.messages.proofs.ReaderLaws.{yields_end, yields_short, yields_message}
 use Rattle.messages.proofs.reading.next_at.Goals as goal
 
-pub returns-then-at-end : goal.returns-then-at-end
-unfolding next_at
-returns-then-at-end c = yields_at _ _ _ (simp (le-leb _ _ c.if-at-end.true))
+pub returns-in-empty : goal.returns-in-empty
+returns-in-empty c = yields_end _ _ _ c.bytes_from.ensures c.in-empty.len_below
 
-pub overflow_cast-len : goal.overflow_cast-len
-overflow_cast-len c = omega (arith, c.shared_slice_known-1.given c.args.at)
+pub returns-then-rest-len : goal.returns-then-rest-len
+returns-then-rest-len c =
+    yields_short _ _ _ c.bytes_from.ensures c.in-len2-up.len_at_least _ c.from_be_bytes-len.ensures c.if-rest-len.true
 
-pub overflow_mul-len : goal.overflow_mul-len
-overflow_mul-len c = omega (arith, c.shared_slice_known-1.given c.args.at)
-
-pub overflow_cast-len-2 : goal.overflow_cast-len-2
-overflow_cast-len-2 c = omega (arith, c.shared_slice_known-2-1.given (c.args.at + 1))
-
-pub overflow_add-len-2 : goal.overflow_add-len-2
-overflow_add-len-2 c = omega (arith, c.shared_slice_known-1.given c.args.at, c.shared_slice_known-2-1.given (c.args.at + 1))
-
-pub returns-then-left-len : goal.returns-then-left-len
-unfolding next_at
-returns-then-left-len c =
-    let v = c.args in
-    let l = v.file.now in
-    let a = v.at in
-    yields_at l a _ (simp (lt-leb (length l) a (omega arith), le-ltb (length l) (a + 2) (omega arith), lt-ltb (length l) (a + 2 + length_at l a) (omega arith)))
-
-pub returns : goal.returns
-unfolding next_at
-returns c =
-    let v = c.args in
-    let l = v.file.now in
-    let a = v.at in
-    yields_at l a _ (simp (lt-leb (length l) a (omega arith), le-ltb (length l) (a + 2) (omega arith), le-ltb (length l) (a + 2 + length_at l a) (omega arith)))
+pub returns-else-rest-len : goal.returns-else-rest-len
+returns-else-rest-len c =
+    yields_message _ _ _ c.bytes_from.ensures c.in-len2-up.len_at_least _ c.from_be_bytes-len.ensures c.if-rest-len.false
