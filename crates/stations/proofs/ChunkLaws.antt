@@ -49,8 +49,10 @@ module _ {F : Type 0} {g : Mut F (Bor (List ℕ) × Unit {0}) Bool} (f : F) (siz
       let size_same = ap (λ (w : ChunksExact ℕ). chunks_exact_size w) y in
       absurd (omega (arith, e.1.0, l))
   go [] (suc n) s t u j (Some x) z l h y e k m =
+      let w : chunks_exact_size t ≡ size = subst (λ (w : ChunksExact ℕ). chunks_exact_size w ≡ size) y z in
+      let called = subst (λ (q : F). Called g q (x, tt) false m.1.0) (sym k) m.1.1 in
       let fails : test (chunks_exact_rest t) ≡ false =
-      chunk_first t u x false (subst (λ (w : ChunksExact ℕ). chunks_exact_size w ≡ size) y z) e (tests x false m.1.0 (e.1.1 ∙ subst (λ (w : ChunksExact ℕ). chunks_exact_size w ≡ size) y z) (subst (λ (w : F). Called g w (x, tt) false m.1.0) (sym k) m.1.1)).1 in
+      chunk_first t u x false w e (tests x false m.1.0 (e.1.1 ∙ w) called).1 in
       m.0 ∙ rw (y, fails) refl
   go (x ∷ xs) zero s t u j o z l h y e k m =
       let long = chunk_length s y.0 x z y.1 in
