@@ -18,7 +18,7 @@ use Rattle.steps.specs.Data.{each_is}
 
 -- a closure f that tests each chunk, by its own bytes alone
 module _ {F : Type 0} {g : Mut F (Bor (List ℕ) × Unit {0}) Bool} (f : F) (size : ℕ) (test : List ℕ → Bool) (r : Bool) (some : 0 < size)
-    (tests : (x : Bor (List ℕ)) (b : Bool) (q : F) → Called g f (x, tt) b q → (q ≡ f) × (b ≡ test x.now))
+    (tests : (x : Bor (List ℕ)) (b : Bool) (q : F) → length x.now ≡ size → Called g f (x, tt) b q → (q ≡ f) × (b ≡ test x.now))
     (own : (x l : List ℕ) → length x ≡ size → test (x ++ l) ≡ test x) where
   -- what a turn says of the bytes that are left
   chunk_first : (s t : ChunksExact ℕ) (x : Bor (List ℕ)) (b : Bool) → chunks_exact_size s ≡ size → chunks_exact_steps s (Some x) t
@@ -49,14 +49,16 @@ module _ {F : Type 0} {g : Mut F (Bor (List ℕ) × Unit {0}) Bool} (f : F) (siz
       let size_same = ap (λ (w : ChunksExact ℕ). chunks_exact_size w) y in
       absurd (omega (arith, e.1.0, l))
   go [] (suc n) s t u j (Some x) z l h y e k m =
+      let w : chunks_exact_size t ≡ size = subst (λ (w : ChunksExact ℕ). chunks_exact_size w ≡ size) y z in
+      let called = subst (λ (q : F). Called g q (x, tt) false m.1.0) (sym k) m.1.1 in
       let fails : test (chunks_exact_rest t) ≡ false =
-      chunk_first t u x false (subst (λ (w : ChunksExact ℕ). chunks_exact_size w ≡ size) y z) e (tests x false m.1.0 (subst (λ (w : F). Called g w (x, tt) false m.1.0) (sym k) m.1.1)).1 in
+      chunk_first t u x false w e (tests x false m.1.0 (e.1.1 ∙ w) called).1 in
       m.0 ∙ rw (y, fails) refl
   go (x ∷ xs) zero s t u j o z l h y e k m =
       let long = chunk_length s y.0 x z y.1 in
       absurd (omega arith)
   go (x ∷ xs) (suc n) s t u j o z l h y e k m =
-      let v = tests x true k.0 k.1 in
+      let v = tests x true k.0 (y.1.1.1 ∙ z) k.1 in
       let long = chunk_length s y.0 x z y.1 in
       rw (chunk_first s y.0 x true z y.1 v.1, chunk_rest s y.0 x z y.1)
       (go xs n y.0 t u j o (y.1.0 ∙ z) (omega arith) (omega arith) y.2 e (subst (λ (w : F). FoldsTo (λ p x q. Called g p (x, tt) true q) w xs j) v.0 k.2) m)

@@ -23,7 +23,7 @@ use Rattle.steps.specs.Data.{copy_marks_valid, many, formed}
 use Rattle.steps.specs.Stores.{part}
 use Rattle.steps.specs.Steps.{refuse, accept, test}
 use Rattle.steps.specs.Promises.{kind_known}
-use Rattle.steps.proofs.KindLaws.{known_kind}
+use Rattle.steps.proofs.KindLaws.{known_kind, number_of_kind}
 use Rattle.steps.proofs.StoreLaws.{part_part}
 use Rattle.messages.specs.declared.Next.{Next}
 use Rattle.messages.specs.declared.Next.TheVariants.{Message, Cut, End}
@@ -69,15 +69,8 @@ reply_is k m h =
 
 -- what is read of bytes m, with version 1, where the kind byte that is told is that of k
 module _ (kind : ℕ) (m : List ℕ) (k : Kind) (some : 1 ≤ length m) (version : get_or m 0 0 ≡ 1) (e : accept k ≡ kind_known kind) where
-  known : is_unknown kind ≡ false
-  known = go (is_unknown kind) e
-    where
-      go : (b : Bool) → accept k ≡ test b unknown_kind (accept (kind_of kind)) → b ≡ false
-      go true e = cc
-      go false e = refl
-
   body_is : read_body kind m ≡ cond (is_reply k m) (Reply (number_in m) (laid_stated m) 6 (length (drop 4 m))) (Refused wrong_length)
-  body_is = rw (ne_eqb (length m) 0 (λ (z : length m ≡ 0). omega arith), eq-eqb (get_or m 0 0) 1 version, known, known_kind kind e) refl
+  body_is = rw (ne_eqb (length m) 0 (λ (z : length m ≡ 0). omega arith), eq-eqb (get_or m 0 0) 1 version, number_of_kind kind e, known_kind kind e) refl
 
   pub body_cut : length m < 4 → Refused wrong_length ≡ read_body kind m
   unfolding is_reply

@@ -22,9 +22,9 @@ use Rattle.steps.specs.declared.Call.{Call}
 use Rattle.steps.specs.Kinds.{Name, offset, bytes, names, kinds, kind_number, is_unknown, kind_of, code, among, has, least_length, most_length, argument, call_of, value, values}
 use Rattle.steps.specs.Calls.{bad_span, outside}
 use Rattle.steps.specs.Stores.{splice, spliced_within, over}
-use Rattle.steps.specs.Steps.{Outcome, refuse, accept, test, guarded}
+use Rattle.steps.specs.Steps.{Outcome, refuse, accept, guarded}
 use Rattle.steps.specs.Promises.{kind_known}
-use Rattle.steps.proofs.KindLaws.{known_kind, no_kind, kind_numbered, number_known, each_kind, number_kind}
+use Rattle.steps.proofs.KindLaws.{known_kind, number_of_kind, no_kind, no_kind_told, kind_numbered, number_known, each_kind, number_kind}
 use Rattle.steps.proofs.StoreLaws.{length_splice, laid_fitting, splice_front, splice_right}
 use Rattle.steps.proofs.GuardLaws.{turned_back, passed, refusal_some}
 use Rattle.steps.proofs.RangeLaws.{span_within, ranged}
@@ -346,37 +346,29 @@ written_arguments room c bs =
 pub wrote_same : {o o' : Outcome (List ℕ)} {out out' : List ℕ} {w : Written} → o ≡ o' → Wrote o out out' w → Wrote o' out out' w
 wrote_same {out = out} {out' = out'} {w = w} e x = subst (λ (o : Outcome (List ℕ)). Wrote o out out' w) e x
 
-left_refused : (o : Outcome (List ℕ)) (refusal : Refusal) (out : List ℕ) → o ≡ refuse (refusal_number refusal) → Wrote o out out (Err refusal)
-left_refused o refusal out e = rw e (record { number_told = refl; len_told = refl; buffer_out = refl })
+wrote_refused : (o : Outcome (List ℕ)) (refusal : Refusal) (out : List ℕ) → o ≡ refuse (refusal_number refusal) → Wrote o out out (Err refusal)
+wrote_refused o refusal out e = rw e (record { number_told = refl; len_told = refl; buffer_out = refl })
 
 -- by a kind byte, with arguments r
 module _ (kind : ℕ) (r bs out : List ℕ) where
   pub wrote_no_room : length out < 71 → Wrote (written_as (length out) kind r bs) out out (Err ShortBuffer)
-  wrote_no_room h = left_refused _ ShortBuffer out (as_short (length out) kind r bs h)
+  wrote_no_room h = wrote_refused _ ShortBuffer out (as_short (length out) kind r bs h)
 
   pub wrote_unknown : (refusal : Refusal) → 71 ≤ length out → refuse (refusal_number refusal) ≡ kind_known kind
       → Wrote (written_as (length out) kind r bs) out out (Err refusal)
   wrote_unknown refusal h e =
-      left_refused _ refusal out (as_unknown (length out) kind r bs h (no_kind kind e) ∙ ap refuse (go (is_unknown kind) e))
-    where
-      go : (b : Bool) → refuse (refusal_number refusal) ≡ test b unknown_kind (accept (kind_of kind)) → unknown_kind ≡ refusal_number refusal
-      go true e = cc
-      go false e = cc
+      wrote_refused _ refusal out (as_unknown (length out) kind r bs h (no_kind kind e) ∙ ap refuse (sym (no_kind_told kind e)))
 
   -- of a known one, which is that of kind k
   module _ (k : Kind) (h : 71 ≤ length out) (e : accept k ≡ kind_known kind) where
     known : is_unknown kind ≡ false
-    known = go (is_unknown kind) e
-      where
-        go : (b : Bool) → accept k ≡ test b unknown_kind (accept (kind_of kind)) → b ≡ false
-        go true e = cc
-        go false e = refl
+    known = number_of_kind kind e
 
     of_kind : kind_of kind ≡ k
     of_kind = known_kind kind e
 
-    number_of_kind : kind ≡ kind_number k
-    number_of_kind = sym (number_kind kind known) ∙ ap kind_number of_kind
+    byte_of_kind : kind ≡ kind_number k
+    byte_of_kind = sym (number_kind kind known) ∙ ap kind_number of_kind
 
     inside : accepted ≡ outside 254 (length bs) (call_of k r) → outside 254 (length bs) (call_of (kind_of kind) r) ≡ accepted
     inside o = rw (of_kind, ← o) refl
@@ -384,7 +376,7 @@ module _ (kind : ℕ) (r bs out : List ℕ) where
     pub wrote_outside : (refusal : Refusal) → refusal_number refusal ≡ outside 254 (length bs) (call_of k r)
         → Wrote (written_as (length out) kind r bs) out out (Err refusal)
     wrote_outside refusal o =
-        left_refused _ refusal out
+        wrote_refused _ refusal out
         (as_outside (length out) kind r bs h known (refusal_number refusal) (o ∙ rw of_kind refl) (refusal_some refusal))
 
     pub room_left : accepted ≡ outside 254 (length bs) (call_of k r) → MessageRoom (least_length k) (most_length k) bs out
@@ -396,7 +388,7 @@ module _ (kind : ℕ) (r bs out : List ℕ) where
         → Wrote (written_as (length out) kind r bs) out out' (Ok len)
     wrote_message len out' four o l b =
         let is : written_as (length out) kind r bs ≡ accept (laid_message (kind_number k) (least_length k) (most_length k) r bs) =
-        as_inside (length out) kind r bs h known (inside o) (omega (arith, few_singles (kind_of kind))) ∙ rw (of_kind, number_of_kind) refl in
+        as_inside (length out) kind r bs h known (inside o) (omega (arith, few_singles (kind_of kind))) ∙ rw (of_kind, byte_of_kind) refl in
         rw is (record { number_told = refl; len_told = l; buffer_out = b })
 
 -- by a call, with its arguments one by one

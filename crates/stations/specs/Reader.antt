@@ -36,8 +36,8 @@ is_refusal_reply m = listed (number_in m) all_numbers && (eqb (length m) 4 && eq
 unfoldable pub is_reply : Kind → List ℕ → Bool
 is_reply k m = leb 4 (length m) && cond (eqb (number_in m) accepted) (formed (tells k) (data_in m)) (is_refusal_reply m)
 
--- what is read: the reader's own number; or what a reply tells: the number that it carries, the bytes laid, and where in
--- the bytes its data start and how many they are
+-- what is read: the reader's own number; or what a reply tells: the number that it carries, the bytes laid, and where
+-- in the bytes its data start and how many they are
 pub data Reading : Type 0 where
   Refused : ℕ → Reading
   Reply : ℕ → ℕ → ℕ → ℕ → Reading

@@ -30,7 +30,7 @@ fn marks_valid(copies: &[u8]) -> bool
 {
     copies
         .chunks_exact(3)
-        .all(|copy| (copy[1] < 2) & (copy[2] < 2))
+        .all(|copy| matches!(copy, [_, 0..=1, 0..=1]))
 }
 
 // Whether data are those of a look at a page.

@@ -34,11 +34,25 @@ module _ (n : ℕ) where
       go true e = cc
       go false e = cc
 
+  pub number_of_kind : {k : Kind} → accept k ≡ kind_known n → is_unknown n ≡ false
+  number_of_kind {k} e = go (is_unknown n) e
+    where
+      go : (b : Bool) → accept k ≡ test b unknown_kind (accept (kind_of n)) → b ≡ false
+      go true e = cc
+      go false e = refl
+
   pub no_kind : {m : ℕ} → refuse m ≡ kind_known n → is_unknown n ≡ true
   no_kind {m} e = go (is_unknown n) e
     where
       go : (b : Bool) → refuse m ≡ test b unknown_kind (accept (kind_of n)) → b ≡ true
       go true e = refl
+      go false e = cc
+
+  pub no_kind_told : {m : ℕ} → refuse m ≡ kind_known n → m ≡ unknown_kind
+  no_kind_told {m} e = go (is_unknown n) e
+    where
+      go : (b : Bool) → refuse m ≡ test b unknown_kind (accept (kind_of n)) → m ≡ unknown_kind
+      go true e = cc
       go false e = cc
 
   pub no_kind_made : {m : ℕ} → refuse m ≡ kind_known n → kind_of n ≡ Create

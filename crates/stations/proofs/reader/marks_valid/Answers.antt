@@ -15,6 +15,6 @@ pub returns : goal.returns
 returns c =
     let rest = c.chunks_exact.ensures.rest in
     let long = ap length rest in
-    chunks_all _ 3 copy_marks_valid _ (omega arith) (λ x b q k. search (rules, tests)) marks_own (length c.args.copies.now / 3) _ _ c.chunks_exact.ensures.size
+    chunks_all _ 3 copy_marks_valid _ (omega arith) (λ x b q l k. search (rules, tests)) marks_own (length c.args.copies.now / 3) _ _ c.chunks_exact.ensures.size
     (omega arith) (omega arith) c.all.ensures.ran
     ∙ ap (λ (l : List ℕ). each_is (length c.args.copies.now / 3) 3 copy_marks_valid l) rest
