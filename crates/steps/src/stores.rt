@@ -11,12 +11,13 @@ use crate::Place;
 use tables::{Copy, Page};
 
 // Lays all of src into dst from index at on.
-#[tactic(auto, using(crate::proofs::StoreLaws::put_span))]
 pub(crate) fn put(dst: &mut [u8], at: usize, src: &[u8])
     requires { at + length src.now ≤ length dst.old }
     ensures { dst.new ≡ splice dst.old at src.now }
 {
-    dst[at..at + src.len()].copy_from_slice(src);
+    for (j, b) in src.iter().enumerate() {
+        dst[at + j] = *b;
+    }
 }
 
 // Puts src into dst from `at` on, for any lengths: where src does not fit, dst is left as it was.
@@ -83,7 +84,7 @@ impl Stores<'_> {
         ensures laid { bytes_of self.new ≡ lay_frame (bytes_of self.old) to 0 (block (bytes_of self.old) from) }
     {
         let mut block = [0; 64];
-        block.copy_from_slice(self.part(from, 0, 64));
+        put(&mut block, 0, self.part(from, 0, 64));
         self.lay(to, 0, &block);
     }
 
