@@ -108,18 +108,18 @@ pub fn carry(d: Decision, bytes: &[u8], fast: &mut [u8], slow: &mut [u8], out: &
     if (out.len() < 64) | (fast.len() % 64 != 0) {
         return;
     }
-    let page = &d.before;
+    let page = d.before;
     let frames = fast.len() / 64 + slow.len() / 64;
     let mut stores = Stores { fast, slow };
     match d.work {
         Work::Shows { show } => {
             if show_within(show, frames, d.len) {
-                show_in(page, show, d.len, &stores, out);
+                show_in(&page, show, d.len, &stores, out);
             }
         }
         Work::Lays { lay, clears } => {
-            if clear_within(clears, frames) && lay_within(page, lay, frames, bytes.len()) {
-                lay_in(page, lay, bytes, &mut stores);
+            if clear_within(clears, frames) && lay_within(&page, lay, frames, bytes.len()) {
+                lay_in(&page, lay, bytes, &mut stores);
                 clear_in(clears, &mut stores);
             }
         }
