@@ -22,16 +22,16 @@ fn span_within(offset: u8, count: usize) -> bool
 }
 
 // Whether what is laid lies within stores of so many frames, where a write has `size` bytes.
-fn lay_within(page: &Page, lay: Lay, frames: usize, size: usize) -> bool
-    ensures { result ≡ lay_within page.now frames size lay }
+fn lay_within(page: Page, lay: Lay, frames: usize, size: usize) -> bool
+    ensures { result ≡ lay_within page frames size lay }
 {
     match lay {
         Lay::Nothing => true,
         Lay::Zeros { frame } => (frame as usize) < frames,
-        Lay::ZerosEach => frames_within(page, is_placed, frames),
+        Lay::ZerosEach => frames_within(&page, is_placed, frames),
         Lay::Duplicate { from, to } => ((from as usize) < frames) & ((to as usize) < frames),
         Lay::Spread { offset } => {
-            span_within(offset, size) && frames_within(page, |c| c.current, frames)
+            span_within(offset, size) && frames_within(&page, |c| c.current, frames)
         }
     }
 }
@@ -56,11 +56,11 @@ fn clear_within(frame: u8, frames: usize) -> bool
 
 // Shows in the reply `len` bytes of the stores, or what the tables say of the page or of a frame.
 #[tactic(auto, unfolding(crate::specs::Effects::shown_of), using(crate::proofs::StoreLaws::splice_front))]
-fn show_in(page: &Page, show: Show, len: usize, stores: &Stores, out: &mut [u8])
+fn show_in(page: Page, show: Show, len: usize, stores: &Stores, out: &mut [u8])
     requires whole { WholeFrames stores.now }
     requires in_bounds { 64 ≤ length out.old }
     requires show_value { show_within len (frames_lent stores.now) show ≡ true }
-    ensures { out.new ≡ over (shown_of page.now show len (bytes_of stores.now)) out.old }
+    ensures { out.new ≡ over (shown_of page show len (bytes_of stores.now)) out.old }
 {
     match show {
         Show::Frame { frame, offset } => put(out, 0, stores.part(frame, offset, len)),
@@ -71,18 +71,18 @@ fn show_in(page: &Page, show: Show, len: usize, stores: &Stores, out: &mut [u8])
 
 // Lays bytes into the stores.
 #[tactic(auto, unfolding(crate::specs::Effects::laid_frames, crate::specs::Stores::lay_frames))]
-fn lay_in(page: &Page, lay: Lay, bytes: &[u8], stores: &mut Stores)
+fn lay_in(page: Page, lay: Lay, bytes: &[u8], stores: &mut Stores)
     requires whole { WholeFrames stores.old }
-    requires lay_value { lay_within page.now (frames_lent stores.old) (length bytes.now) lay ≡ true }
+    requires lay_value { lay_within page (frames_lent stores.old) (length bytes.now) lay ≡ true }
     ensures same { Same stores.old stores.new }
-    ensures laid { bytes_of stores.new ≡ laid_in page.now lay bytes.now (bytes_of stores.old) }
+    ensures laid { bytes_of stores.new ≡ laid_in page lay bytes.now (bytes_of stores.old) }
 {
     match lay {
         Lay::Nothing => {}
         Lay::Zeros { frame } => stores.clear(frame),
-        Lay::ZerosEach => stores.lay_each(page, is_placed, 0, &[0; 64]),
+        Lay::ZerosEach => stores.lay_each(&page, is_placed, 0, &[0; 64]),
         Lay::Duplicate { from, to } => stores.copy(from, to),
-        Lay::Spread { offset } => stores.lay_each(page, |c| c.current, offset, bytes),
+        Lay::Spread { offset } => stores.lay_each(&page, |c| c.current, offset, bytes),
     }
 }
 
@@ -114,12 +114,12 @@ pub fn carry(d: Decision, bytes: &[u8], fast: &mut [u8], slow: &mut [u8], out: &
     match d.work {
         Work::Shows { show } => {
             if show_within(show, frames, d.len) {
-                show_in(&page, show, d.len, &stores, out);
+                show_in(page, show, d.len, &stores, out);
             }
         }
         Work::Lays { lay, clears } => {
-            if clear_within(clears, frames) && lay_within(&page, lay, frames, bytes.len()) {
-                lay_in(&page, lay, bytes, &mut stores);
+            if clear_within(clears, frames) && lay_within(page, lay, frames, bytes.len()) {
+                lay_in(page, lay, bytes, &mut stores);
                 clear_in(clears, &mut stores);
             }
         }

@@ -46,9 +46,9 @@ pub(crate) fn look_frame(view: View) -> Plan
 }
 
 // Shows n and the copies of a page at the front of the buffer.
-pub(crate) fn show_page(page: &Page, out: &mut [u8])
+pub(crate) fn show_page(page: Page, out: &mut [u8])
     requires { 25 ≤ length out.old }
-    ensures { out.new ≡ over (page.now.n ∷ copies_shown (copies_in_use page.now)) out.old }
+    ensures { out.new ≡ over (page.n ∷ copies_shown (copies_in_use page)) out.old }
 {
     out[0] = page.n;
     for (k, c) in page.copies_in_use().iter().enumerate() {

@@ -16,13 +16,13 @@ use Rattle.steps.proofs.effects.lay_in.Goals as goal
 pub lay_each-requires-clause-low : goal.lay_each-requires-clause-low
 lay_each-requires-clause-low c i h u =
     let a = c.args in
-    each_below is_placed (frames_lent a.stores.now) a.page.now (rw c.in-ZerosEach.is at c.requires.lay_value) i h (search rules)
+    each_below is_placed (frames_lent a.stores.now) a.page (rw c.in-ZerosEach.is at c.requires.lay_value) i h (search rules)
 
 pub lay_each-requires-in-Spread-clause-low : goal.lay_each-requires-in-Spread-clause-low
 lay_each-requires-in-Spread-clause-low c i h u =
     let a = c.args in
     let w = c.in-Spread in
-    each_below is_current (frames_lent a.stores.now) a.page.now
+    each_below is_current (frames_lent a.stores.now) a.page
     (and_right (leb (w.offset + length a.bytes.now) 64) _ (rw w.is at c.requires.lay_value)) i h (search rules)
 
 pub returns-in-ZerosEach-clause-laid : goal.returns-in-ZerosEach-clause-laid

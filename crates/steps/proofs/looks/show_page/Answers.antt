@@ -30,4 +30,4 @@ returns c =
     let items = c.copies_in_use-c-items in
     let a = c.args in
     entries_ended items.result.now v.k v.out _ (omega arith) v.invariant.1
-    ∙ ap (λ (cs : List Copy). over (a.page.now.n ∷ copies_shown cs) a.out.now) items.ensures.items
+    ∙ ap (λ (cs : List Copy). over (a.page.n ∷ copies_shown cs) a.out.now) items.ensures.items
