@@ -57,11 +57,13 @@ impl Stores<'_> {
         ensures same { Same self.old self.new }
         ensures laid { bytes_of self.new ≡ lay_frame (bytes_of self.old) frame offset src.now }
     {
-        let place = frame_place(self.fast.len() / 64, frame, offset, src.len());
-        if place.slow {
-            put(self.slow, place.start, src);
+        let p = self.fast.len() / 64;
+        let f = frame as usize;
+        let o = offset as usize;
+        if f < p {
+            put(self.fast, 64 * f + o, src);
         } else {
-            put(self.fast, place.start, src);
+            put(self.slow, 64 * (f - p) + o, src);
         }
     }
 
