@@ -45,8 +45,16 @@ impl Stores<'_> {
         ensures bytes { result.now ≡ part (block (bytes_of self.now) frame) offset len }
         ensures len { length result.now ≡ len }
     {
-        let place = frame_place(self.fast.len() / 64, frame, offset, len);
-        part_at(self.fast, self.slow, place)
+        let p = self.fast.len() / 64;
+        let f = frame as usize;
+        let o = offset as usize;
+        if f < p {
+            let at = 64 * f + o;
+            &self.fast[at..at + len]
+        } else {
+            let at = 64 * (f - p) + o;
+            &self.slow[at..at + len]
+        }
     }
 
     // Lays src into a frame from an offset on.
