@@ -1,12 +1,12 @@
 -- A read as a part of a store. In order: the bytes at a place; the place that a decision shows; the place of a read, which lies within its store and has the data of the step.
-use Prim.Native.Nat.{ℕ, ◌+◌, ◌-◌, ◌*◌, ◌≤◌, ◌<◌, zero-le}
+use Prim.Native.Nat.{ℕ, ◌+◌, ◌≤◌, ◌<◌, zero-le}
 use mathlib.Core.Path.{◌≡◌, refl, sym, ap, subst, ◌∙◌}
 use mathlib.Core.Bool.{Bool, true, false, cond}
-use mathlib.Core.List.{List, [], ◌++◌}
+use mathlib.Core.List.{List, []}
 use native.Mathlib.Omega.{arith}
 use lib.ListN.{length}
 use lib.Dec.{ltb}
-use borrow.Author.Tests.{ltb-true, ltb-false, leb-true}
+use borrow.Author.Tests.{ltb-true, leb-true}
 use Rattle.tables.specs.declared.Tables.{Tables}
 use Rattle.tables.specs.Model.{frames, copies_in_use, page_at}
 use Rattle.tables.proofs.ListLaws.{and_left, and_right}
@@ -17,10 +17,10 @@ use Rattle.steps.specs.declared.Work.{Work}
 use Rattle.steps.specs.declared.Work.TheVariants.{Shows}
 use Rattle.steps.specs.declared.Show.TheVariants as Show
 use Rattle.steps.specs.declared.Decision.{Decision}
-use Rattle.steps.specs.Stores.{part, block}
+use Rattle.steps.specs.Stores.{part}
 use Rattle.steps.specs.declared.Plan.{Plan}
 use Rattle.steps.specs.Steps.{Outcome, refuse, accept, mapped, first_current, page_for, view_of, rules_number, decide_any}
-use Rattle.steps.specs.Effects.{shown_of, State, carried_out, step, data_of, frame_place, no_place, work_at, place_of, read_place}
+use Rattle.steps.specs.Effects.{shown_of, State, carried_out, step, data_of, no_place, work_at, place_of, read_place}
 use Rattle.steps.specs.Promises.{decision_on, decision_of, bytes_at, pointer_at, ReadPart}
 use Rattle.steps.specs.Private.{Room, PlaceIn}
 use Rattle.steps.proofs.DecisionLaws.{refused_by}

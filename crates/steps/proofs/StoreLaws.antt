@@ -6,11 +6,9 @@ use mathlib.Core.List.{List, [], ◌∷◌, ◌++◌, append_assoc, append-nil}
 use native.Mathlib.Nat.{add_assoc, zero-add, add-zero}
 use native.Mathlib.Omega.{arith}
 use lib.ListN.{length, take, drop, set, length-append, length-take, length-drop, drop_of_length-le, take-append-drop}
-use lib.Seq.{take-append-le, drop-append-le, take-append-add, drop-append-add, drop-drop, take_at, drop_at}
+use lib.Seq.{take-append-le, drop-append-le, take-append-add, drop-append-add, drop-drop, take_at, drop_at, take-length, paste}
 use lib.Dec.{ltb}
 use borrow.Author.Tests.{le-leb, ltb-true, ltb-false}
-use borrow.Rule.Slice.PartMut.{put_mid}
-use Rattle.steps.specs.declared.Place.{Place}
 use Rattle.steps.specs.Stores.{part, splice, spliced_within, block, lay_frame, over}
 use Rattle.steps.specs.Effects.{frame_place}
 use Rattle.steps.specs.Promises.{bytes_at}
@@ -69,12 +67,10 @@ pub length_splice : (l : List ℕ) (at : ℕ) (b : List ℕ) → at + length b �
 unfolding splice
 length_splice l at b h = simp (length-append, length-take, length-drop) (omega arith)
 
--- what a copy onto the part from `at` on leaves
-pub put_span : (l : List ℕ) (at : ℕ) (b c : List ℕ) → c ≡ b → put_mid at (at + length b - at) l c ≡ splice l at b
+-- what a loop leaves that has laid every byte, one after the other
+pub pasted : (l : List ℕ) (at : ℕ) (b : List ℕ) → paste l at b (length b) ≡ splice l at b
 unfolding splice
-put_span l at b c e =
-    let n : at + length b - at ≡ length b = omega arith in
-    rw (e, n) (ap (λ (r : List ℕ). take at l ++ (b ++ r)) (drop-drop (length b) at l))
+pasted l at b = rw (take-length b) (append_assoc (take at l) b (drop (at + length b) l))
 
 -- bytes that fit are laid
 pub laid_fitting : (l : List ℕ) (at : ℕ) (b : List ℕ) → at + length b ≤ length l → spliced_within l at b ≡ splice l at b
@@ -181,26 +177,6 @@ module _ (x y : List ℕ) (p f o n : ℕ) (room : Room x y p f) (span : o + n �
           ≡ part (x ++ y) (64 * f + o) n
       go true e = part_fast x y p f room.split o n (ltb-true f p e) span
       go false e = part_slow x y p f room.split o n (ltb-false f p e)
-
-  -- bytes that are laid there are laid into the frame
-  module _ (place : Place) (is : place ≡ frame_place p f o n) (b : List ℕ) where
-    pub laid_slow : place.slow ≡ true → x ++ splice y place.start b ≡ lay_frame (x ++ y) f o b
-    laid_slow s = go (ltb f p) refl is
-      where
-        go : (v : Bool) → ltb f p ≡ v
-            → place ≡ cond v (record { slow = false; start = 64 * f + o; len = n }) (record { slow = true; start = 64 * (f - p) + o; len = n })
-            → x ++ splice y place.start b ≡ lay_frame (x ++ y) f o b
-        go true e is = cc
-        go false e is = rw is (lay_slow x y p f room.split o b (ltb-false f p e))
-
-    pub laid_fast : length b ≡ n → place.slow ≡ false → splice x place.start b ++ y ≡ lay_frame (x ++ y) f o b
-    laid_fast l s = go (ltb f p) refl is
-      where
-        go : (v : Bool) → ltb f p ≡ v
-            → place ≡ cond v (record { slow = false; start = 64 * f + o; len = n }) (record { slow = true; start = 64 * (f - p) + o; len = n })
-            → splice x place.start b ++ y ≡ lay_frame (x ++ y) f o b
-        go true e is = rw is (lay_fast x y p f room.split o b (ltb-true f p e) (omega arith))
-        go false e is = cc
 
 -- the two stores, from what they are joined
 pub taken_apart : (x y st : List ℕ) (n : ℕ) → length x ≡ n → x ++ y ≡ st → (x ≡ take n st) × (y ≡ drop n st)

@@ -11,12 +11,13 @@ use crate::Place;
 use tables::{Copy, Page};
 
 // Lays all of src into dst from index at on.
-#[tactic(auto, using(crate::proofs::StoreLaws::put_span))]
 pub(crate) fn put(dst: &mut [u8], at: usize, src: &[u8])
     requires { at + length src.now ≤ length dst.old }
     ensures { dst.new ≡ splice dst.old at src.now }
 {
-    dst[at..at + src.len()].copy_from_slice(src);
+    for (j, b) in src.iter().enumerate() {
+        dst[at + j] = *b;
+    }
 }
 
 // Puts src into dst from `at` on, for any lengths: where src does not fit, dst is left as it was.
@@ -44,8 +45,16 @@ impl Stores<'_> {
         ensures bytes { result.now ≡ part (block (bytes_of self.now) frame) offset len }
         ensures len { length result.now ≡ len }
     {
-        let place = frame_place(self.fast.len() / 64, frame, offset, len);
-        part_at(self.fast, self.slow, place)
+        let p = self.fast.len() / 64;
+        let f = frame as usize;
+        let o = offset as usize;
+        if f < p {
+            let at = 64 * f + o;
+            &self.fast[at..at + len]
+        } else {
+            let at = 64 * (f - p) + o;
+            &self.slow[at..at + len]
+        }
     }
 
     // Lays src into a frame from an offset on.
@@ -56,11 +65,13 @@ impl Stores<'_> {
         ensures same { Same self.old self.new }
         ensures laid { bytes_of self.new ≡ lay_frame (bytes_of self.old) frame offset src.now }
     {
-        let place = frame_place(self.fast.len() / 64, frame, offset, src.len());
-        if place.slow {
-            put(self.slow, place.start, src);
+        let p = self.fast.len() / 64;
+        let f = frame as usize;
+        let o = offset as usize;
+        if f < p {
+            put(self.fast, 64 * f + o, src);
         } else {
-            put(self.fast, place.start, src);
+            put(self.slow, 64 * (f - p) + o, src);
         }
     }
 
@@ -83,7 +94,7 @@ impl Stores<'_> {
         ensures laid { bytes_of self.new ≡ lay_frame (bytes_of self.old) to 0 (block (bytes_of self.old) from) }
     {
         let mut block = [0; 64];
-        block.copy_from_slice(self.part(from, 0, 64));
+        put(&mut block, 0, self.part(from, 0, 64));
         self.lay(to, 0, &block);
     }
 

@@ -1,16 +1,13 @@
 -- `lay_in`: bytes laid into the frames of the copies that are meant, which lie within the stores.
-use mathlib.Core.Path.{sym, ap, ◌∙◌}
-use mathlib.Core.Bool.{Bool}
+use mathlib.Core.Path.{◌∙◌}
 use Prim.Native.Nat.{◌+◌}
 use lib.ListN.{length}
 use lib.Dec.{leb}
 use Rattle.std.proofs.Common.{rules}
 use Rattle.tables.specs.Rules.{is_current}
 use Rattle.tables.proofs.ListLaws.{and_right}
-use Rattle.steps.specs.declared.Lay.{Lay}
 use Rattle.steps.specs.Steps.{is_placed}
 use Rattle.steps.specs.Effects.{laid_frames}
-use Rattle.steps.specs.Promises.{lay_within}
 use Rattle.steps.specs.Private.{frames_lent}
 use Rattle.steps.proofs.Blocks.{lay_each_is}
 use Rattle.steps.proofs.CarryLaws.{each_below}

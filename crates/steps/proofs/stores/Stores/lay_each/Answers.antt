@@ -1,7 +1,6 @@
 -- `lay_each`. The invariant: what is still to be laid gives the whole.
 use mathlib.Core.Path.{refl, sym, ◌∙◌}
 use native.Mathlib.Omega.{arith}
-use Rattle.std.proofs.Common.{rules}
 use Rattle.steps.specs.Private.{bytes_of}
 use Rattle.steps.proofs.CopyLaws.{lay_turn, lay_ended}
 use Rattle.steps.proofs.stores.Stores.lay_each.Goals as goal

@@ -10,6 +10,6 @@ abbrev pub invariant-loop-c : goal.invariant-loop-c
 invariant-loop-c g l =
     Same l.fn.self l.self
     × ((those : Copy → Bool)
-        → Tells (goal.F-post g l.meant) those
-        → lay_each those (bytes_of l.self) (drop l.c-index l.c-items) l.offset l.src
-        ≡ lay_each those (bytes_of l.fn.self) l.c-items l.offset l.src)
+    → Tells (goal.F-post g l.meant) those
+    → lay_each those (bytes_of l.self) (drop l.c-index l.c-items) l.offset l.src
+    ≡ lay_each those (bytes_of l.fn.self) l.c-items l.offset l.src)
