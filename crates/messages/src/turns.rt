@@ -39,8 +39,7 @@ pub(crate) fn bytes_in(file: &[u8], next: Next) -> &[u8]
 {
     match next {
         Next::Message { start, next, .. } => &file[start..next],
-        Next::Cut => &file[..0],
-        Next::End => &file[..0],
+        Next::Cut | Next::End => &[],
     }
 }
 
@@ -50,8 +49,7 @@ pub(crate) fn asked_in(next: Next, m: &[u8]) -> Result<Call, Refusal>
 {
     match next {
         Next::Message { .. } => parse(m),
-        Next::Cut => Err(Refusal::CutShort),
-        Next::End => Err(Refusal::CutShort),
+        Next::Cut | Next::End => Err(Refusal::CutShort),
     }
 }
 
@@ -130,9 +128,10 @@ fn due_at(file: &[u8], at: usize, full: bool) -> Next
     ensures { result ≡ due_at file.now at full }
 {
     if full {
-        return Next::End;
+        Next::End
+    } else {
+        message_at(file, at)
     }
-    message_at(file, at)
 }
 
 pub(crate) fn is_end(next: Next) -> bool
@@ -147,8 +146,7 @@ pub(crate) fn past(next: Next, end: usize) -> usize
 {
     match next {
         Next::Message { next, .. } => next,
-        Next::Cut => end,
-        Next::End => end,
+        Next::Cut | Next::End => end,
     }
 }
 
