@@ -43,12 +43,16 @@ pub fn reel_fresh(p: u8, s: u8, tables: &mut [u8]) -> u8
     if tables.len() != TABLES_SIZE {
         return u8::from(Refusal::BrokenTables);
     }
-    let (number, fresh) = match Tables::fresh(p, s) {
-        Ok(fresh) => (0, fresh),
-        Err(refused) => (u8::from(Refusal::TooManyFrames), refused.instead),
-    };
-    put_tables(fresh, tables);
-    number
+    match Tables::fresh(p, s) {
+        Ok(fresh) => {
+            put_tables(fresh, tables);
+            0
+        }
+        Err(refused) => {
+            put_tables(refused.instead, tables);
+            u8::from(Refusal::TooManyFrames)
+        }
+    }
 }
 
 // Tests the tables and the lengths of both stores: 0, 5 or 6.

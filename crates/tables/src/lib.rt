@@ -16,9 +16,6 @@ use record::fresh_page;
 pub use refusals::Refusal;
 use register::{enter, occupy, vacate};
 
-// Number 19 of document 01's table.
-pub const TOO_MANY_FRAMES: u8 = 19;
-
 // The frame of a null copy.
 pub const NULL_FRAME: u8 = 255;
 
