@@ -4,7 +4,7 @@ use Prim.Native.Nat.{ℕ, ◌+◌, ◌*◌, ◌/◌, ◌%◌, ◌≤◌, ◌<◌
 use mathlib.Core.Path.{◌≡◌, refl, sym, ap, subst, ◌∙◌}
 use mathlib.Core.Bool.{Bool, true, false, not, ◌&&◌, ◌||◌, cond}
 use mathlib.Core.List.{List, [], ◌∷◌, ◌++◌}
-use Rattle.std.specs.Prelude.{Result, Err}
+use Rattle.std.specs.Prelude.{Option, Some, None, Result, Err}
 use native.Mathlib.Omega.{arith}
 use lib.ListN.{length, take, drop, get_or, length-append, length-drop}
 use lib.Seq.{get_or-drop, get_or-take, take-length}
@@ -24,6 +24,7 @@ use Rattle.steps.specs.Stores.{part}
 use Rattle.steps.specs.Steps.{refuse, accept, test}
 use Rattle.steps.specs.Promises.{kind_known}
 use Rattle.steps.proofs.KindLaws.{known_kind, number_of_kind}
+use Rattle.steps.proofs.GuardLaws.{refusal_some}
 use Rattle.steps.proofs.StoreLaws.{part_part}
 use Rattle.messages.specs.declared.Next.{Next}
 use Rattle.messages.specs.declared.Next.TheVariants.{Message, Cut, End}
@@ -31,7 +32,7 @@ use Rattle.messages.specs.Messages.{is_foreign, next_at}
 use Rattle.messages.specs.Run.{whole}
 use Rattle.messages.specs.Promises.{sent_by, sent_alone}
 use Rattle.stations.specs.declared.Reply.{Reply as Told}
-use Rattle.stations.specs.Reader.{number_in, laid_stated, data_in, is_refusal_reply, is_reply, Refused, Reply, reading, read_body, read_next, read_reply, content_of, reading_of, reply_content}
+use Rattle.stations.specs.Reader.{number_in, laid_stated, data_in, is_refusal_reply, is_reply, Refused, Reply, carried, reading, read_body, read_next, read_reply, content_of, reading_of, reply_content}
 use Rattle.stations.specs.Private.{number_read, may_carry}
 use Rattle.stations.specs.Promises.{ReadOf}
 use Rattle.stations.proofs.FrontLaws.{next_front, part_front, Front, front_of, front_taken}
@@ -52,20 +53,28 @@ unfolding is_reply
 reply_long k m e = leb-true 4 (length m) (and_left (leb 4 (length m)) _ e)
 
 -- one with a number, bytes laid and data, by what they are
-pub reply_is : (k : Kind) (m : List ℕ) → 4 ≤ length m
-    → is_reply k m ≡ ((eqb (number_in m) accepted || listed (number_in m) all_numbers) && may_carry k (number_in m) (laid_stated m) (drop 4 m))
+reply_is : (k : Kind) (m : List ℕ) → 4 ≤ length m
+    → is_reply k m ≡ ((eqb (number_in m) accepted || listed (number_in m) all_numbers)
+    && cond (eqb (number_in m) accepted) (formed (tells k) (drop 4 m)) (eqb (length (drop 4 m)) 0 && eqb (laid_stated m) 0))
 unfolding is_reply
 reply_is k m h =
     rw (le-leb 4 (length m) h) (go (eqb (number_in m) accepted) (listed (number_in m) all_numbers))
   where
     bare : eqb (length m) 4 ≡ eqb (length (drop 4 m)) 0
-    bare = iff_eq _ _ (λ e. eq-eqb (length (drop 4 m)) 0 (omega (arith, length-drop 4 m, eqb-true (length m) 4 e))) (λ e. eq-eqb (length m) 4 (omega (arith, length-drop 4 m, eqb-true (length (drop 4 m)) 0 e)))
+    bare =
+        iff_eq _ _ (λ e. eq-eqb (length (drop 4 m)) 0 (omega (arith, length-drop 4 m, eqb-true (length m) 4 e)))
+        (λ e. eq-eqb (length m) 4 (omega (arith, length-drop 4 m, eqb-true (length (drop 4 m)) 0 e)))
 
     go : (a b : Bool) → cond a (formed (tells k) (drop 4 m)) (b && (eqb (length m) 4 && eqb (laid_stated m) 0))
         ≡ ((a || b) && cond a (formed (tells k) (drop 4 m)) (eqb (length (drop 4 m)) 0 && eqb (laid_stated m) 0))
     go true b = refl
     go false true = ap (λ (x : Bool). x && eqb (laid_stated m) 0) bare
     go false false = refl
+
+carry_is : (k : Kind) (o : Option Refusal) (laid : ℕ) (d : List ℕ)
+    → may_carry k o laid d ≡ cond (eqb (carried o) accepted) (formed (tells k) d) (eqb (length d) 0 && eqb laid 0)
+carry_is k None laid d = refl
+carry_is k (Some refusal) laid d = rw (ne_eqb (refusal_number refusal) accepted (refusal_some refusal)) refl
 
 -- what is read of bytes m, with version 1, where the kind byte that is told is that of k
 module _ (kind : ℕ) (m : List ℕ) (k : Kind) (some : 1 ≤ length m) (version : get_or m 0 0 ≡ 1) (e : accept k ≡ kind_known kind) where
@@ -78,31 +87,35 @@ module _ (kind : ℕ) (m : List ℕ) (k : Kind) (some : 1 ≤ length m) (version
 
   pub body_unlisted : (refusal : Refusal) → 4 ≤ length m → refuse (refusal_number refusal) ≡ number_read (get_or m 1 0)
       → Refused (refusal_number refusal) ≡ read_body kind m
-  body_unlisted refusal h n = sym (body_is ∙ rw (reply_is k m h) (go (eqb (number_in m) accepted || listed (number_in m) all_numbers) n))
+  body_unlisted refusal h n =
+      sym (body_is ∙ rw (reply_is k m h) (go (eqb (number_in m) accepted || listed (number_in m) all_numbers) _ n))
     where
-      go : (b : Bool) → refuse (refusal_number refusal) ≡ cond b (accept (number_in m)) (refuse wrong_length)
-          → cond (b && may_carry k (number_in m) (laid_stated m) (drop 4 m)) (Reply (number_in m) (laid_stated m) 6 (length (drop 4 m))) (Refused wrong_length)
+      go : (b c : Bool) → refuse (refusal_number refusal) ≡ cond b (accept (number_in m)) (refuse wrong_length)
+          → cond (b && c) (Reply (number_in m) (laid_stated m) 6 (length (drop 4 m))) (Refused wrong_length)
           ≡ Refused (refusal_number refusal)
-      go true n = cc
-      go false n = ap Refused cc
+      go true c n = cc
+      go false c n = ap Refused cc
 
-  -- of a number that is read
-  module _ (number : ℕ) (h : 4 ≤ length m) (n : accept number ≡ number_read (get_or m 1 0)) where
-    listed_in : (number_in m ≡ number) × ((eqb (number_in m) accepted || listed (number_in m) all_numbers) ≡ true)
+  -- of a number that is read as o
+  module _ (o : Option Refusal) (h : 4 ≤ length m) (n : accept (carried o) ≡ number_read (get_or m 1 0)) where
+    listed_in : (number_in m ≡ carried o) × ((eqb (number_in m) accepted || listed (number_in m) all_numbers) ≡ true)
     listed_in = go (eqb (number_in m) accepted || listed (number_in m) all_numbers) n
       where
-        go : (b : Bool) → accept number ≡ cond b (accept (number_in m)) (refuse wrong_length) → (number_in m ≡ number) × (b ≡ true)
+        go : (b : Bool) → accept (carried o) ≡ cond b (accept (number_in m)) (refuse wrong_length)
+            → (number_in m ≡ carried o) × (b ≡ true)
         go true n = (cc, refl)
         go false n = (cc, cc)
 
-    carries : (laid : ℕ) (d : List ℕ) → laid ≡ laid_stated m → d ≡ drop 4 m → (b : Bool) → b ≡ may_carry k number laid d → is_reply k m ≡ b
-    carries laid d l q b c = rw (reply_is k m h, listed_in.1, listed_in.0, ← l, ← q, ← c) refl
+    carries : (laid : ℕ) (d : List ℕ) → laid ≡ laid_stated m → d ≡ drop 4 m → (b : Bool) → b ≡ may_carry k o laid d
+        → is_reply k m ≡ b
+    carries laid d l q b c = rw (reply_is k m h, listed_in.1, listed_in.0, ← l, ← q) (sym (c ∙ carry_is k o laid d))
 
-    pub body_misfit : (laid : ℕ) (d : List ℕ) → laid ≡ laid_stated m → d ≡ drop 4 m → false ≡ may_carry k number laid d → Refused wrong_length ≡ read_body kind m
+    pub body_misfit : (laid : ℕ) (d : List ℕ) → laid ≡ laid_stated m → d ≡ drop 4 m → false ≡ may_carry k o laid d
+        → Refused wrong_length ≡ read_body kind m
     body_misfit laid d l q c = sym (body_is ∙ rw (carries laid d l q false c) refl)
 
-    pub body_told : (laid : ℕ) (d : List ℕ) → laid ≡ laid_stated m → d ≡ drop 4 m → true ≡ may_carry k number laid d
-        → Reply number laid 6 (length d) ≡ read_body kind m
+    pub body_told : (laid : ℕ) (d : List ℕ) → laid ≡ laid_stated m → d ≡ drop 4 m → true ≡ may_carry k o laid d
+        → Reply (carried o) laid 6 (length d) ≡ read_body kind m
     body_told laid d l q c = sym (body_is ∙ rw (carries laid d l q true c, listed_in.0, ← l, ← q) refl)
 
 -- no data are longer than 64 bytes

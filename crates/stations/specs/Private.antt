@@ -1,6 +1,7 @@
 -- What the private functions of this layer ask of each other and promise. For the proofs alone: no exported contract
 -- names it.
-use Rattle.std.specs.Prelude.{ℕ, ◌+◌, ◌-◌, ◌<◌, ◌≤◌, Bool, ◌&&◌, ◌||◌, cond, List, [], ◌∷◌, ◌++◌, length, take, replicate, ltb, eqb}
+use Rattle.std.specs.Prelude.{ℕ, ◌+◌, ◌-◌, ◌<◌, ◌≤◌, Bool, ◌&&◌, ◌||◌, cond, Option, Some, None, List, [], ◌∷◌, ◌++◌, length, take, replicate, ltb, eqb}
+use Rattle.tables.specs.declared.refusals.Refusal.{Refusal}
 use Rattle.tables.specs.Lists.{listed}
 use Rattle.tables.specs.Numbers.{accepted, wrong_length, all_numbers}
 use Rattle.steps.specs.declared.Kind.{Kind}
@@ -47,6 +48,7 @@ arguments k c = take 4 (values (names k) c [] ++ replicate 4 0)
 abbrev pub number_read : ℕ → Outcome ℕ
 number_read n = cond (eqb n accepted || listed n all_numbers) (accept n) (refuse wrong_length)
 
--- whether a reply to a message of kind k with this number may have so many bytes laid, and data d
-abbrev pub may_carry : Kind → ℕ → ℕ → List ℕ → Bool
-may_carry k number laid d = cond (eqb number accepted) (formed (tells k) d) (eqb (length d) 0 && eqb laid 0)
+-- whether a reply to a message of kind k, which carries this refusal or none, may have so many bytes laid, and data d
+abbrev pub may_carry : Kind → Option Refusal → ℕ → List ℕ → Bool
+may_carry k None laid d = formed (tells k) d
+may_carry k (Some refusal) laid d = eqb (length d) 0 && eqb laid 0

@@ -1,7 +1,7 @@
 // The reader for replies.
-ghost use Rattle.std.specs.Prelude.{◌/◌, ◌≡◌, length};
+ghost use Rattle.std.specs.Prelude.{◌/◌, ◌≡◌, ◌&&◌, length, eqb};
 ghost use Rattle.steps.specs.declared.Data.TheVariants.{Copies};
-ghost use Rattle.steps.specs.Data.{copy_marks_valid, each_is, formed};
+ghost use Rattle.steps.specs.Data.{copy_marks_valid, each_is, formed, many};
 ghost use Rattle.steps.specs.Steps.{mapped, outcome_of};
 ghost use Rattle.stations.specs.Promises.{ReadOf};
 ghost use Rattle.stations.specs.Reader.{carried, reading, read_body};
@@ -33,6 +33,13 @@ fn marks_valid(copies: &[u8]) -> bool
         .all(|copy| matches!(copy, [_, 0..=1, 0..=1]))
 }
 
+// Whether a page may have so many copies.
+fn is_copy_count(n: usize) -> bool
+    ensures { result ≡ many 1 8 n }
+{
+    (1..=8).contains(&n)
+}
+
 // Whether data are those of a look at a page.
 #[tactic(auto, unfolding(steps::specs::Data::formed))]
 fn are_copies(d: &[u8]) -> bool
@@ -42,10 +49,7 @@ fn are_copies(d: &[u8]) -> bool
         return false;
     };
     let n = *n as usize;
-    if (n == 0) | (n > 8) | (copies.len() != 3 * n) {
-        return false;
-    }
-    marks_valid(copies)
+    is_copy_count(n) && copies.len() == 3 * n && marks_valid(copies)
 }
 
 // Whether data are of the form that is told.
@@ -61,12 +65,19 @@ fn is_formed(tells: Data, d: &[u8]) -> bool
     }
 }
 
+// Whether a reply has no bytes laid and no data, as that of a refusal.
+fn is_bare(laid: u16, len: usize) -> bool
+    ensures { result ≡ (eqb len 0 && eqb laid 0) }
+{
+    (len == 0) & (laid == 0)
+}
+
 // Whether a reply to a message of this kind may carry so many bytes laid and these data.
 fn may_carry(kind: Kind, refusal: Option<Refusal>, laid: u16, d: &[u8]) -> bool
-    ensures { result ≡ may_carry kind (carried refusal) laid d.now }
+    ensures { result ≡ may_carry kind refusal laid d.now }
 {
     match refusal {
-        Some(_) => d.is_empty() & (laid == 0),
+        Some(_) => is_bare(laid, d.len()),
         None => is_formed(kind.form([0; 4]).tells, d),
     }
 }
