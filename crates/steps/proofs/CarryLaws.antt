@@ -1,7 +1,7 @@
 -- What `carry` leaves: all as lent where the decision does not lie within it, and else what its work says. In order:
 -- what is lent; the first test; what is left.
-use Prim.Native.Nat.{ℕ, ◌+◌, ◌/◌, ◌%◌, ◌≤◌, ◌<◌}
-use mathlib.Core.Path.{◌≡◌, refl, ap, ap₂, ◌∙◌}
+use Prim.Native.Nat.{ℕ, ◌/◌, ◌%◌, ◌≤◌, ◌<◌}
+use mathlib.Core.Path.{◌≡◌, refl, ◌∙◌}
 use mathlib.Core.Bool.{Bool, true, false, not, ◌&&◌, ◌||◌}
 use mathlib.Core.List.{List, ◌++◌}
 use native.Mathlib.Omega.{arith}
@@ -17,7 +17,7 @@ use Rattle.steps.specs.declared.Work.{Work}
 use Rattle.steps.specs.declared.Decision.{Decision}
 use Rattle.steps.specs.Stores.{over}
 use Rattle.steps.specs.Effects.{stored, work_data}
-use Rattle.steps.specs.Promises.{lent, frame_within, clear_within, work_within, carried}
+use Rattle.steps.specs.Promises.{lent, frame_within, work_within, carried}
 use Rattle.steps.specs.Private.{Room, EachBelow, frames_in}
 use Rattle.steps.proofs.StoreLaws.{taken_apart}
 use Rattle.steps.proofs.Blocks.{within_low}
@@ -34,12 +34,6 @@ pub each_below : (those : Copy → Bool) (limit : ℕ) (g : Page) → all (frame
 each_below those limit g e i h u =
     within_low those limit (get_or (copies_in_use g) i zero_copy)
     (all_at (frame_within those limit) (copies_in_use g) i zero_copy e h) u
-
--- a frame that is filled lies within stores of the same lengths
-pub fill_fits : (x y x' y' : List ℕ) (f : ℕ) → length x' ≡ length x → length y' ≡ length y → length x % 64 ≡ 0
-    → clear_within (frames_in x y) f ≡ true → (length x' % 64 ≡ 0) × (clear_within (frames_in x' y') f ≡ true)
-fill_fits x y x' y' f p q w e =
-    (ap (λ (n : ℕ). n % 64) p ∙ w, ap₂ (λ (m n : ℕ). clear_within (m / 64 + n / 64) f) p q ∙ e)
 
 -- one of two tests fails
 pub not_left : (a b : Bool) → a ≡ false → (a && b) ≡ false
