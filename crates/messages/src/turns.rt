@@ -96,30 +96,34 @@ pub fn answer(
     let asked = early(asked_in(next, m), Ok(()), out.len());
     let decided = decide_asked_any(tables, asked, bytes.len(), fast.len(), slow.len());
     let len = reply(decided, bytes, fast, slow, out);
-    match decided {
-        Ok(d) => match d.change {
-            Some(change) => Answered {
-                answer: Ok(()),
+    let d = match decided {
+        Ok(d) => d,
+        Err(refusal) => {
+            return Answered {
+                answer: Err(refusal),
                 len,
-                laid: d.laid,
-                moved: true,
-                tables: tables.after(change),
-            },
-            None => Answered {
-                answer: Ok(()),
-                len,
-                laid: d.laid,
+                laid: 0,
                 moved: false,
                 tables,
-            },
-        },
-        Err(refusal) => Answered {
-            answer: Err(refusal),
+            };
+        }
+    };
+    if let Some(change) = d.change {
+        let left = tables.after(change);
+        return Answered {
+            answer: Ok(()),
             len,
-            laid: 0,
-            moved: false,
-            tables,
-        },
+            laid: d.laid,
+            moved: true,
+            tables: left,
+        };
+    }
+    Answered {
+        answer: Ok(()),
+        len,
+        laid: d.laid,
+        moved: false,
+        tables,
     }
 }
 

@@ -42,15 +42,15 @@ pub returns-in-Some : goal.returns-in-Some
 returns-in-Some c =
     let r = c.reply-len.ensures in
     let is = c.in-Ok.is in
-    replied (rw is at (done (goal.at.returns-in-Some c).After-decide_asked_any-decided)) _ (c.after.ensures ∙ changed _ c.in-Some.is)
+    replied (rw is at (done (goal.at.returns-in-Some c).After-decide_asked_any-decided)) _ (c.after-left.ensures ∙ changed _ c.in-Some.is)
     (rw is at r.leaves) refl (rw is at r.length) refl (moved_some c.in-Some.is)
 
-pub returns-in-None : goal.returns-in-None
-returns-in-None c =
+pub returns : goal.returns
+returns c =
     let r = c.reply-len.ensures in
     let is = c.in-Ok.is in
-    replied (rw is at (done (goal.at.returns-in-None c).After-decide_asked_any-decided)) _ (unchanged _ c.in-None.is)
-    (rw is at r.leaves) refl (rw is at r.length) refl (moved_none c.in-None.is)
+    replied (rw is at (done (goal.at.returns c).After-decide_asked_any-decided)) _ (unchanged _ c.in_default.is)
+    (rw is at r.leaves) refl (rw is at r.length) refl (moved_none c.in_default.is)
 
 pub returns-in-Err : goal.returns-in-Err
 returns-in-Err c =
