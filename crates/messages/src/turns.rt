@@ -79,7 +79,7 @@ fn decide_asked_any(
 
 // One message, its length first, on any tables and stores and with any reply buffer.
 pub fn answer(
-    tables: Tables,
+    mut tables: Tables,
     fast: &mut [u8],
     slow: &mut [u8],
     message: &[u8],
@@ -109,20 +109,13 @@ pub fn answer(
         }
     };
     if let Some(change) = d.change {
-        let left = tables.after(change);
-        return Answered {
-            answer: Ok(()),
-            len,
-            laid: d.laid,
-            moved: true,
-            tables: left,
-        };
+        tables = tables.after(change);
     }
     Answered {
         answer: Ok(()),
         len,
         laid: d.laid,
-        moved: false,
+        moved: d.change.is_some(),
         tables,
     }
 }
