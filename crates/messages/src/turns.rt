@@ -110,12 +110,19 @@ pub fn answer(
     };
     if let Some(change) = d.change {
         tables = tables.after(change);
+        return Answered {
+            answer: Ok(()),
+            len,
+            laid: d.laid,
+            moved: true,
+            tables,
+        };
     }
     Answered {
         answer: Ok(()),
         len,
         laid: d.laid,
-        moved: d.change.is_some(),
+        moved: false,
         tables,
     }
 }

@@ -3,14 +3,14 @@ use mathlib.Core.Path.{◌≡◌, refl, ap, ◌∙◌}
 use lib.ListN.{length}
 use Rattle.steps.specs.declared.Call.{Call}
 use Rattle.steps.specs.Steps.{Outcome, outcome_of, decide_any}
-use Rattle.steps.specs.Promises.{state_of, decision_of, settled}
+use Rattle.steps.specs.Promises.{state_of, decision_of}
 use Rattle.messages.specs.declared.Next.{Next}
 use Rattle.messages.specs.Run.{asked, bytes_of, answer}
 use Rattle.messages.specs.Promises.{sent_by, sent_alone}
 use Rattle.messages.specs.Private.{early, decided_any}
-use Rattle.messages.proofs.TurnLaws.{Decided, decided, changed, unchanged, replied, asked_by, bytes_by}
+use Rattle.messages.proofs.TurnLaws.{Decided, decided, changed, unchanged, moved_some, moved_none, replied, asked_by, bytes_by}
 use Rattle.messages.proofs.turns.answer.Goals as goal
-use Rattle.messages.proofs.turns.answer.Goals.{After-decide_asked_any-decided, in-Some, in_default}
+use Rattle.messages.proofs.turns.answer.Goals.{After-decide_asked_any-decided}
 
 -- what is known where the message is decided on
 done : (c : After-decide_asked_any-decided) →
@@ -38,18 +38,19 @@ done c =
 pub reply-len-requires : goal.reply-len-requires
 reply-len-requires c = (done (goal.at.reply-len-requires c).After-decide_asked_any-decided).room
 
-pub returns : goal.returns
-returns c =
-    let v = c.args in
+pub returns-in-Some : goal.returns-in-Some
+returns-in-Some c =
     let r = c.reply-len.ensures in
     let is = c.in-Ok.is in
-    let left : c.match-d.tables ≡ settled v.tables c.in-Ok.d =
-    elim c.match-d.branch [
-      | in-Some w ↦ w.tables-is ∙ w.after-tables.ensures ∙ changed v.tables w.in-Some.is
-      | in_default w ↦ w.tables-is ∙ unchanged v.tables w.in_default.is
-    ] in
-    replied (rw is at (done (goal.at.returns c).After-decide_asked_any-decided)) _ left
-    (rw is at r.leaves) refl (rw is at r.length) refl c.is_some.ensures
+    replied (rw is at (done (goal.at.returns-in-Some c).After-decide_asked_any-decided)) _ (c.after-tables.ensures ∙ changed _ c.in-Some.is)
+    (rw is at r.leaves) refl (rw is at r.length) refl (moved_some c.in-Some.is)
+
+pub returns : goal.returns
+returns c =
+    let r = c.reply-len.ensures in
+    let is = c.in-Ok.is in
+    replied (rw is at (done (goal.at.returns c).After-decide_asked_any-decided)) _ (unchanged _ c.in_default.is)
+    (rw is at r.leaves) refl (rw is at r.length) refl (moved_none c.in_default.is)
 
 pub returns-in-Err : goal.returns-in-Err
 returns-in-Err c =
