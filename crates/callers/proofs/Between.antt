@@ -75,7 +75,7 @@ whole_begins a b l few =
 
 begins : (l : List ℕ) (x : Sent) (xs : List Sent) → messages_of l ≡ x ∷ xs → Begins l x xs
 unfolding messages_of split
-begins [] x xs e = let z : ◌≡◌ {A = ℕ} 0 1 = cc in absurd (omega arith)
+begins [] x xs e = cc
 begins (a ∷ []) x xs e =
     let y : cut ≡ x = cc in
     let ys : [] ≡ xs = cc in

@@ -5,7 +5,6 @@ use Prim.Native.Nat.{ℕ}
 use mathlib.Core.Path.{◌≡◌, refl, sym, ap, ap₂, ◌∙◌, subst}
 use mathlib.Core.Bool.{Bool, true}
 use mathlib.Core.List.{List, [], ◌∷◌, map}
-use native.Mathlib.Omega.{arith}
 use lib.ListN.{length}
 use Rattle.tables.specs.declared.Tables.{Tables}
 use Rattle.tables.specs.Rules.{sound}
@@ -82,8 +81,8 @@ module _ {k k' : Kept} {cs cs' : List Called} (w : Twins (state_in k) (state_in 
 told_same : (ts ts' : List Turn) → map told ts ≡ map told ts' → map (reply_covered 70) ts ≡ map (reply_covered 70) ts'
     → map (told_of 70) ts ≡ map (told_of 70) ts'
 told_same [] [] e r = refl
-told_same [] (t ∷ ts) e r = let z : ◌≡◌ {A = ℕ} 0 1 = cc in absurd (omega arith)
-told_same (t ∷ ts) [] e r = let z : ◌≡◌ {A = ℕ} 0 1 = cc in absurd (omega arith)
+told_same [] (t ∷ ts) e r = cc
+told_same (t ∷ ts) [] e r = cc
 told_same (t ∷ ts) (t' ∷ ts') e r =
     let a : told t ≡ told t' = cc in
     let b : reply_covered 70 t ≡ reply_covered 70 t' = cc in

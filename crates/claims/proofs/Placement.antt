@@ -97,8 +97,8 @@ slot_same h h' g g' d a = go h.stands h'.stands d a
         let owners : g'.owner ≡ g.owner = ap (λ (x : ℕ × List ℕ). x.0) e in
         let rights : g'.rights ≡ g.rights = ap (λ (x : ℕ × List ℕ). x.1) e in
         rw (owners, rights, d)
-    go true false d a = let z : ◌≡◌ {A = ℕ} 0 1 = cc in absurd (omega arith)
-    go false true d a = let z : ◌≡◌ {A = ℕ} 0 1 = cc in absurd (omega arith)
+    go true false d a = cc
+    go false true d a = cc
     go false false d a = refl
 
 module _ (n : ℕ) (H : ℕ → PageHistory) (s : State) (k : Histories n H s) (room : ℕ) (x : Sent)

@@ -5,7 +5,7 @@ use mathlib.Core.Path.{◌≡◌, refl, sym, ap, ◌∙◌}
 use mathlib.Core.Bool.{true, false}
 use mathlib.Core.List.{List, [], ◌∷◌}
 use native.Mathlib.Omega.{arith}
-use lib.ListN.{length, drop, length-replicate, length-set}
+use lib.ListN.{length, drop, length-set}
 use Rattle.tables.specs.declared.Tables.{Tables}
 use Rattle.tables.specs.Numbers.{accepted}
 use Rattle.tables.specs.Rules.{frames_held, sound}
@@ -20,7 +20,7 @@ use Rattle.messages.specs.declared.Next.{Next}
 use Rattle.messages.specs.Messages.{next_at}
 use Rattle.messages.specs.Replies.{up_to}
 use Rattle.messages.specs.Run.{Sent, asked, bytes_of, messages_of, yielded}
-use Rattle.messages.specs.Forecast.{Forecast, Foreseen, foreseen_call, foreseen_by, foreseen, numbers_counted, no_counts, counted_under, at_start, with_message, forecast_of}
+use Rattle.messages.specs.Forecast.{Forecast, Foreseen, foreseen_call, foreseen_by, foreseen, numbers_counted, counted_under, at_start, with_message, forecast_of}
 use Rattle.messages.specs.Promises.{sent_by}
 use Rattle.messages.specs.Private.{is_end, past_of, and_then, laid_then, settled_then}
 use Rattle.messages.proofs.ReaderLaws.{reader_yields}
@@ -104,18 +104,6 @@ pub record Foreseeing (file : List ℕ) (t₀ : Tables) (at : ℕ) (t : Tables) 
   pub long : length counts ≡ numbers_counted
   pub rest : forecast_of (figures most laid counts) t (messages_of (drop at file))
       ≡ forecast_of (at_start t₀) t₀ (messages_of file)
-
-pub foreseeing_all : (file : List ℕ) (t : Tables) (held : ℕ) → sound t ≡ true → held ≡ frames_held t
-    → Foreseeing file t 0 t held held 0 no_counts
-foreseeing_all file t held ok e =
-    record {
-      keeps = ok;
-      counted = e;
-      top = omega arith;
-      limited = omega arith;
-      long = length-replicate {A = ℕ} numbers_counted 0;
-      rest = rw e;
-    }
 
 same_figures : {most most' laid laid' : ℕ} {counts counts' : List ℕ} → most ≡ most' → laid ≡ laid' → counts ≡ counts'
     → figures most laid counts ≡ figures most' laid' counts'

@@ -166,7 +166,7 @@ passes file at x xs e = by (is_end (next_at file at)) refl
     by : (b : Bool) → is_end (next_at file at) ≡ b → messages_of (drop (passed (length file) at x) file) ≡ xs
     by true f =
         let none : [] ≡ x ∷ xs = sym (none_left file (next_at file at) f) ∙ sym (reader_yields file at) ∙ e in
-        let z : ◌≡◌ {A = ℕ} 0 1 = cc in absurd (omega arith)
+        cc
     by false f =
         let g = follows file at (next_at file at) refl f in
         let both : sent_by file (next_at file at) ∷ messages_of (drop (passed (length file) at (sent_by file (next_at file at))) file) ≡ x ∷ xs =
@@ -308,9 +308,9 @@ end_at file at = go (leb (length file) at) refl (ltb (length file) (at + 2)) (lt
         → is_end (cond a End (cond b Cut (cond c Cut (Message (at + 2) (length_at file at) (at + 2 + length_at file at))))) ≡ true
         → length file ≤ at
     go true e b c p = leb-true (length file) at e
-    go false e true c p = let z : ◌≡◌ {A = ℕ} 0 1 = cc in absurd (omega arith)
-    go false e false true p = let z : ◌≡◌ {A = ℕ} 0 1 = cc in absurd (omega arith)
-    go false e false false p = let z : ◌≡◌ {A = ℕ} 0 1 = cc in absurd (omega arith)
+    go false e true c p = cc
+    go false e false true p = cc
+    go false e false false p = cc
 
 first_place : (room end at : ℕ) (s : State) (x : Sent) (xs : List Sent)
     → place_after end at (served room 0 (turns_of room s (x ∷ xs)))

@@ -61,11 +61,11 @@ asked_by m c =
         (cond (less || more) (refuse wrong_length) (accept (call_of (kind_of (get_or m 1 0)) (drop 2 m)))))
         ≡ accept c
         → AskedBy m c
-    ladder true e b f u g less h more i p = let z : ◌≡◌ {A = ℕ} 0 1 = cc in absurd (omega arith)
-    ladder false e true f u g less h more i p = let z : ◌≡◌ {A = ℕ} 0 1 = cc in absurd (omega arith)
-    ladder false e false f true g less h more i p = let z : ◌≡◌ {A = ℕ} 0 1 = cc in absurd (omega arith)
-    ladder false e false f false g true h more i p = let z : ◌≡◌ {A = ℕ} 0 1 = cc in absurd (omega arith)
-    ladder false e false f false g false h true i p = let z : ◌≡◌ {A = ℕ} 0 1 = cc in absurd (omega arith)
+    ladder true e b f u g less h more i p = cc
+    ladder false e true f u g less h more i p = cc
+    ladder false e false f true g less h more i p = cc
+    ladder false e false f false g true h more i p = cc
+    ladder false e false f false g false h true i p = cc
     ladder false e false f false g false h false i p =
         record {
           version = e;

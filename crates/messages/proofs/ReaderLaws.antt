@@ -176,9 +176,9 @@ message_at file at start len next =
     go : (a b c : Bool) → ltb (length file) (at + 2 + length_at file at) ≡ c
         → Message start len next ≡ cond a End (cond b Cut (cond c Cut (Message (at + 2) (length_at file at) (at + 2 + length_at file at))))
         → MessageAt file at start len next
-    go true b c e p = let z : ◌≡◌ {A = ℕ} 0 1 = cc in absurd (omega arith)
-    go false true c e p = let z : ◌≡◌ {A = ℕ} 0 1 = cc in absurd (omega arith)
-    go false false true e p = let z : ◌≡◌ {A = ℕ} 0 1 = cc in absurd (omega arith)
+    go true b c e p = cc
+    go false true c e p = cc
+    go false false true e p = cc
     go false false false e p =
         let l : len ≡ length_at file at = cc in
         let n : next ≡ at + 2 + length_at file at = cc in

@@ -35,7 +35,7 @@ pub record Due (file : List ℕ) (at : ℕ) (is_full : Bool) (next : Next) : Typ
   pub found : next ≡ next_at file at
 
 pub due : (file : List ℕ) (at : ℕ) (is_full : Bool) (next : Next) → next ≡ due_at file at is_full → is_end next ≡ false → Due file at is_full next
-due file at true next e h = let f : true ≡ false = ap is_end (sym e) ∙ h in let z : ◌≡◌ {A = ℕ} 0 1 = cc in absurd (omega arith)
+due file at true next e h = let f : true ≡ false = ap is_end (sym e) ∙ h in cc
 due file at false next e h = record { roomy = refl; found = e }
 
 cut_inside : (file : List ℕ) (at : ℕ) → Cut ≡ next_at file at → at < length file
@@ -46,7 +46,7 @@ cut_inside file at = go (leb (length file) at) refl
         → Cut ≡ cond b End (cond (ltb (length file) (at + 2)) Cut
         (cond (ltb (length file) (at + 2 + length_at file at)) Cut (Message (at + 2) (length_at file at) (at + 2 + length_at file at))))
         → at < length file
-    go true e p = let z : ◌≡◌ {A = ℕ} 0 1 = cc in absurd (omega arith)
+    go true e p = cc
     go false e p = leb-false (length file) at e
 
 -- the message, those that follow it, and the place past it
@@ -74,7 +74,7 @@ follows file at Cut e h =
       further = cut_inside file at e;
       inside = omega arith;
     }
-follows file at End e h = let z : ◌≡◌ {A = ℕ} 0 1 = cc in absurd (omega arith)
+follows file at End e h = cc
 
 -- ---- room for a reply
 
@@ -133,11 +133,6 @@ pub record Going (keep : Bool) (file : List ℕ) (v₀ : Serving) (known : ℕ) 
   pub rest : served_all keep (length v₀.buffer) (length file) v (messages_of (drop v.at file))
       ≡ served_all keep (length v₀.buffer) (length file) v₀ (messages_of (drop v₀.at file))
 
-pub going_all : (keep : Bool) (file : List ℕ) (at : ℕ) (s : State) (out : List ℕ) (n : Tally)
-    → Going keep file (serving at 0 s out n false) (rules_of s) (serving at 0 s out n false)
-going_all keep file at s out n =
-    record { fast_long = refl; slow_long = refl; out_long = refl; rules = refl; inside = omega arith; rest = refl }
-
 -- where messages stand after one more, and where the buffer is full
 served_step : (keep : Bool) (room end : ℕ) (v : Serving) (x : Sent) (xs : List Sent) → full room v.used ≡ false
     → served_all keep room end v (x ∷ xs)
@@ -151,8 +146,8 @@ served_full keep room end v [] h = refl
 served_full keep room end v (x ∷ xs) h = rw h
 
 pub none_left : (file : List ℕ) (next : Next) → is_end next ≡ true → yielded file next ≡ []
-none_left file (Message start len next) h = let z : ◌≡◌ {A = ℕ} 0 1 = cc in absurd (omega arith)
-none_left file Cut h = let z : ◌≡◌ {A = ℕ} 0 1 = cc in absurd (omega arith)
+none_left file (Message start len next) h = cc
+none_left file Cut h = cc
 none_left file End h = refl
 
 same_reply : (a b : ℕ) (o p : Outcome Result) → ltb a 70 ≡ ltb b 70 → o ≡ p → reply_in a o ≡ reply_in b p

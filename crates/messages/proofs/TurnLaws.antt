@@ -12,13 +12,14 @@ use borrow.Author.Tests.{ltb-false, le-ltb, eqb-true, eqb-false, ne_eqb}
 use Rattle.std.specs.Prelude.{Option, Some, None, is_some}
 use Rattle.tables.specs.declared.Change.{Change}
 use Rattle.tables.specs.declared.Tables.{Tables}
+use Rattle.tables.specs.Changes.{after}
 use Rattle.tables.specs.Numbers.{accepted, short_buffer, answer_number}
 use Rattle.steps.specs.declared.Call.{Call}
 use Rattle.steps.specs.declared.Decision.{Decision}
 use Rattle.steps.specs.Stores.{part, over}
 use Rattle.steps.specs.Steps.{Outcome, refuse, accept, test, number_of, rules_number, decide_any}
 use Rattle.steps.specs.Effects.{State, Result, step, left, moved_by, laid_by, data_of}
-use Rattle.steps.specs.Promises.{state_of, decision_of, moved_to, Lent, lent, settled}
+use Rattle.steps.specs.Promises.{state_of, decision_of, moved_to, Lent, lent}
 use Rattle.steps.proofs.StepLaws.{carries, step_refused, step_unruled, step_ruled, step_unmoved, data_short, step_told}
 use Rattle.messages.specs.declared.Next.{Next}
 use Rattle.messages.specs.declared.Next.TheVariants.{Message, Cut, End}
@@ -43,7 +44,7 @@ asked_some x n e z = go (asked x) (asked_known x) e
   where
     go : (m : Outcome Call) → Known m → m ≡ refuse n → ⊥
     go (refuse k) (bad some few) e = let w : k ≡ n = cc in omega arith
-    go (accept c) k e = let w : ◌≡◌ {A = ℕ} 0 1 = cc in omega arith
+    go (accept c) k e = cc
 
 -- a refusal is told by its number
 pub answer_told : (room : ℕ) (s : State) (x : Sent) → is_refusal (answer room s x) ≡ not (eqb (number_of (answer room s x)) 0)
@@ -160,13 +161,19 @@ pub data_few : (out : List ℕ) (d : Outcome Decision) → RoomFor out d → dat
 data_few out (refuse n) k = zero-le
 data_few out (accept d) k = k.few
 
--- no change leaves the tables
-pub unsettled : (t : Tables) (d : Decision) → is_some d.change ≡ false → t ≡ settled t d
-unsettled t d e = by d.change e
-  where
-    by : (change : Option Change) → is_some change ≡ false → t ≡ moved_to t change
-    by None e = refl
-    by (Some x) e = cc
+-- the tables with the change that there is, and where there is none as they were
+module _ {change : Option Change} where
+  pub changed : (t : Tables) {x : Change} → change ≡ Some x → after t x ≡ moved_to t change
+  changed t e = rw e
+
+  pub unchanged : (t : Tables) → change ≡ None → t ≡ moved_to t change
+  unchanged t e = rw e
+
+  pub moved_some : {x : Change} → change ≡ Some x → true ≡ is_some change
+  moved_some e = rw e
+
+  pub moved_none : change ≡ None → false ≡ is_some change
+  moved_none e = rw e
 
 -- what `answer` promises
 pub replied : {s : State} {o : Outcome Result} {out bs : List ℕ} {d : Outcome Decision} → Decided s o out bs d

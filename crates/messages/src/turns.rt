@@ -12,7 +12,7 @@ use crate::reading::message_at;
 use crate::replies::reply;
 use crate::tallies::count;
 use crate::{Answered, Filled, Next, Ran, Tally};
-use steps::{Call, Decision, decide, decide_any, rules, settle};
+use steps::{Call, Decision, decide, decide_any, rules};
 use tables::{Refusal, Tables};
 
 // The first of these that turns a message back, and else its call: 18; its own 1 to 4; `known`, which in a run is the 5
@@ -39,8 +39,7 @@ pub(crate) fn bytes_in(file: &[u8], next: Next) -> &[u8]
 {
     match next {
         Next::Message { start, next, .. } => &file[start..next],
-        Next::Cut => &file[..0],
-        Next::End => &file[..0],
+        Next::Cut | Next::End => &[],
     }
 }
 
@@ -50,8 +49,7 @@ pub(crate) fn asked_in(next: Next, m: &[u8]) -> Result<Call, Refusal>
 {
     match next {
         Next::Message { .. } => parse(m),
-        Next::Cut => Err(Refusal::CutShort),
-        Next::End => Err(Refusal::CutShort),
+        Next::Cut | Next::End => Err(Refusal::CutShort),
     }
 }
 
@@ -99,12 +97,21 @@ pub fn answer(
     let decided = decide_asked_any(tables, asked, bytes.len(), fast.len(), slow.len());
     let len = reply(decided, bytes, fast, slow, out);
     match decided {
-        Ok(d) => Answered {
-            answer: Ok(()),
-            len,
-            laid: d.laid,
-            moved: d.change.is_some(),
-            tables: settle(tables, d),
+        Ok(d) => match d.change {
+            Some(change) => Answered {
+                answer: Ok(()),
+                len,
+                laid: d.laid,
+                moved: true,
+                tables: tables.after(change),
+            },
+            None => Answered {
+                answer: Ok(()),
+                len,
+                laid: d.laid,
+                moved: false,
+                tables,
+            },
         },
         Err(refusal) => Answered {
             answer: Err(refusal),
@@ -121,9 +128,10 @@ fn due_at(file: &[u8], at: usize, full: bool) -> Next
     ensures { result ≡ due_at file.now at full }
 {
     if full {
-        return Next::End;
+        Next::End
+    } else {
+        message_at(file, at)
     }
-    message_at(file, at)
 }
 
 pub(crate) fn is_end(next: Next) -> bool
@@ -138,8 +146,7 @@ pub(crate) fn past(next: Next, end: usize) -> usize
 {
     match next {
         Next::Message { next, .. } => next,
-        Next::Cut => end,
-        Next::End => end,
+        Next::Cut | Next::End => end,
     }
 }
 
@@ -194,8 +201,8 @@ fn serve(
         match decided {
             Ok(d) => {
                 count(&mut tally, false, d.laid);
-                if d.change.is_some() {
-                    tables = settle(tables, d);
+                if let Some(change) = d.change {
+                    tables = tables.after(change);
                     moved = true;
                 }
             }

@@ -295,8 +295,8 @@ same_forecast : (xs xs' : List Sent) → SameBut xs xs' → (f : Forecast) (t : 
     → forecast_of f t xs ≡ forecast_of f t xs'
 unfolding forecast_of
 same_forecast [] [] e f t = refl
-same_forecast [] (x' ∷ xs') e f t = let z : ◌≡◌ {A = ℕ} 0 1 = cc in absurd (omega arith)
-same_forecast (x ∷ xs) [] e f t = let z : ◌≡◌ {A = ℕ} 0 1 = cc in absurd (omega arith)
+same_forecast [] (x' ∷ xs') e f t = cc
+same_forecast (x ∷ xs) [] e f t = cc
 same_forecast (x ∷ xs) (x' ∷ xs') e f t =
     let first : message_covered x ≡ message_covered x' = cc in
     let rest : map message_covered xs ≡ map message_covered xs' = cc in

@@ -315,8 +315,8 @@ pub messages_alike : (room : ℕ) (n : Tally) (xs xs' : List Sent) → SameBut x
     → Alike room n (run_over room xs s) (run_over room xs' s')
 unfolding turns_of end_of
 messages_alike room n [] [] e s s' w = none_alike room n s s' w
-messages_alike room n [] (x' ∷ xs') e s s' w = let z : ◌≡◌ {A = ℕ} 0 1 = cc in absurd (omega arith)
-messages_alike room n (x ∷ xs) [] e s s' w = let z : ◌≡◌ {A = ℕ} 0 1 = cc in absurd (omega arith)
+messages_alike room n [] (x' ∷ xs') e s s' w = cc
+messages_alike room n (x ∷ xs) [] e s s' w = cc
 messages_alike room n (x ∷ xs) (x' ∷ xs') e s s' w =
     let first : message_covered x ≡ message_covered x' = cc in
     let rest : map message_covered xs ≡ map message_covered xs' = cc in
@@ -331,8 +331,8 @@ part_alike : (room used end at : ℕ) (n : Tally) (xs xs' : List Sent) → SameB
     (run_from us' (state_after s' us'))
 unfolding turns_of served place_after state_after
 part_alike room used end at n [] [] e s s' w = (refl, none_alike room n s s' w)
-part_alike room used end at n [] (x' ∷ xs') e s s' w = let z : ◌≡◌ {A = ℕ} 0 1 = cc in absurd (omega arith)
-part_alike room used end at n (x ∷ xs) [] e s s' w = let z : ◌≡◌ {A = ℕ} 0 1 = cc in absurd (omega arith)
+part_alike room used end at n [] (x' ∷ xs') e s s' w = cc
+part_alike room used end at n (x ∷ xs) [] e s s' w = cc
 part_alike room used end at n (x ∷ xs) (x' ∷ xs') e s s' w =
     let first : message_covered x ≡ message_covered x' = cc in
     let rest : map message_covered xs ≡ map message_covered xs' = cc in
@@ -436,8 +436,8 @@ buffer_alike : (room : ℕ) (xs xs' : List Sent) → SameBut xs xs' → all (λ 
     → (out : List ℕ) → buffer room (turns_of room s xs) out ≡ buffer room (turns_of room s' xs') out
 unfolding turns_of buffer all
 buffer_alike room [] [] e none s s' w out = refl
-buffer_alike room [] (x' ∷ xs') e none s s' w out = let z : ◌≡◌ {A = ℕ} 0 1 = cc in absurd (omega arith)
-buffer_alike room (x ∷ xs) [] e none s s' w out = let z : ◌≡◌ {A = ℕ} 0 1 = cc in absurd (omega arith)
+buffer_alike room [] (x' ∷ xs') e none s s' w out = cc
+buffer_alike room (x ∷ xs) [] e none s s' w out = cc
 buffer_alike room (x ∷ xs) (x' ∷ xs') e none s s' w out =
     let first : message_covered x ≡ message_covered x' = cc in
     let rest : map message_covered xs ≡ map message_covered xs' = cc in

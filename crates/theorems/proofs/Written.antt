@@ -151,8 +151,8 @@ sent_taken l m e few = go (next_at l 0) refl e
         let high : f.high ≡ length m / 256 % 256 = omega (arith, f.long, f.size) in
         let low : f.low ≡ length m % 256 = omega (arith, f.long, f.size) in
         ap (λ (n : ℕ). take n l) end ∙ front_taken l start len next f ∙ rw (high, low, is) refl
-    go Cut q p = let z : ◌≡◌ {A = ℕ} 0 1 = cc in absurd (omega arith)
-    go End q p = let z : ◌≡◌ {A = ℕ} 0 1 = cc in absurd (omega arith)
+    go Cut q p = cc
+    go End q p = cc
 
 pub messages_kept : MessagesKept written
 messages_kept m l c out out' r sent asked within h w =

@@ -84,7 +84,7 @@ peeking kind l = peek (length l) (read_reply kind l)
 
 unpeeked : (n : ℕ) (r : Reading) (number laid at len : ℕ) → peek n r ≡ Reading.Reply number laid at len
     → r ≡ Reading.Reply number laid at len
-unpeeked n (Reading.Refused m) number laid at len e = let z : ◌≡◌ {A = ℕ} 0 1 = cc in absurd (omega arith)
+unpeeked n (Reading.Refused m) number laid at len e = cc
 unpeeked n (Reading.Reply a b c d) number laid at len e = e
 
 pub past_alone : Exchange → RepliesTold peeking × RepliesDiffer peeking × (PastUnread peeking → ⊥)
@@ -150,9 +150,9 @@ asked_made m c =
         → cond a (refuse 2) (cond b (refuse 3)
         (cond d (refuse 4) (accept (call_of (kind_of (get_or m 1 0)) (drop 2 m)))))
         ≡ accept c → Made c
-    go true b d e = let z : ◌≡◌ {A = ℕ} 0 1 = cc in absurd (omega arith)
-    go false true d e = let z : ◌≡◌ {A = ℕ} 0 1 = cc in absurd (omega arith)
-    go false false true e = let z : ◌≡◌ {A = ℕ} 0 1 = cc in absurd (omega arith)
+    go true b d e = cc
+    go false true d e = cc
+    go false false true e = cc
     go false false false e = record { kind = kind_of (get_or m 1 0); arguments = drop 2 m; is = cc }
 
 -- of such a call it makes what the writer makes

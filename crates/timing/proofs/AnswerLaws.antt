@@ -1,12 +1,18 @@
 -- Messages that are answered one by one, each by itself, come to the run over their file.
 use Prim.Native.Nat.{ℕ, ◌-◌, ◌≤◌}
-use mathlib.Core.Path.{◌≡◌, sym, ◌∙◌}
+use mathlib.Core.Path.{◌≡◌, refl, sym, ◌∙◌}
 use mathlib.Core.Bool.{not}
 use mathlib.Core.List.{List, [], ◌∷◌}
 use native.Mathlib.Omega.{arith}
 use lib.ListN.{length, take, drop, length-drop}
 use lib.Seq.{take_all}
 use lib.Dec.{eqb}
+use borrow.Author.Tests.{ne_eqb}
+use Rattle.std.specs.Prelude.{Ok, Err, is_err}
+use Rattle.std.specs.Prelude.{Result as Sum}
+use Rattle.tables.specs.declared.refusals.Refusal.{Refusal}
+use Rattle.tables.specs.Numbers.{refusal_number, answer_number}
+use Rattle.steps.proofs.GuardLaws.{refusal_some}
 use Rattle.steps.specs.Stores.{part}
 use Rattle.steps.specs.Effects.{State, laid_by}
 use Rattle.messages.specs.declared.Next.{Next}
@@ -38,6 +44,11 @@ sent_here file at x xs e =
 
 -- ---- the loop
 
+-- an answer that is a refusal has a number
+told : (r : Sum (Unit {0}) Refusal) → is_err r ≡ not (eqb (answer_number r) 0)
+told (Ok x) = refl
+told (Err refusal) = rw (ne_eqb (refusal_number refusal) 0 (refusal_some refusal))
+
 -- where the loop stands at a place in the file: the lengths are as at the start
 pub record Going (s₀ : State) (file out₀ : List ℕ) (n₀ : Tally) (at : ℕ) (s : State) (out : List ℕ) (n : Tally) : Type 0 where
   pub in_file : at ≤ length file
@@ -50,18 +61,18 @@ module _ {s₀ : State} {file out₀ : List ℕ} {n₀ : Tally} {at : ℕ} {s : 
   -- the answer to the message that comes next
   module _ (x : Sent) (xs : List Sent) (follows : messages_of (drop at file) ≡ x ∷ xs) (s' : State) (out' : List ℕ) (n' : Tally) (a : Answered)
       (v : Replied s (answer (length out) s (sent_alone (take (length file - at) (drop at file)))) out s' out' a)
-      (en : n' ≡ counted n (not (eqb a.number 0)) a.laid) where
+      (en : n' ≡ counted n (is_err a.answer) a.laid) where
     reply_here : Replied s (answer (length out) s x) out s' out' a
     reply_here = rw (sent_here file at x xs follows) at v
 
     counts_here : n' ≡ counted n (is_refusal (answer (length out) s x)) (laid_by (answer (length out) s x))
-    counts_here = let w = reply_here in en ∙ rw (answer_told (length out) s x, w.number_told, w.laid_told)
+    counts_here = let w = reply_here in en ∙ rw (told a.answer, answer_told (length out) s x, w.number_told, w.laid_told)
 
   -- after a message
   pub going_on : (start len next : ℕ) (s' : State) (out' : List ℕ) (n' : Tally) (a : Answered) → Message start len next ≡ next_at file at
       → Replied s (answer (length out) s (sent_alone (take (length file - at) (drop at file)))) out s' out' a
       → length s'.fast ≡ length s.fast → length s'.slow ≡ length s.slow → length out' ≡ length out
-      → n' ≡ counted n (not (eqb a.number 0)) a.laid → Going s₀ file out₀ n₀ next s' out' n'
+      → n' ≡ counted n (is_err a.answer) a.laid → Going s₀ file out₀ n₀ next s' out' n'
   going_on start len next s' out' n' a e v lx ly lo en =
       let x = whole (part file start len) in
       let xs = messages_of (drop next file) in
@@ -81,7 +92,7 @@ module _ {s₀ : State} {file out₀ : List ℕ} {n₀ : Tally} {at : ℕ} {s : 
   -- at a cut end
   pub going_cut : (s' : State) (out' : List ℕ) (n' : Tally) (a : Answered) → Cut ≡ next_at file at
       → Replied s (answer (length out) s (sent_alone (take (length file - at) (drop at file)))) out s' out' a
-      → n' ≡ counted n (not (eqb a.number 0)) a.laid
+      → n' ≡ counted n (is_err a.answer) a.laid
       → AnswersEnded (run (length out₀) file s₀) n₀ out₀ s' out' (record { tables = a.tables; tally = n' })
   going_cut s' out' n' a e v en =
       let follows : messages_of (drop at file) ≡ cut ∷ [] = reader_yields file at ∙ rw (← e) in

@@ -43,13 +43,13 @@ fn answers(
             Next::Message { next, .. } => {
                 let a = answer(tables, fast, slow, &file[at..], out);
                 tables = a.tables;
-                tally = tally_after(tally, a.number != 0, a.laid);
+                tally = tally_after(tally, a.answer.is_err(), a.laid);
                 at = next;
             }
             Next::Cut => {
                 let a = answer(tables, fast, slow, &file[at..], out);
                 tables = a.tables;
-                tally = tally_after(tally, a.number != 0, a.laid);
+                tally = tally_after(tally, a.answer.is_err(), a.laid);
                 return Left { tables, tally };
             }
             Next::End => return Left { tables, tally },

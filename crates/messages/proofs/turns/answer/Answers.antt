@@ -8,7 +8,7 @@ use Rattle.messages.specs.declared.Next.{Next}
 use Rattle.messages.specs.Run.{asked, bytes_of, answer}
 use Rattle.messages.specs.Promises.{sent_by, sent_alone}
 use Rattle.messages.specs.Private.{early, decided_any}
-use Rattle.messages.proofs.TurnLaws.{Decided, decided, replied, asked_by, bytes_by}
+use Rattle.messages.proofs.TurnLaws.{Decided, decided, changed, unchanged, moved_some, moved_none, replied, asked_by, bytes_by}
 use Rattle.messages.proofs.turns.answer.Goals as goal
 use Rattle.messages.proofs.turns.answer.Goals.{After-decide_asked_any-decided}
 
@@ -38,11 +38,19 @@ done c =
 pub reply-len-requires : goal.reply-len-requires
 reply-len-requires c = (done (goal.at.reply-len-requires c).After-decide_asked_any-decided).room
 
-pub returns-in-Ok : goal.returns-in-Ok
-returns-in-Ok c =
+pub returns-in-Some : goal.returns-in-Some
+returns-in-Some c =
     let r = c.reply-len.ensures in
-    replied (rw c.in-Ok.is at (done (goal.at.returns-in-Ok c).After-decide_asked_any-decided)) _ c.settle.ensures
-    (rw c.in-Ok.is at r.leaves) refl (rw c.in-Ok.is at r.length) refl c.is_some.ensures
+    let is = c.in-Ok.is in
+    replied (rw is at (done (goal.at.returns-in-Some c).After-decide_asked_any-decided)) _ (c.after.ensures ∙ changed _ c.in-Some.is)
+    (rw is at r.leaves) refl (rw is at r.length) refl (moved_some c.in-Some.is)
+
+pub returns-in-None : goal.returns-in-None
+returns-in-None c =
+    let r = c.reply-len.ensures in
+    let is = c.in-Ok.is in
+    replied (rw is at (done (goal.at.returns-in-None c).After-decide_asked_any-decided)) _ (unchanged _ c.in-None.is)
+    (rw is at r.leaves) refl (rw is at r.length) refl (moved_none c.in-None.is)
 
 pub returns-in-Err : goal.returns-in-Err
 returns-in-Err c =
