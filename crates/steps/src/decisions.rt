@@ -4,7 +4,7 @@ ghost use Rattle.tables.specs.Numbers.{answer_number};
 ghost use Rattle.tables.specs.Model.{frame_count, page_at};
 ghost use Rattle.steps.specs.declared.Kind.TheVariants.{Write};
 ghost use Rattle.steps.specs.Steps.{accept, outcome_of, editing, retiring, showing, laying, clearing, perform, decide_on, page_for, decide, rules_number, decide_any};
-ghost use Rattle.steps.specs.Promises.{decision_on, decision_of, held_in, settled, held_after};
+ghost use Rattle.steps.specs.Promises.{change_for, decision_of, held_in, settled, held_after};
 ghost use Rattle.steps.specs.Private.{no_plan};
 
 use crate::access::{read_page, write_page};
@@ -131,26 +131,19 @@ fn frame_count(shared: Shared) -> u16
     shared.p as u16 + shared.s as u16
 }
 
-// The decision of a plan on page p, with the record of that page before it. The tables need not be moved where the
-// record is seen to stay and no frame is retired.
-fn decision_on(p: u8, before: Page, plan: Plan) -> Decision
-    ensures { result ≡ decision_on p before plan }
+// The change by which a plan moves the tables, on page p with this record. There is none where the record is seen to
+// stay and no frame is retired.
+fn change_for(p: u8, page: Page, plan: Plan) -> Option<Change>
+    ensures { result ≡ change_for p page plan.edit plan.retires }
 {
-    let mut change = None;
-    if !(before.keeps(plan.edit) & (plan.retires == NULL_FRAME)) {
-        change = Some(Change {
-            page: p,
-            becomes: before.after(plan.edit),
-            retires: plan.retires,
-        });
+    if page.keeps(plan.edit) & (plan.retires == NULL_FRAME) {
+        return None;
     }
-    Decision {
-        laid: plan.laid,
-        len: plan.len,
-        work: plan.work,
-        change,
-        before,
-    }
+    Some(Change {
+        page: p,
+        becomes: page.after(plan.edit),
+        retires: plan.retires,
+    })
 }
 
 // The page whose record a call is decided on.
@@ -180,7 +173,13 @@ fn decide_at(tables: &Tables, call: Call, size: usize) -> Result<Decision, Refus
         holder: tables.registered(call.frame),
     };
     let plan = decide_on(view, call, size)?;
-    Ok(decision_on(p, page, plan))
+    Ok(Decision {
+        laid: plan.laid,
+        len: plan.len,
+        work: plan.work,
+        change: change_for(p, page, plan),
+        before: page,
+    })
 }
 
 // What a call comes to on tables that keep the rules, with stores that fit. `size` is the number of a write's bytes.
