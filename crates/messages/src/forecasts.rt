@@ -18,7 +18,7 @@ fn count_under(counts: &mut [u32; NUMBERS], number: u8)
     requires { length counts.old ≡ 32 }
     ensures { counts.new ≡ counted_under counts.old number }
 {
-    let n = number as usize;
+    let n = usize::from(number);
     if n < NUMBERS {
         counts[n] = counts[n].saturating_add(1);
     }

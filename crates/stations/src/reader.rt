@@ -48,7 +48,7 @@ fn are_copies(d: &[u8]) -> bool
     let [n, copies @ ..] = d else {
         return false;
     };
-    let n = *n as usize;
+    let n = usize::from(*n);
     is_copy_count(n) && copies.len() == 3 * n && marks_valid(copies)
 }
 

@@ -16,9 +16,9 @@ fn count_of(form: Form) -> usize
     ensures { result ≡ singles form.least form.most }
 {
     if form.least < form.most {
-        form.least as usize - 3
+        usize::from(form.least) - 3
     } else {
-        form.least as usize - 2
+        usize::from(form.least) - 2
     }
 }
 

@@ -17,7 +17,7 @@ use tables::{Copy, Edit, Page, Refusal};
 fn right_of(page: Page, station: u8) -> u8
     ensures { result ≡ right_of page station }
 {
-    page.rights.get(station as usize).copied().unwrap_or(0)
+    page.rights.get(usize::from(station)).copied().unwrap_or(0)
 }
 
 // Whether a right allows an act: document 01's rights and the two acts, pair by pair.

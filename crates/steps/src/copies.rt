@@ -16,7 +16,7 @@ use tables::{Copy, Edit, NULL_FRAME, Page, Refusal};
 fn copy_at(page: Page, k: u8) -> Copy
     ensures { result ≡ copy_at page k }
 {
-    page.copies.get(k as usize).copied().unwrap_or(Copy {
+    page.copies.get(usize::from(k)).copied().unwrap_or(Copy {
         frame: 0,
         current: false,
         recent: false,

@@ -128,7 +128,7 @@ fn decide_on(view: View, call: Call, size: usize) -> Result<Plan, Refusal>
 fn frame_count(shared: Shared) -> u16
     ensures { result ≡ frame_count shared }
 {
-    shared.p as u16 + shared.s as u16
+    u16::from(shared.p) + u16::from(shared.s)
 }
 
 // The change by which a plan moves the tables, on page p with this record. There is none where the record is seen to
@@ -166,7 +166,7 @@ fn decide_at(tables: &Tables, call: Call, size: usize) -> Result<Decision, Refus
     ensures { outcome_of result ≡ decision_of tables.now call (decide tables.now call size) }
 {
     let p = page_for(call);
-    let page = page_at(tables, p as usize);
+    let page = page_at(tables, usize::from(p));
     let view = View {
         frames: frame_count(tables.shared),
         page,
@@ -197,8 +197,8 @@ pub fn rules(tables: Tables, fast_len: usize, slow_len: usize) -> Result<(), Ref
     if !tables.sound() {
         return Err(Refusal::BrokenTables);
     }
-    let p = tables.shared.p as usize;
-    let s = tables.shared.s as usize;
+    let p = usize::from(tables.shared.p);
+    let s = usize::from(tables.shared.s);
     if !((fast_len == 64 * p) & (slow_len == 64 * s)) {
         return Err(Refusal::MisfitStore);
     }
@@ -212,8 +212,8 @@ pub fn rules(tables: Tables, fast_len: usize, slow_len: usize) -> Result<(), Ref
 pub fn held_in(tables: Tables) -> Result<u8, Refusal>
     ensures { outcome_of result ≡ held_in tables }
 {
-    let p = tables.shared.p as usize;
-    let s = tables.shared.s as usize;
+    let p = usize::from(tables.shared.p);
+    let s = usize::from(tables.shared.s);
     rules(tables, 64 * p, 64 * s)?;
     Ok(tables.held() as u8)
 }
@@ -250,8 +250,9 @@ pub fn held_after(held: u8, d: Decision) -> u16
 {
     match d.change {
         Some(change) => {
-            held.saturating_sub(d.before.frame_total()) as u16 + change.becomes.frame_total() as u16
+            u16::from(held.saturating_sub(d.before.frame_total()))
+                + u16::from(change.becomes.frame_total())
         }
-        None => held as u16,
+        None => u16::from(held),
     }
 }

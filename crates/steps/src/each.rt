@@ -24,5 +24,5 @@ pub(crate) fn frames_within<F: Fn(Copy) -> bool>(page: &Page, meant: F, limit: u
 {
     page.copies_in_use()
         .iter()
-        .all(|c| !meant(*c) || (c.frame as usize) < limit)
+        .all(|c| !meant(*c) || usize::from(c.frame) < limit)
 }

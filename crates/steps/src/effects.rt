@@ -17,7 +17,7 @@ use tables::{NULL_FRAME, Page, Tables};
 fn span_within(offset: u8, count: usize) -> bool
     ensures { result ≡ leb (offset + count) 64 }
 {
-    let o = offset as usize;
+    let o = usize::from(offset);
     o <= 64 && count <= 64 - o
 }
 
@@ -27,9 +27,9 @@ fn lay_within(page: Page, lay: Lay, frames: usize, size: usize) -> bool
 {
     match lay {
         Lay::Nothing => true,
-        Lay::Zeros { frame } => (frame as usize) < frames,
+        Lay::Zeros { frame } => usize::from(frame) < frames,
         Lay::ZerosEach => frames_within(&page, is_placed, frames),
-        Lay::Duplicate { from, to } => ((from as usize) < frames) & ((to as usize) < frames),
+        Lay::Duplicate { from, to } => (usize::from(from) < frames) & (usize::from(to) < frames),
         Lay::Spread { offset } => {
             span_within(offset, size) && frames_within(&page, |c| c.current, frames)
         }
@@ -51,7 +51,7 @@ fn show_within(show: Show, frames: usize, len: usize) -> bool
 fn clear_within(frame: u8, frames: usize) -> bool
     ensures { result ≡ clear_within frames frame }
 {
-    (frame == NULL_FRAME) | ((frame as usize) < frames)
+    (frame == NULL_FRAME) | (usize::from(frame) < frames)
 }
 
 // Shows in the reply `len` bytes of the stores, or what the tables say of the page or of a frame.
@@ -193,7 +193,7 @@ pub fn read_place(
     ensures { result ≡ read_place tables fast slow (read_call station page offset count) }
 {
     let asked = Kind::Read.form([station, page, offset, count]);
-    let p = tables.shared.p as usize;
+    let p = usize::from(tables.shared.p);
     match decide_any(tables, asked.call, 0, fast, slow) {
         Ok(d) => match d.work {
             Work::Shows { show } => shown_place(p, show, d.len),

@@ -8,24 +8,18 @@ ghost use Rattle.steps.specs.declared.Kind.TheVariants.{LookPage, LookFrame};
 ghost use Rattle.steps.specs.declared.Call.{Call};
 ghost use Rattle.steps.specs.Stores.{over};
 ghost use Rattle.steps.specs.Steps.{accept, outcome_of, perform};
-ghost use Rattle.steps.specs.Effects.{bit, copies_shown};
+ghost use Rattle.steps.specs.Effects.{copies_shown};
 
 use crate::stores::put;
 use crate::{Plan, Show, View};
 use tables::{Copy, Holder, Page, Refusal};
-
-fn bit_of(b: bool) -> u8
-    ensures { result ≡ bit b }
-{
-    u8::from(b)
-}
 
 // The three bytes that show a copy.
 #[tactic(auto, unfolding(crate::specs::Effects::copies_shown))]
 fn copy_shown(c: Copy) -> [u8; 3]
     ensures { result ≡ copies_shown (c ∷ []) }
 {
-    [c.frame, bit_of(c.current), bit_of(c.recent)]
+    [c.frame, u8::from(c.current), u8::from(c.recent)]
 }
 
 pub(crate) fn look_page(view: View) -> Result<Plan, Refusal>

@@ -10,7 +10,7 @@ use tables::Refusal;
 fn bad_span(offset: u8, count: usize) -> bool
     ensures { result ≡ bad_span offset count }
 {
-    let o = offset as usize;
+    let o = usize::from(offset);
     if o > 63 {
         return true;
     }
@@ -26,12 +26,12 @@ fn is_outside(call: Call, frames: u16, size: usize) -> bool
     match call.kind {
         Kind::Create | Kind::DeletePage => owned,
         Kind::Grant => owned | ((call.other > 15) | (call.right > 2)),
-        Kind::Read => owned | bad_span(call.offset, call.count as usize),
+        Kind::Read => owned | bad_span(call.offset, usize::from(call.count)),
         Kind::Write => owned | bad_span(call.offset, size),
-        Kind::MakeCopy => (call.page > 63) | (call.frame as u16 >= frames),
+        Kind::MakeCopy => (call.page > 63) | (u16::from(call.frame) >= frames),
         Kind::DeleteCopy | Kind::SetCurrent | Kind::RemoveCurrent | Kind::LookPage => call.page
             > 63,
-        Kind::LookFrame | Kind::Retire => call.frame as u16 >= frames,
+        Kind::LookFrame | Kind::Retire => u16::from(call.frame) >= frames,
     }
 }
 

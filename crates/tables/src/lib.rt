@@ -129,7 +129,7 @@ impl Tables {
     pub fn after(mut self, change: Change) -> Tables
         ensures { result ≡ after self change }
     {
-        let p = change.page as usize;
+        let p = usize::from(change.page);
         let g = change.becomes;
         enter(&mut self.register, change.retires, RETIRED_ENTRY);
         if p < 64 {

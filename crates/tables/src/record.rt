@@ -142,7 +142,7 @@ impl Page {
     {
         let n = self.n;
         if n < 8 {
-            let k = n as usize;
+            let k = usize::from(n);
             self.copies[k] = Copy {
                 frame,
                 current: false,
