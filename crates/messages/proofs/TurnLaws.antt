@@ -192,6 +192,14 @@ replied q r et el en em ei ev =
       moved_told = ev ∙ q.moved_is;
     }
 
+-- turned back early
+pub served_early : (s : State) (x : Sent) (out bs : List ℕ) (known n : ℕ) → bs ≡ bytes_of x → ((known ≡ accepted → ⊥) → rules_of s ≡ known)
+    → early (asked x) known (length out) ≡ refuse n → Decided s (answer (length out) s x) out bs (refuse n)
+served_early s x out bs known n eb rules e =
+    decided s x out bs known
+    (λ (c : Call). decision_of s.tables c (decide_any s.tables (length s.fast) (length s.slow) c (length bs)))
+    eb rules (λ z c. refl) (refuse n) (rw e refl)
+
 -- ---- the message that the reader yields, as the code comes to it
 
 pub asked_by : (l m : List ℕ) (next : Next) (p : Outcome Call) → m ≡ message_bytes l next → p ≡ asked_at next m → p ≡ asked (sent_by l next)

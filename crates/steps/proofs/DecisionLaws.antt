@@ -13,6 +13,7 @@ use Rattle.tables.specs.declared.Tables.{Tables}
 use Rattle.tables.specs.Numbers.{accepted, broken_tables, misfit_store}
 use Rattle.tables.specs.Model.{page_at}
 use Rattle.tables.specs.Rules.{sound}
+use Rattle.tables.specs.Register.{registered}
 use Rattle.tables.specs.Changes.{changed, change_to, edited, after}
 use Rattle.tables.specs.Keep.{leaves_record}
 use Rattle.tables.proofs.KeepLaws.{unchanged_after}
@@ -20,7 +21,7 @@ use Rattle.steps.specs.declared.Plan.{Plan}
 use Rattle.steps.specs.declared.Call.{Call}
 use Rattle.steps.specs.declared.Decision.{Decision}
 use Rattle.steps.specs.Stores.{fits}
-use Rattle.steps.specs.Steps.{Outcome, refuse, accept, guarded, page_for, decide, decide_any, number_of}
+use Rattle.steps.specs.Steps.{Outcome, refuse, accept, test, guarded, mapped, decide_on, page_for, viewing, decide, rules_number, decide_any, number_of}
 use Rattle.steps.specs.Effects.{moves}
 use Rattle.steps.specs.Promises.{decision_on, decision_of, moved_to}
 use Rattle.steps.specs.Private.{DecisionTold}
@@ -32,6 +33,28 @@ page_near c = go (ltb c.page 64) refl
     go : (b : Bool) → ltb c.page 64 ≡ b → cond b c.page 0 < 64
     go true e = ltb-true c.page 64 e
     go false e = omega arith
+
+-- ---- the decision of an outcome
+
+-- that of a plan, with the record of its page
+pub decision_held : (t : Tables) (c : Call) (o : Outcome Plan) → mapped (decision_on (page_for c) (page_at t (page_for c))) o ≡ decision_of t c o
+decision_held t c o = refl
+
+-- as the code comes to it
+pub decided_at : (t : Tables) (c : Call) (size : ℕ)
+    → mapped (decision_on (page_for c) (page_at t (page_for c))) (decide_on (viewing t.shared (page_at t (page_for c)) (registered t c.frame)) c size)
+    ≡ decision_of t c (decide t c size)
+decided_at t c size = refl
+
+-- with 5 and 6 before it
+pub ruled_is : (t : Tables) (fl sl : ℕ) (c : Call) (size : ℕ)
+    → guarded (rules_number t fl sl) (decision_of t c (decide t c size)) ≡ decision_of t c (decide_any t fl sl c size)
+ruled_is t fl sl c size = go (eqb (rules_number t fl sl) accepted)
+  where
+    go : (b : Bool) → test (not b) (rules_number t fl sl) (decision_of t c (decide t c size))
+        ≡ decision_of t c (test (not b) (rules_number t fl sl) (decide t c size))
+    go true = refl
+    go false = refl
 
 -- ---- what an answer says of the outcome behind it
 

@@ -14,7 +14,7 @@ use Rattle.tables.specs.declared.Tables.{Tables}
 use Rattle.tables.specs.Rules.{frames_held, sound, frame_total, frame_totals}
 use Rattle.tables.specs.Changes.{change_to, after}
 use Rattle.tables.proofs.ChangeSound.{sound_after}
-use Rattle.tables.proofs.HeldLaws.{held_low, held_total, held_after_lem}
+use Rattle.tables.proofs.HeldLaws.{held_low, held_total, totals_at, held_after_lem}
 use Rattle.tables.proofs.RuleLaws.{sound_of, few_frames}
 use Rattle.steps.specs.declared.Call.{Call}
 use Rattle.steps.specs.declared.Decision.{Decision}
@@ -22,7 +22,7 @@ use Rattle.steps.specs.declared.Plan.{Plan}
 use Rattle.steps.specs.Stores.{fits}
 use Rattle.steps.specs.Steps.{Outcome, refuse, accept, test, page_for, decide, rules_number}
 use Rattle.steps.specs.Effects.{tables_left}
-use Rattle.steps.specs.Promises.{decision_of, moved_to, settled, held_in, held_with, held_after}
+use Rattle.steps.specs.Promises.{decision_of, moved_to, settled, held_in, record_after, held_after}
 use Rattle.steps.proofs.GuardLaws.{refusal_some}
 use Rattle.steps.proofs.DecisionLaws.{page_near, change_is, Decided, decided}
 use Rattle.steps.proofs.DecideLaws.{IfDecided, if_accepted, PlanOk, decide_ok}
@@ -89,8 +89,12 @@ module _ (t : Tables) (ok : sound t ≡ true) (c : Call) (size : ℕ) where
         kept : sound (settled t d) ≡ true
         kept = ap sound tables_settled ∙ left_sound
 
-        go : (change : Option Change) → d.change ≡ change → held_with (frames_held t) d.before change ≡ frames_held (moved_to t change)
-        go None e = refl
+        go : (change : Option Change) → d.change ≡ change → frames_held t - frame_total d.before + frame_total (record_after d.before change) ≡ frames_held (moved_to t change)
+        go None e =
+            let all = held_total t ok in
+            let one = totals_at t.pages (page_for c) in
+            let same = ap frame_total decision_told.told.before_told in
+            omega (arith, all, one, same)
         go (Some change) e =
             let same : change ≡ change_to (page_for c) change.becomes change.retires = change_of (change_is _ (sym e ∙ decision_told.told.change_told)) in
             let kept' : sound (after t (change_to (page_for c) change.becomes change.retires)) ≡ true = ap (λ (x : Change). sound (after t x)) (sym same) ∙ ap (λ (x : Option Change). sound (moved_to t x)) (sym e) ∙ kept in

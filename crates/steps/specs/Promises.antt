@@ -90,16 +90,16 @@ settled t d = moved_to t d.change
 abbrev pub held_in : Tables → Outcome ℕ
 held_in t = test (not (sound t)) broken_tables (accept (frames_held t))
 
--- how many frames are held after a change of a page, where so many were before, and g was the page's record
-abbrev pub held_with : ℕ → Page → Option Change → ℕ
-held_with held g None = held
-held_with held g (Some change) = held - frame_total g + frame_total change.becomes
+-- the record of a page after a change of it, where there is one
+abbrev pub record_after : Page → Option Change → Page
+record_after g None = g
+record_after g (Some change) = change.becomes
 
 -- How many frames are held after a decision, where so many were before: the frames of the page's copies before the
--- decision go, and those of its copies after the decision come. On sound tables that have so many frames held, and that
--- the decision moves, that is `frames_held` of the tables after the decision (`held_settled`).
+-- decision go, and those of its copies after the decision come. On sound tables that have so many frames held that is
+-- `frames_held` of the tables after the decision (`held_settled`).
 abbrev pub held_after : ℕ → Decision → ℕ
-held_after held d = held_with held d.before d.change
+held_after held d = held - frame_total d.before + frame_total (record_after d.before d.change)
 
 -- ---- what was decided, carried out
 

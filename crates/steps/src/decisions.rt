@@ -248,11 +248,10 @@ pub fn settle(tables: Tables, d: Decision) -> Tables
 pub fn held_after(held: u8, d: Decision) -> u16
     ensures { result ≡ held_after held d }
 {
-    match d.change {
-        Some(change) => {
-            u16::from(held.saturating_sub(d.before.frame_total()))
-                + u16::from(change.becomes.frame_total())
-        }
-        None => u16::from(held),
-    }
+    let before = d.before.frame_total();
+    let after = match d.change {
+        Some(change) => change.becomes.frame_total(),
+        None => before,
+    };
+    u16::from(held.saturating_sub(before)) + u16::from(after)
 }

@@ -82,7 +82,7 @@ module _ (gs : List Page) (p : ℕ) where
       rw (map_set frame_total gs p g, ← total_at)
       (sum_set (map frame_total gs) p (frame_total g) (rw (length-map gs frame_total) h))
 
-  totals_at : frame_total (get_or gs p zero_page) ≤ frame_totals gs
+  pub totals_at : frame_total (get_or gs p zero_page) ≤ frame_totals gs
   unfolding frame_totals
   totals_at = rw (← total_at) (sum_at (map frame_total gs) p)
 
