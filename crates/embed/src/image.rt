@@ -7,8 +7,8 @@ ghost use mathlib.Core.List.{List, flat_map};
 ghost use Rattle.steps.specs.Data.{copy_marks_valid};
 ghost use Rattle.embed.specs.Bytes.{page_size, tables_size};
 ghost use Rattle.embed.specs.Bytes.{copy_bytes, page_bytes, le16, tables_bytes};
-ghost use Rattle.embed.specs.Private.{Puts};
 ghost use Rattle.embed.specs.Bytes.{from_each, copy_from, page_from, entry_from, tables_from, page_marks_valid, marks_valid};
+ghost use Rattle.embed.specs.Private.{Puts};
 
 use std::array;
 use tables::{Copy, NULL_FRAME, Page, Shared, Tables};
@@ -132,12 +132,6 @@ pub(crate) fn marks_valid(bytes: &[u8]) -> bool
 
 // ---- the tables into bytes
 
-fn copy_bytes(c: Copy) -> [u8; 3]
-    ensures { result ≡ copy_bytes c }
-{
-    [c.frame, u8::from(c.current), u8::from(c.recent)]
-}
-
 // Lays a row of values, one behind the other, by a function that fills the bytes of one.
 fn put_each<T, F: Fn(&T, &mut [u8])>(values: &[T], size: usize, bytes: &mut [u8], put: F)
     requires callable { (x : _) (b : _) → length b.now ≡ size → F.pre put x b }
@@ -149,17 +143,19 @@ fn put_each<T, F: Fn(&T, &mut [u8])>(values: &[T], size: usize, bytes: &mut [u8]
     }
 }
 
+fn put_copy(c: &Copy, bytes: &mut [u8])
+    requires { length bytes.old ≡ 3 }
+    ensures { bytes.new ≡ copy_bytes c.now }
+{
+    bytes.copy_from_slice(&[c.frame, u8::from(c.current), u8::from(c.recent)]);
+}
+
 fn put_page(g: &Page, bytes: &mut [u8])
     requires { length bytes.old ≡ page_size }
     ensures { bytes.new ≡ page_bytes g.now }
 {
     bytes[..16].copy_from_slice(&g.rights);
-    put_each(
-        &g.copies,
-        3,
-        &mut bytes[16..40],
-        |c, b| b.copy_from_slice(&copy_bytes(*c)),
-    );
+    put_each(&g.copies, 3, &mut bytes[16..40], put_copy);
     bytes[40..].copy_from_slice(&[g.owner, g.n]);
 }
 
