@@ -16,7 +16,7 @@ use Rattle.std.specs.Array.{IsFromFnResult, IsFromFnResultFrom}
 use Rattle.std.specs.Fn.{Called}
 use Rattle.std.specs.Bool.{MatchBool}
 use Rattle.std.specs.List.{AllWithin, HoldsAt, range_with_len}
-use Rattle.std.proofs.lemmas.List.{ext_get_or, flat_map_more}
+use Rattle.std.proofs.lemmas.List.{ext_get_or, flat_map_more, take_all}
 use Rattle.std.proofs.lemmas.List.FromFn.{length-range_with_len, get_or-range_with_len}
 use Rattle.tables.proofs.ListLaws.{and_intro}
 use Rattle.steps.specs.Data.{each_is}
@@ -150,3 +150,11 @@ module _ {A : Type 0} {size : ℕ} {to : A → List ℕ} {l : List A} {old : Lis
       rw (add-one i, take-suc l i d h, e) (sym (flat_map_more to [] (take i l) (get_or l i d))) in
       let next : size * i + size ≡ size * (i + 1) = omega (arith, mul-suc size i, add-one i) in
       record { front = rw (n, one_more, ← next) (front_next ys r.front long) }
+
+  -- after all of them
+  pub laid_all : {now : List ℕ} {i : ℕ} → Laid size to l old now i → i ≡ length l → length old ≡ size * length l
+      → now ≡ flat_map to l
+  laid_all {i = i} r h e =
+      let far : length old ≤ size * i = rw (h, e) (omega arith) in
+      let all : length l ≤ i = omega (arith, h) in
+      front_all r.front far ∙ ap (flat_map to) (take_all i l all)

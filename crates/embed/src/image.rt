@@ -2,12 +2,13 @@
 // (frame, CURRENT, MOST RECENT; each mark is 0 or 1), the owner and n; then the register, for each of
 // the 254 frame numbers two bytes, the low one first: 8 times the page and the copy, in one, 65535 for
 // none, or 61680 for a retired frame.
-ghost use Rattle.std.specs.Prelude.{◌≡◌, ◌+◌, ◌*◌, ◌≤◌, length, drop};
-ghost use mathlib.Core.List.{flat_map};
+ghost use Rattle.std.specs.Prelude.{ℕ, ◌≡◌, ◌+◌, ◌*◌, ◌≤◌, length, drop};
+ghost use mathlib.Core.List.{List, flat_map};
 ghost use Rattle.steps.specs.Data.{copy_marks_valid};
 ghost use Rattle.embed.specs.Bytes.{page_size, tables_size};
 ghost use Rattle.embed.specs.Bytes.{copy_bytes, page_bytes, le16, tables_bytes};
 ghost use Rattle.embed.specs.Bytes.{from_each, copy_from, page_from, entry_from, tables_from, page_marks_valid, marks_valid};
+ghost use Rattle.embed.specs.Private.{Puts};
 
 use std::array;
 use tables::{Copy, NULL_FRAME, Page, Shared, Tables};
@@ -131,19 +132,22 @@ pub(crate) fn marks_valid(bytes: &[u8]) -> bool
 
 // ---- the tables into bytes
 
-fn copy_bytes(c: Copy) -> [u8; 3]
-    ensures { result ≡ copy_bytes c }
+// Lays a row of values, one behind the other, by a function that fills the bytes of one.
+fn put_each<T, F: Fn(&T, &mut [u8])>(values: &[T], size: usize, bytes: &mut [u8], put: F)
+    requires callable { (x : _) (b : _) → length b.now ≡ size → F.pre put x b }
+    requires long { length bytes.old ≡ size * length values.now }
+    ensures { (to : T → List ℕ) → Puts size (F.post put) to → bytes.new ≡ flat_map to values.now }
 {
-    [c.frame, u8::from(c.current), u8::from(c.recent)]
+    for (i, x) in values.iter().enumerate() {
+        put(x, &mut bytes[size * i..size * (i + 1)]);
+    }
 }
 
-fn put_copies(copies: &[Copy; 8], bytes: &mut [u8])
-    requires { length bytes.old ≡ 24 }
-    ensures { bytes.new ≡ flat_map copy_bytes copies.now }
+fn put_copy(c: &Copy, bytes: &mut [u8])
+    requires { length bytes.old ≡ 3 }
+    ensures { bytes.new ≡ copy_bytes c.now }
 {
-    for (i, c) in copies.iter().enumerate() {
-        bytes[3 * i..3 * (i + 1)].copy_from_slice(&copy_bytes(*c));
-    }
+    bytes.copy_from_slice(&[c.frame, u8::from(c.current), u8::from(c.recent)]);
 }
 
 fn put_page(g: &Page, bytes: &mut [u8])
@@ -151,26 +155,8 @@ fn put_page(g: &Page, bytes: &mut [u8])
     ensures { bytes.new ≡ page_bytes g.now }
 {
     bytes[..16].copy_from_slice(&g.rights);
-    put_copies(&g.copies, &mut bytes[16..40]);
+    put_each(&g.copies, 3, &mut bytes[16..40], put_copy);
     bytes[40..].copy_from_slice(&[g.owner, g.n]);
-}
-
-fn put_pages(pages: &[Page; 64], bytes: &mut [u8])
-    requires { length bytes.old ≡ page_size * 64 }
-    ensures { bytes.new ≡ flat_map page_bytes pages.now }
-{
-    for (i, g) in pages.iter().enumerate() {
-        put_page(g, &mut bytes[PAGE_SIZE * i..PAGE_SIZE * (i + 1)]);
-    }
-}
-
-fn put_register(register: &[u16; 254], bytes: &mut [u8])
-    requires { length bytes.old ≡ 2 * 254 }
-    ensures { bytes.new ≡ flat_map le16 register.now }
-{
-    for (i, entry) in register.iter().enumerate() {
-        bytes[2 * i..2 * (i + 1)].copy_from_slice(&entry.to_le_bytes());
-    }
 }
 
 pub(crate) fn put_tables(tables: Tables, bytes: &mut [u8])
@@ -178,6 +164,16 @@ pub(crate) fn put_tables(tables: Tables, bytes: &mut [u8])
     ensures { bytes.new ≡ tables_bytes tables }
 {
     bytes[..2].copy_from_slice(&[tables.shared.p, tables.shared.s]);
-    put_pages(&tables.pages, &mut bytes[2..REGISTER_AT]);
-    put_register(&tables.register, &mut bytes[REGISTER_AT..]);
+    put_each(
+        &tables.pages,
+        PAGE_SIZE,
+        &mut bytes[2..REGISTER_AT],
+        put_page,
+    );
+    put_each(
+        &tables.register,
+        2,
+        &mut bytes[REGISTER_AT..],
+        |entry, b| b.copy_from_slice(&entry.to_le_bytes()),
+    );
 }
