@@ -12,7 +12,7 @@ use crate::{Figures, NUMBERS};
 use steps::{held_after, held_in};
 use tables::{Refusal, Tables};
 
-// Counts one more message under its number.
+// Counts one more message under its number. A proof knows of `get_mut` no element that the array ends with.
 #[tactic(auto, unfolding(crate::specs::Replies::up_to))]
 fn count_under(counts: &mut [u32; NUMBERS], number: u8)
     requires { length counts.old ≡ 32 }

@@ -96,6 +96,7 @@ pub fn answer(
     let asked = early(asked_in(next, m), Ok(()), out.len());
     let decided = decide_asked_any(tables, asked, bytes.len(), fast.len(), slow.len());
     let len = reply(decided, bytes, fast, slow, out);
+    // Each end gives `tables` as they are: in a value that a `match` picks they would be set to zeros first.
     let d = match decided {
         Ok(d) => d,
         Err(refusal) => {

