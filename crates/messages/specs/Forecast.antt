@@ -27,8 +27,8 @@ pub record Foreseen : Type 0 where
 abbrev pub foreseen_call : Tables → Call → Outcome Plan → Foreseen
 foreseen_call t c o = record { number = number_of o; laid = laid_of o; tables = tables_left t c o }
 
--- what a message asks for, case by case; a write has `size` bytes. 5, 6 and 18 are not tested: the tables are sound, and
--- the run that is forecast has stores that fit and a reply buffer of 70 bytes or more
+-- what a message asks for, case by case; a write has `size` bytes. 5, 6 and 18 are not tested: the tables are sound,
+-- and the run that is forecast has stores that fit and a reply buffer of 70 bytes or more
 abbrev pub foreseen_by : Tables → Outcome Call → ℕ → Foreseen
 foreseen_by t (refuse n) size = record { number = n; laid = 0; tables = t }
 foreseen_by t (accept c) size = foreseen_call t c (decide t c size)

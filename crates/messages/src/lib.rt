@@ -1,5 +1,6 @@
 // The message layer of document 01: messages and the reader over a call file, replies, the tally, one
-// message, the run and its forecast. Of the tables it knows the type alone.
+// message, the run and its forecast. Of the layer of the tables it names the type and the refusals, and
+// puts the change of a decision into them by `Tables::after`.
 #![tactic(auto)]
 
 mod forecasts;

@@ -122,8 +122,8 @@ pub enum Work {
     Lays { lay: Lay, clears: u8 },
 }
 
-// What an accepted call does: the frame that it retires, 255 for none, its edit of the page's record, the bytes laid, the
-// length of its data, and what it shows or lays.
+// What an accepted call does: the frame that it retires, 255 for none, its edit of the page's record, the bytes laid,
+// the length of its data, and what it shows or lays.
 #[derive(Clone, Copy)]
 pub struct Plan {
     pub retires: u8,
@@ -133,9 +133,9 @@ pub struct Plan {
     pub work: Work,
 }
 
-// What an accepted call comes to on the tables: the bytes laid, the length of its data, what is to be shown or laid, the
-// change by which the tables move, none where they need not be moved, and the page's record before the call, by which
-// its copies are found.
+// What an accepted call comes to on the tables: the bytes laid, the length of its data, what is to be shown or laid,
+// the change by which the tables move, none where they need not be moved, and the page's record before the call, by
+// which its copies are found.
 #[derive(Clone, Copy)]
 pub struct Decision {
     pub laid: u16,

@@ -86,7 +86,8 @@ impl Stores<'_> {
         self.lay(frame, 0, &[0; 64]);
     }
 
-    // Copies a frame onto another, in either store or across. Through a local array it is moved by a fixed 64-byte copy.
+    // Copies a frame onto another, in either store or across. Through a local array it is moved by a fixed 64-byte
+    // copy.
     pub(crate) fn copy(&mut self, from: u8, to: u8)
         requires whole { WholeFrames self.old }
         requires from_low { from < frames_lent self.old }

@@ -1,7 +1,7 @@
 -- The edits that are seen at a glance to leave a page's record as it is, so that the tables need not be moved: what the
--- exported `keeps` says, and with it the `moved` of a decision. Such an edit leaves the record (`leaves_same`): on
--- sound tables, and in `step`, `answer`, `run` and `fill` on any, no number, reply or table rests on `keeps`. What
--- `settle` makes of a decision on tables with a wrong register does: where nothing moves, that register stays.
+-- exported `keeps` says, and with it whether a decision has a change. Such an edit leaves the record (`leaves_same`):
+-- on sound tables, and in `step`, `answer`, `run` and `fill` on any, no number, reply or table rests on `keeps`. What
+-- `settle` makes of a decision on tables with a wrong register does: where there is no change, that register stays.
 use Rattle.std.specs.Prelude.{ℕ, Bool, true, false, not, ◌&&◌, ◌||◌, List, length, get_or, leb}
 use Rattle.tables.specs.declared.Copy.{Copy}
 use Rattle.tables.specs.declared.Page.{Page}

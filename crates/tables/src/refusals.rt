@@ -1,4 +1,5 @@
-// Why a message is turned back, and why fresh tables are not made: document 01's table, a variant a row.
+// Why a message is turned back, and why fresh tables are not made: the papers' table, a variant a row. The last is of
+// document 02, request [5], and the others are document 01's.
 ghost use Rattle.std.specs.Prelude.{◌≡◌};
 ghost use Rattle.tables.specs.Numbers.{refusal_number, RefusalOf};
 

@@ -69,7 +69,8 @@ impl Frames<'_> {
 
     // The copies of page p keep their rules, their entries name them, and at least one is MOST RECENT.
     fn copies_ok(self, p: u8, page: &Page) -> bool
-        ensures { result ≡ scan_copies self.entry.limit page.now.n self.entry.register.now p 0 false (copies_in_use page.now) }
+        ensures { result ≡ scan_copies self.entry.limit page.now.n self.entry.register.now p 0 false
+            (copies_in_use page.now) }
     {
         let mut recent = false;
         for (k, c) in page.copies_in_use().iter().enumerate() {

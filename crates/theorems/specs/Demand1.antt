@@ -45,8 +45,10 @@ pub record Obeys (b : Loan) (r : Answered) (a : Loan) : Type 0 where
   pub none_laid : answer_number r.answer ≢ accepted → r.laid ≡ 0
   pub tallied : answer_number r.answer ≢ accepted → a.tally ≡ refused_once b.tally
   -- "Reply bytes past the reply remain as lent."
-  pub fixed : answer_number r.answer ≢ accepted → a.out ≡ over (refusal_in (length b.out) (answer_number r.answer)) b.out
-  pub len_fixed : answer_number r.answer ≢ accepted → r.len ≡ length (refusal_in (length b.out) (answer_number r.answer))
+  pub fixed : answer_number r.answer ≢ accepted
+      → a.out ≡ over (refusal_in (length b.out) (answer_number r.answer)) b.out
+  pub len_fixed : answer_number r.answer ≢ accepted
+      → r.len ≡ length (refusal_in (length b.out) (answer_number r.answer))
 
 -- A tally's numbers are at most 4294967295. The tally is brought up to date with the number and the bytes laid that
 -- were told.

@@ -16,9 +16,10 @@ use Rattle.theorems.specs.Sound.{rules_on}
 abbrev pub Decided : Type 0
 Decided = Result Decision Refusal
 
--- what is left on state s, of a write's bytes bs and of a buffer: of a decision d what `carry` left, and the tables that
--- `settle` gave; of a refusal all as it was
-pub record CarriedOut (s : State) (bs out : List ℕ) (d : Decision) (t' : Tables) (fast' slow' out' : List ℕ) : Type 0 where
+-- what is left on state s, of a write's bytes bs and of a buffer: of a decision d what `carry` left, and the tables
+-- that `settle` gave; of a refusal all as it was
+pub record CarriedOut (s : State) (bs out : List ℕ) (d : Decision) (t' : Tables)
+    (fast' slow' out' : List ℕ) : Type 0 where
   pub carry_left : lent fast' slow' out' ≡ carried d bs (lent s.fast s.slow out)
   pub settle_gave : t' ≡ settled s.tables d
 

@@ -103,7 +103,8 @@ abbrev pub tally_of : ℕ → ℕ → ℕ → Tally
 tally_of m n laid = record { messages = m; refusals = n; laid = laid }
 
 abbrev pub told : Refusal → ℕ → ℕ → Answered
-told refusal len laid = record { answer = Err refusal; len = len; laid = laid; moved = false; tables = fresh_tables 1 1 }
+told refusal len laid =
+    record { answer = Err refusal; len = len; laid = laid; moved = false; tables = fresh_tables 1 1 }
 
 abbrev pub tried : List ℕ → Answered → State → List ℕ → ℕ → Tried
 tried out r s out' laid =
