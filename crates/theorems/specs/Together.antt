@@ -47,7 +47,7 @@ pub record IsStep (s : State) (c : Call) (bs out : List ℕ) (r : Decided) (t' :
   pub moved_told : moved_of r ≡ moved_by (step s c bs)
 
 pub record Together : Type 0 where
-  -- decided by `decide`, on tables and stores of which `rules` gave 0
+  -- decided by `decide`, on tables and stores that `rules` accepted
   pub decided : (s : State) (c : Call) (bs out : List ℕ) (r : Decided) (t' : Tables) (fast' slow' out' : List ℕ)
       → rules_on s ≡ accepted → 64 ≤ length out
       → outcome_of r ≡ decision_of s.tables c (decide s.tables c (length bs))

@@ -12,7 +12,7 @@ use Rattle.messages.specs.Run.{Sent, answer, run, part_from}
 use Rattle.messages.specs.Promises.{Replied, RunEnded, PartEnded}
 
 pub record Unmoved : Type 0 where
-  -- a call; `moved_told` of `IsStep` says that its `moved` is that of its decision
+  -- a call; `moved_told` of `IsStep` says that its decision has a change just where it moved them
   pub by_step : (s : State) (c : Call) (bs : List ℕ) → moved_by (step s c bs) ≡ false
       → (left s (step s c bs)).tables ≡ s.tables
   -- a message
