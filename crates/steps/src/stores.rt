@@ -10,7 +10,8 @@ ghost use Rattle.steps.specs.Private.{PlaceIn, Tells, WholeFrames, EachBelow, Sa
 use crate::Place;
 use tables::{Copy, Page};
 
-// Lays all of src into dst from index at on. By `copy_from_slice` on a part of dst a write takes 88 instructions for 71.
+// Lays all of src into dst from index at on. By `copy_from_slice` on a part of dst a write takes 88 instructions for
+// 71.
 pub(crate) fn put(dst: &mut [u8], at: usize, src: &[u8])
     requires { at + length src.now ≤ length dst.old }
     ensures { dst.new ≡ splice dst.old at src.now }
