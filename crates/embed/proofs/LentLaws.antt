@@ -1,10 +1,9 @@
 -- Tables in lent bytes: those that are put back are found by the next call, and bytes that hold none are broken tables.
 use Prim.Native.Nat.{ℕ, ◌+◌}
-use mathlib.Core.Bool.{Bool, true, false, ◌||◌, cond, false≢true}
+use mathlib.Core.Bool.{Bool, true, false, cond, false≢true}
 use mathlib.Core.List.{List, [], ◌∷◌}
 use mathlib.Core.Path.{◌≡◌, refl, sym, ap, ◌∙◌}
 use native.Mathlib.Omega.{arith}
-use lib.Dec.{ltb}
 use lib.ListN.{length, drop}
 use borrow.Author.Tests.{eq-eqb}
 use Rattle.tables.specs.declared.Tables.{Tables}
@@ -12,16 +11,13 @@ use Rattle.tables.specs.Lists.{all}
 use Rattle.tables.specs.Model.{fresh_tables}
 use Rattle.tables.specs.Rules.{sound}
 use Rattle.tables.proofs.ListLaws.{and_left, and_right, and_intro}
-use Rattle.tables.specs.Numbers.{broken_tables, short_buffer}
 use Rattle.tables.proofs.RuleLaws.{sound_of, few_frames}
-use Rattle.steps.specs.declared.Call.{Call}
-use Rattle.steps.specs.Steps.{Outcome, refuse, accept, test}
-use Rattle.steps.specs.Effects.{State, Result, step, left, moved_by}
-use Rattle.steps.proofs.StepLaws.{step_unruled}
+use Rattle.steps.specs.Steps.{Outcome, refuse, accept}
+use Rattle.steps.specs.Effects.{State, Result, left, moved_by}
 use Rattle.messages.specs.Replies.{reply_in, is_refusal}
-use Rattle.messages.specs.Run.{Sent, Turn, asked, bytes_of, respond, answer, turn_of, left_by, turns_of, end_of}
+use Rattle.messages.specs.Run.{Sent, Turn, answer, turn_of, left_by, turns_of, end_of}
 use Rattle.messages.specs.Run.{messages_of, run, moved_in, full, served, state_after, part_from}
-use Rattle.messages.proofs.TurnLaws.{unmoved}
+use Rattle.messages.proofs.PartLaws.{moved_sound, turns_sound, served_sound}
 use Rattle.embed.specs.Bytes.{tables_size, tables_bytes, tables_from}
 use Rattle.embed.specs.Exports.{tables_in, no_tables, tables_of, with_tables, lent_state, left_in, all_refused}
 use Rattle.embed.proofs.Forms.{AreBytes}
@@ -50,52 +46,6 @@ left_in_lem b fast slow (refuse n) low = put_back_same b low
 left_in_lem b fast slow (accept r) low = refl
 
 -- ---- tables that moved
-
--- a message moves no tables that break a rule
-moved_sound : (room : ℕ) (s : State) (x : Sent) → moved_by (answer room s x) ≡ true → sound s.tables ≡ true
-unfolding answer
-moved_sound room s x = by (ltb room 70) (asked x)
-  where
-    stepped : (c : Call) (b : Bool) → sound s.tables ≡ b → moved_by (step s c (bytes_of x)) ≡ true → b ≡ true
-    stepped c true z e = refl
-    stepped c false z e =
-        absurd (false≢true (rw (step_unruled s c (bytes_of x) broken_tables (rw z) (λ q. omega arith)) at e))
-
-    by : (b : Bool) (m : Outcome Call) → moved_by (test b short_buffer (respond s m (bytes_of x))) ≡ true → sound s.tables ≡ true
-    by true m e = absurd (false≢true e)
-    by false (refuse n) e = absurd (false≢true e)
-    by false (accept c) e = stepped c (sound s.tables) refl e
-
--- nor does a message before others, where those do not either
-turn_sound : (room : ℕ) (s : State) (x : Sent) (later : Bool) → (later ≡ true → sound (left_by room s x).tables ≡ true)
-    → (moved_by (answer room s x) || later) ≡ true → sound s.tables ≡ true
-turn_sound room s x later k e = go (moved_by (answer room s x)) refl e
-  where
-    go : (b : Bool) → moved_by (answer room s x) ≡ b → (b || later) ≡ true → sound s.tables ≡ true
-    go true m q = moved_sound room s x m
-    go false m q = rw (unmoved room s x m) at (k q)
-
-turns_sound : (room : ℕ) (s : State) (xs : List Sent) → moved_in (turns_of room s xs) ≡ true → sound s.tables ≡ true
-unfolding turns_of moved_in
-turns_sound room s [] e = absurd (false≢true e)
-turns_sound room s (x ∷ xs) e =
-    let s' = left_by room s x in
-    turn_sound room s x (moved_in (turns_of room s' xs)) (turns_sound room s' xs) e
-
-served_sound : (room used : ℕ) (s : State) (xs : List Sent) → moved_in (served room used (turns_of room s xs)) ≡ true
-    → sound s.tables ≡ true
-unfolding turns_of served moved_in
-served_sound room used s [] e = absurd (false≢true e)
-served_sound room used s (x ∷ xs) e =
-    let s' = left_by room s x in
-    let more = used + length (reply_in room (answer room s x)) in
-    let later = served room more (turns_of room s' xs) in
-    go (full room used) (turn_of room s x ∷ later) (turn_sound room s x (moved_in later) (served_sound room more s' xs)) e
-  where
-    go : (b : Bool) (ts : List Turn) → (moved_in ts ≡ true → sound s.tables ≡ true)
-        → moved_in (cond b [] ts) ≡ true → sound s.tables ≡ true
-    go true ts k e = absurd (false≢true e)
-    go false ts k e = k e
 
 -- bytes whose tables break no rule hold them
 sound_held : (b : List ℕ) → sound (tables_of b) ≡ true → tables_in b ≡ true

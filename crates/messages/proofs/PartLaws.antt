@@ -1,20 +1,25 @@
 -- What message after message leaves is the run and, where the replies are kept, a part of it; where no message moved
--- the tables, they are those that came in.
+-- the tables, they are those that came in, and where one did, those that came in keep the rules.
 use Prim.Native.Nat.{ℕ, ◌+◌, ◌-◌, ◌≤◌, zero-le}
 use mathlib.Core.Path.{◌≡◌, refl, sym, ap, ◌∙◌}
-use mathlib.Core.Bool.{Bool, true, false, ◌||◌, cond, or-false, or_assoc, true≢false}
+use mathlib.Core.Bool.{Bool, true, false, ◌||◌, cond, or-false, or_assoc, true≢false, false≢true}
 use mathlib.Core.List.{List, [], ◌∷◌, flatten}
 use native.Mathlib.Omega.{arith}
 use lib.ListN.{length, drop, length-append}
+use lib.Dec.{ltb}
 use borrow.Author.Tests.{le-ltb}
+use Rattle.tables.specs.Numbers.{broken_tables, short_buffer}
+use Rattle.tables.specs.Rules.{sound}
+use Rattle.steps.specs.declared.Call.{Call}
 use Rattle.steps.specs.Stores.{splice, over}
-use Rattle.steps.specs.Steps.{Outcome}
-use Rattle.steps.specs.Effects.{State, Result, moved_by, laid_by}
+use Rattle.steps.specs.Steps.{Outcome, refuse, accept, test}
+use Rattle.steps.specs.Effects.{State, Result, step, moved_by, laid_by}
+use Rattle.steps.proofs.StepLaws.{step_unruled}
 use Rattle.steps.proofs.StoreLaws.{length_splice, splice_none, splice_front, splice_next}
 use Rattle.messages.specs.declared.Tally.{Tally}
 use Rattle.messages.specs.declared.Filled.{Filled}
 use Rattle.messages.specs.Replies.{reply_in, counted, is_refusal}
-use Rattle.messages.specs.Run.{Sent, Turn, turn_of, answer, left_by, messages_of, turns_of, end_of, run, buffer, tally, moved_in, joined_replies, full, served, passed, place_after, state_after, part_from}
+use Rattle.messages.specs.Run.{Sent, Turn, asked, bytes_of, respond, turn_of, answer, left_by, messages_of, turns_of, end_of, run, buffer, tally, moved_in, joined_replies, full, served, passed, place_after, state_after, part_from}
 use Rattle.messages.specs.Promises.{RunEnded, PartEnded}
 use Rattle.messages.specs.Private.{Serving, serving, served_all, ServeEnded}
 use Rattle.messages.proofs.RunLaws.{reply_inside}
@@ -186,3 +191,51 @@ unmoved_after room used s (x ∷ xs) e =
     let more = used + length (reply_in room (answer room s x)) in
     let s' = left_by room s x in
     unmoved_one (full room used) room s x (served room more (turns_of room s' xs)) (unmoved_after room more s' xs) e
+
+-- ---- tables that a message moved
+
+-- a message moves no tables that break a rule
+pub moved_sound : (room : ℕ) (s : State) (x : Sent) → moved_by (answer room s x) ≡ true → sound s.tables ≡ true
+unfolding answer
+moved_sound room s x = by (ltb room 70) (asked x)
+  where
+    stepped : (c : Call) (b : Bool) → sound s.tables ≡ b → moved_by (step s c (bytes_of x)) ≡ true → b ≡ true
+    stepped c true z e = refl
+    stepped c false z e =
+        absurd (false≢true (rw (step_unruled s c (bytes_of x) broken_tables (rw z) (λ q. omega arith)) at e))
+
+    by : (b : Bool) (m : Outcome Call) → moved_by (test b short_buffer (respond s m (bytes_of x))) ≡ true → sound s.tables ≡ true
+    by true m e = absurd (false≢true e)
+    by false (refuse n) e = absurd (false≢true e)
+    by false (accept c) e = stepped c (sound s.tables) refl e
+
+-- nor does a message before others, where those do not either
+turn_sound : (room : ℕ) (s : State) (x : Sent) (later : Bool) → (later ≡ true → sound (left_by room s x).tables ≡ true)
+    → (moved_by (answer room s x) || later) ≡ true → sound s.tables ≡ true
+turn_sound room s x later k e = go (moved_by (answer room s x)) refl e
+  where
+    go : (b : Bool) → moved_by (answer room s x) ≡ b → (b || later) ≡ true → sound s.tables ≡ true
+    go true m q = moved_sound room s x m
+    go false m q = rw (unmoved room s x m) at (k q)
+
+pub turns_sound : (room : ℕ) (s : State) (xs : List Sent) → moved_in (turns_of room s xs) ≡ true → sound s.tables ≡ true
+unfolding turns_of moved_in
+turns_sound room s [] e = absurd (false≢true e)
+turns_sound room s (x ∷ xs) e =
+    let s' = left_by room s x in
+    turn_sound room s x (moved_in (turns_of room s' xs)) (turns_sound room s' xs) e
+
+pub served_sound : (room used : ℕ) (s : State) (xs : List Sent) → moved_in (served room used (turns_of room s xs)) ≡ true
+    → sound s.tables ≡ true
+unfolding turns_of served moved_in
+served_sound room used s [] e = absurd (false≢true e)
+served_sound room used s (x ∷ xs) e =
+    let s' = left_by room s x in
+    let more = used + length (reply_in room (answer room s x)) in
+    let later = served room more (turns_of room s' xs) in
+    go (full room used) (turn_of room s x ∷ later) (turn_sound room s x (moved_in later) (served_sound room more s' xs)) e
+  where
+    go : (b : Bool) (ts : List Turn) → (moved_in ts ≡ true → sound s.tables ≡ true)
+        → moved_in (cond b [] ts) ≡ true → sound s.tables ≡ true
+    go true ts k e = absurd (false≢true e)
+    go false ts k e = k e

@@ -12,7 +12,6 @@ use borrow.Author.Tests.{ltb-false, le-ltb, eqb-true, eqb-false, ne_eqb}
 use Rattle.std.specs.Prelude.{Option, Some, None, is_some}
 use Rattle.tables.specs.declared.Change.{Change}
 use Rattle.tables.specs.declared.Tables.{Tables}
-use Rattle.tables.specs.Changes.{after}
 use Rattle.tables.specs.Numbers.{accepted, short_buffer, answer_number}
 use Rattle.steps.specs.declared.Call.{Call}
 use Rattle.steps.specs.declared.Decision.{Decision}
@@ -111,28 +110,57 @@ stepping s c out bs roomy (accept d) e =
       left_is = rw (le-ltb (length out) 70 roomy) (carried_reply s c bs out d roomy k);
     }
 
--- a message, of which `known` is what the rules were found to give, and f decides its call
+-- a message that is turned back early: `known` is what the rules were found to give
+pub served_early : (s : State) (x : Sent) (out bs : List ℕ) (known n : ℕ) → bs ≡ bytes_of x → ((known ≡ accepted → ⊥) → rules_of s ≡ known)
+    → early (asked x) known (length out) ≡ refuse n → Decided s (answer (length out) s x) out bs (refuse n)
+unfolding answer
+served_early s x out bs known n eb rules = by (ltb (length out) 70) (asked x)
+  where
+    by : (b : Bool) (m : Outcome Call) → cond b (refuse short_buffer) (unless_known known m) ≡ refuse n
+        → Decided s (test b short_buffer (respond s m (bytes_of x))) out bs (refuse n)
+    by true m e = let same : short_buffer ≡ n = cc in rw (← same) (back s out bs short_buffer)
+    by false (refuse k) e = let same : k ≡ n = cc in rw (← same) (back s out bs k)
+    by false (accept c) e = on (eqb known accepted) refl e
+      where
+        on : (b : Bool) → eqb known accepted ≡ b → cond b (accept c) (refuse known) ≡ refuse n
+            → Decided s (step s c (bytes_of x)) out bs (refuse n)
+        on true g e = cc
+        on false g e =
+            let same : known ≡ n = cc in
+            let some = eqb-false known accepted g in
+            rw (← same) (rw (step_unruled s c (bytes_of x) known (rules some) some) (back s out bs known))
+
+-- one that is not is a step: the buffer has room, and the rules are kept
+pub called : (s : State) (x : Sent) (room known : ℕ) (c : Call) → early (asked x) known room ≡ accept c
+    → (70 ≤ room) × (known ≡ accepted) × (answer room s x ≡ step s c (bytes_of x))
+unfolding answer
+called s x room known c = by (ltb room 70) refl (asked x)
+  where
+    by : (b : Bool) → ltb room 70 ≡ b → (m : Outcome Call) → cond b (refuse short_buffer) (unless_known known m) ≡ accept c
+        → (70 ≤ room) × (known ≡ accepted) × (test b short_buffer (respond s m (bytes_of x)) ≡ step s c (bytes_of x))
+    by true g m e = cc
+    by false g (refuse k) e = cc
+    by false g (accept d) e = on (eqb known accepted) refl e
+      where
+        on : (b : Bool) → eqb known accepted ≡ b → cond b (accept d) (refuse known) ≡ accept c
+            → (70 ≤ room) × (known ≡ accepted) × (step s d (bytes_of x) ≡ step s c (bytes_of x))
+        on true h e = (ltb-false room 70 g, eqb-true known accepted h, let same : d ≡ c = cc in rw same refl)
+        on false h e = cc
+
+-- a message, turned back or decided on by f
 pub decided : (s : State) (x : Sent) (out bs : List ℕ) (known : ℕ) (f : Call → Outcome Decision) → bs ≡ bytes_of x
     → ((known ≡ accepted → ⊥) → rules_of s ≡ known)
     → (known ≡ accepted → (c : Call)
     → f c ≡ decision_of s.tables c (decide_any s.tables (length s.fast) (length s.slow) c (length bs)))
     → (d : Outcome Decision) → d ≡ and_then (early (asked x) known (length out)) f
     → Decided s (answer (length out) s x) out bs d
-unfolding answer
-decided s x out bs known f eb rules decides d e = rw e (by (ltb (length out) 70) refl (asked x))
+decided s x out bs known f eb rules decides d e = rw e (by (early (asked x) known (length out)) refl)
   where
-    by : (b : Bool) → ltb (length out) 70 ≡ b → (m : Outcome Call)
-        → Decided s (test b short_buffer (respond s m (bytes_of x))) out bs (and_then (cond b (refuse short_buffer) (unless_known known m)) f)
-    by true e m = back s out bs short_buffer
-    by false e (refuse n) = back s out bs n
-    by false e (accept c) = on (eqb known accepted) refl
-      where
-        on : (b : Bool) → eqb known accepted ≡ b
-            → Decided s (step s c (bytes_of x)) out bs (and_then (cond b (accept c) (refuse known)) f)
-        on true g = rw (← eb) (stepping s c out bs (ltb-false (length out) 70 e) (f c) (decides (eqb-true known accepted g) c))
-        on false g =
-            let some = eqb-false known accepted g in
-            rw (step_unruled s c (bytes_of x) known (rules some) some) (back s out bs known)
+    by : (m : Outcome Call) → early (asked x) known (length out) ≡ m → Decided s (answer (length out) s x) out bs (and_then m f)
+    by (refuse n) g = served_early s x out bs known n eb rules g
+    by (accept c) g =
+        let (roomy, kept, is) = called s x (length out) known c g in
+        rw (is, ← eb) (stepping s c out bs roomy (f c) (decides kept c))
 
 -- what is known where the code has carried it out and put its change into the tables
 pub record Served (s : State) (o : Outcome Result) (out : List ℕ) (s' : State) (out' : List ℕ) : Type 0 where
@@ -161,19 +189,10 @@ pub data_few : (out : List ℕ) (d : Outcome Decision) → RoomFor out d → dat
 data_few out (refuse n) k = zero-le
 data_few out (accept d) k = k.few
 
--- the tables with the change that there is, and where there is none as they were
-module _ {change : Option Change} where
-  pub changed : (t : Tables) {x : Change} → change ≡ Some x → after t x ≡ moved_to t change
-  changed t e = rw e
-
-  pub unchanged : (t : Tables) → change ≡ None → t ≡ moved_to t change
-  unchanged t e = rw e
-
-  pub moved_some : {x : Change} → change ≡ Some x → true ≡ is_some change
-  moved_some e = rw e
-
-  pub moved_none : change ≡ None → false ≡ is_some change
-  moved_none e = rw e
+-- where a decision has no change, the tables with it put into them are as they were
+pub unsettled : (t : Tables) (change : Option Change) → is_some change ≡ false → t ≡ moved_to t change
+unsettled t None e = refl
+unsettled t (Some x) e = cc
 
 -- what `answer` promises
 pub replied : {s : State} {o : Outcome Result} {out bs : List ℕ} {d : Outcome Decision} → Decided s o out bs d
@@ -191,14 +210,6 @@ replied q r et el en em ei ev =
       reply_out = w.reply_out;
       moved_told = ev ∙ q.moved_is;
     }
-
--- turned back early
-pub served_early : (s : State) (x : Sent) (out bs : List ℕ) (known n : ℕ) → bs ≡ bytes_of x → ((known ≡ accepted → ⊥) → rules_of s ≡ known)
-    → early (asked x) known (length out) ≡ refuse n → Decided s (answer (length out) s x) out bs (refuse n)
-served_early s x out bs known n eb rules e =
-    decided s x out bs known
-    (λ (c : Call). decision_of s.tables c (decide_any s.tables (length s.fast) (length s.slow) c (length bs)))
-    eb rules (λ z c. refl) (refuse n) (rw e refl)
 
 -- ---- the message that the reader yields, as the code comes to it
 

@@ -9,7 +9,7 @@ use crate::parse::write_bytes;
 use crate::reading::message_at;
 use crate::turns::{asked_in, bytes_in, decide_asked, is_end, past};
 use crate::{Figures, NUMBERS};
-use steps::{held_after, held_in};
+use steps::{held_after, held_in, settle};
 use tables::{Refusal, Tables};
 
 // Counts one more message under its number. A proof knows of `get_mut` no element that the array ends with.
@@ -45,8 +45,8 @@ fn foresee(mut tables: Tables, file: &[u8], mut held: u8) -> Figures
             Ok(d) => {
                 count_under(&mut counts, 0);
                 laid = laid.saturating_add(u32::from(d.laid));
-                if let Some(change) = d.change {
-                    tables = tables.after(change);
+                if d.change.is_some() {
+                    tables = settle(tables, d);
                     held = held_after(held, d) as u8;
                     most = most.max(held);
                 }

@@ -1,6 +1,5 @@
 // The message layer of document 01: messages and the reader over a call file, replies, the tally, one
-// message, the run and its forecast. Of the layer of the tables it names the type and the refusals, and
-// puts the change of a decision into them by `Tables::after`.
+// message, the run and its forecast. Of the layer of the tables it knows the type and the refusals alone.
 #![tactic(auto)]
 
 mod forecasts;

@@ -12,7 +12,7 @@ use crate::reading::message_at;
 use crate::replies::reply;
 use crate::tallies::count;
 use crate::{Answered, Filled, Next, Ran, Tally};
-use steps::{Call, Decision, decide, decide_any, rules};
+use steps::{Call, Decision, decide, decide_any, rules, settle};
 use tables::{Refusal, Tables};
 
 // The first of these that turns a message back, and else its call: 18; its own 1 to 4; `known`, which in a run is the 5
@@ -109,8 +109,8 @@ pub fn answer(
             };
         }
     };
-    if let Some(change) = d.change {
-        tables = tables.after(change);
+    if d.change.is_some() {
+        tables = settle(tables, d);
         return Answered {
             answer: Ok(()),
             len,
@@ -206,8 +206,8 @@ fn serve(
         match decided {
             Ok(d) => {
                 count(&mut tally, false, d.laid);
-                if let Some(change) = d.change {
-                    tables = tables.after(change);
+                if d.change.is_some() {
+                    tables = settle(tables, d);
                     moved = true;
                 }
             }

@@ -1,4 +1,3 @@
-pub mod ChunkLaws
 pub mod WriterLaws
 pub mod FrontLaws
 pub mod ReaderLaws

@@ -1,4 +1,4 @@
--- The reader. In order: the numbers of the table; the data of a look at a page; what is known of a reply, and where the
+-- The reader. In order: the data of a look at a page; what is known of a reply, and where the
 -- reader accepts one; a reply at the front of bytes; what is read of it, case by case.
 use Prim.Native.Nat.{ℕ, ◌+◌, ◌*◌, ◌/◌, ◌%◌, ◌≤◌, ◌<◌}
 use mathlib.Core.Path.{◌≡◌, refl, sym, ap, subst, ◌∙◌}
@@ -19,7 +19,7 @@ use Rattle.steps.specs.declared.Kind.{Kind}
 use Rattle.steps.specs.declared.Data.{Data}
 use Rattle.steps.specs.declared.Data.TheVariants.{Empty, Bytes, Copies, Holder}
 use Rattle.steps.specs.Kinds.{tells, is_unknown, kind_of}
-use Rattle.steps.specs.Data.{copy_marks_valid, many, formed}
+use Rattle.steps.specs.Data.{is_mark, copy_marks_valid, many, formed}
 use Rattle.steps.specs.Stores.{part}
 use Rattle.steps.specs.Steps.{refuse, accept, test}
 use Rattle.steps.specs.Promises.{kind_known}
@@ -39,12 +39,10 @@ use Rattle.stations.proofs.FrontLaws.{next_front, part_front, Front, front_of, f
 
 -- ---- the data of a look at a page
 
--- the marks of a copy are among its own three bytes
-pub marks_own : (x l : List ℕ) → length x ≡ 3 → copy_marks_valid (x ++ l) ≡ copy_marks_valid x
-marks_own [] l e = absurd (omega arith)
-marks_own (_ ∷ []) l e = absurd (omega arith)
-marks_own (_ ∷ _ ∷ []) l e = absurd (omega arith)
-marks_own (_ ∷ _ ∷ _ ∷ x) l e = refl
+-- the marks of the copy at i
+pub marks_at : (l : List ℕ) (i : ℕ)
+    → (is_mark (get_or l (3 * i + 1) 0) && is_mark (get_or l (3 * i + 2) 0)) ≡ copy_marks_valid (drop (3 * i) l)
+marks_at l i = rw (get_or-drop (3 * i) l 1 0, get_or-drop (3 * i) l 2 0)
 
 -- ---- a reply
 

@@ -50,11 +50,14 @@ fn first_current(page: Page) -> Option<Copy>
     page.copies_in_use().iter().copied().find(|c| c.current)
 }
 
-// How many copies are CURRENT.
+// How many copies are CURRENT. By `filter` and `count` they take 13 instructions each for 6.
 fn currents(page: &Page) -> usize
     ensures { (result ≡ count_by is_current (copies_in_use page.now)) × (result ≤ 8) }
 {
-    page.copies_in_use().iter().filter(|c| c.current).count()
+    page.copies_in_use()
+        .iter()
+        .map(|c| usize::from(c.current))
+        .sum()
 }
 
 // 9 and 10 of an act on a page.

@@ -162,6 +162,7 @@ fn page_at(tables: &Tables, i: usize) -> Page
 }
 
 // What a call comes to.
+#[tactic(auto, using(crate::proofs::DecisionLaws::decided_at))]
 fn decide_at(tables: &Tables, call: Call, size: usize) -> Result<Decision, Refusal>
     ensures { outcome_of result ≡ decision_of tables.now call (decide tables.now call size) }
 {

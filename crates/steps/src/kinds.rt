@@ -6,7 +6,7 @@ ghost use Rattle.steps.specs.Steps.{outcome_of};
 ghost use Rattle.steps.specs.Promises.{kind_known, kind_form, form_of};
 ghost use Rattle.steps.specs.Private.{call_with};
 
-use crate::{Call, Data, Form, Kind};
+use crate::{Call, Data, Form, KINDS, Kind};
 use tables::Refusal;
 
 impl From<Kind> for u8 {
@@ -173,9 +173,9 @@ pub fn number_of(kind: Kind) -> u8
 }
 
 // Whether a kind byte is no kind's.
-#[tactic(auto, using(crate::proofs::KindLaws::no_kind))]
+#[tactic(auto, unfolding(crate::specs::Kinds::kinds))]
 pub fn is_unknown(number: u8) -> bool
     ensures { result ≡ is_unknown number }
 {
-    Kind::try_from(number).is_err()
+    (number == 0) | (number > KINDS)
 }

@@ -38,6 +38,9 @@ pub enum Kind {
     Retire,
 }
 
+// How many kinds there are.
+pub const KINDS: u8 = 12;
+
 // A step that is asked for, with its arguments; one that its kind does not name plays no part. The bytes of a write
 // come beside it.
 #[derive(Clone, Copy)]

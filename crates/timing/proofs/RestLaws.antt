@@ -1,12 +1,9 @@
 -- What is left of a run at a place of its file: past a message and at the end.
 use Prim.Native.Nat.{ℕ, ◌≤◌, ◌<◌}
-use mathlib.Core.Bool.{Bool, true, false, cond}
+use mathlib.Core.Bool.{false}
 use mathlib.Core.Path.{◌≡◌, refl, ◌∙◌}
 use mathlib.Core.List.{List, [], ◌∷◌}
-use native.Mathlib.Omega.{arith}
-use lib.Dec.{leb}
-use lib.ListN.{length, drop, drop_of_length-le}
-use borrow.Author.Tests.{leb-false}
+use lib.ListN.{length, drop}
 use Rattle.steps.specs.Stores.{part, over}
 use Rattle.steps.specs.Effects.{State, left, laid_by}
 use Rattle.messages.specs.declared.Next.{Next}
@@ -14,8 +11,11 @@ use Rattle.messages.specs.declared.Next.TheVariants.{Message, Cut, End}
 use Rattle.messages.specs.declared.Tally.{Tally}
 use Rattle.messages.specs.Messages.{next_at}
 use Rattle.messages.specs.Replies.{reply_in, counted, is_refusal}
-use Rattle.messages.specs.Run.{Sent, cut, whole, answer, left_by, split, messages_of, turns_of, end_of, buffer, tally}
-use Rattle.messages.proofs.ReaderLaws.{reader_yields, message_at}
+use Rattle.messages.specs.Run.{Sent, cut, whole, answer, left_by, messages_of, turns_of, end_of, buffer, tally}
+use Rattle.messages.specs.Promises.{sent_by}
+use Rattle.messages.specs.Private.{is_end, past_of}
+use Rattle.messages.proofs.ReaderLaws.{reader_yields}
+use Rattle.messages.proofs.RunLaws.{follows as followed}
 
 -- a message x at a place of the file, and the place past it
 pub record Follows (file : List ℕ) (at : ℕ) (x : Sent) (next : ℕ) : Type 0 where
@@ -24,30 +24,17 @@ pub record Follows (file : List ℕ) (at : ℕ) (x : Sent) (next : ℕ) : Type 0
   pub is : messages_of (drop at file) ≡ x ∷ messages_of (drop next file)
 
 module _ (file : List ℕ) (at : ℕ) where
+  -- what the reader yields there, where the file does not end
+  reads : (n : Next) → n ≡ next_at file at → is_end n ≡ false → Follows file at (sent_by file n) (past_of (length file) n)
+  reads n e h = let f = followed file at n e h in record { inside = f.inside; further = f.further; is = f.messages }
+
   pub follows_message : (start len next : ℕ) → Message start len next ≡ next_at file at
       → Follows file at (whole (part file start len)) next
-  follows_message start len next e =
-      let m = message_at file at start len next e in
-      record { inside = m.inside; further = omega arith; is = reader_yields file at ∙ rw (← e) }
-
-  -- a place where the file does not end
-  within : (n : Next) → n ≡ next_at file at → (n ≡ End → ⊥) → at < length file
-  unfolding next_at
-  within n = go (leb (length file) at) _ refl
-    where
-      go : (b : Bool) (n' : Next) → leb (length file) at ≡ b → n ≡ cond b End n' → (n ≡ End → ⊥) → at < length file
-      go true n' t e k = absurd (k e)
-      go false n' t e k = leb-false (length file) at t
+  follows_message start len next e = reads (Message start len next) e refl
 
   -- one cut short ends the file
   pub follows_cut : Cut ≡ next_at file at → Follows file at cut (length file)
-  unfolding messages_of split
-  follows_cut e =
-      record {
-        inside = omega arith;
-        further = within Cut e (λ k. let z : ◌≡◌ {A = ℕ} 0 1 = cc in omega arith);
-        is = rw (drop_of_length-le file {i = length file} (omega arith)) (reader_yields file at ∙ rw (← e));
-      }
+  follows_cut e = reads Cut e refl
 
 -- from state s, buffer out and tally n at a place of the file, the rest of the run gives what the whole run does
 pub record Rest (room : ℕ) (file : List ℕ) (s₀ : State) (out₀ : List ℕ) (n₀ : Tally) (at : ℕ) (s : State) (out : List ℕ) (n : Tally) : Type 0 where

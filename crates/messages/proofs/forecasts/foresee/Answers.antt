@@ -11,7 +11,7 @@ use Rattle.steps.proofs.HeldLaws.{held_few}
 use Rattle.messages.specs.Forecast.{foreseen, counted_under}
 use Rattle.messages.specs.Promises.{sent_by}
 use Rattle.messages.specs.Private.{is_end, decided_on}
-use Rattle.messages.proofs.TurnLaws.{asked_by, bytes_by, changed, unchanged}
+use Rattle.messages.proofs.TurnLaws.{asked_by, bytes_by, unsettled}
 use Rattle.messages.proofs.RunLaws.{follows}
 use Rattle.messages.proofs.ForecastLaws.{none_more, added, Judged, judged, settled_sound, foreseeing_on, foreseeing_none}
 use Rattle.messages.proofs.forecasts.foresee.Goals as goal
@@ -56,31 +56,31 @@ overflow_cast-held c =
     c.held_after-held.ensures ∙ ap (λ (n : ℕ). held_after n c.in-Ok.d) l.invariant.counted ∙ k.held in
     omega (arith, held, held_few (settled l.tables c.in-Ok.d) kept)
 
-pub loop-tables-smaller-in-Some : goal.loop-tables-smaller-in-Some
-loop-tables-smaller-in-Some c = on (goal.at.loop-tables-smaller-in-Some c).After-past-at
+pub loop-tables-smaller-then-is_some : goal.loop-tables-smaller-then-is_some
+loop-tables-smaller-then-is_some c = on (goal.at.loop-tables-smaller-then-is_some c).After-past-at
 
-pub loop-tables-preserved-in-Some : goal.loop-tables-preserved-in-Some
-loop-tables-preserved-in-Some c =
-    let p = goal.at.loop-tables-preserved-in-Some c in
+pub loop-tables-preserved-then-is_some : goal.loop-tables-preserved-then-is_some
+loop-tables-preserved-then-is_some c =
+    let p = goal.at.loop-tables-preserved-then-is_some c in
     let l = c.loop-tables in
     let k = rw c.in-Ok.is at (done p.After-decide_asked) in
-    let settled_is = c.after-tables.ensures ∙ changed l.tables c.in-Some.is in
+    let settled_is = c.settle-tables.ensures in
     rw c.past-at.ensures
     (foreseeing_on l.invariant _ c.message_at-next.ensures.told _ _ _ _ _ _ (goes p.After-past-at) k.comes settled_is
     (c.held_after-held.ensures ∙ ap (λ (n : ℕ). held_after n c.in-Ok.d) l.invariant.counted ∙ k.held ∙ ap frames_held (sym settled_is))
     c.max-most.ensures (added l.laid _ _ _ c.saturating_add-laid.ensures c.from.ensures) c.count_under.ensures)
 
-pub loop-tables-smaller-in_default : goal.loop-tables-smaller-in_default
-loop-tables-smaller-in_default c = on (goal.at.loop-tables-smaller-in_default c).After-past-at
+pub loop-tables-smaller-else-is_some : goal.loop-tables-smaller-else-is_some
+loop-tables-smaller-else-is_some c = on (goal.at.loop-tables-smaller-else-is_some c).After-past-at
 
-pub loop-tables-preserved-in_default : goal.loop-tables-preserved-in_default
-loop-tables-preserved-in_default c =
-    let p = goal.at.loop-tables-preserved-in_default c in
+pub loop-tables-preserved-else-is_some : goal.loop-tables-preserved-else-is_some
+loop-tables-preserved-else-is_some c =
+    let p = goal.at.loop-tables-preserved-else-is_some c in
     let l = c.loop-tables in
     let k = rw c.in-Ok.is at (done p.After-decide_asked) in
     rw c.past-at.ensures
     (foreseeing_on l.invariant _ c.message_at-next.ensures.told _ _ _ _ _ _ (goes p.After-past-at) k.comes
-    (unchanged l.tables c.in_default.is) l.invariant.counted (omega (arith, l.invariant.top))
+    (unsettled l.tables _ (sym c.is_some.ensures ∙ c.if-is_some.false)) l.invariant.counted (omega (arith, l.invariant.top))
     (added l.laid _ _ _ c.saturating_add-laid.ensures c.from.ensures) c.count_under.ensures)
 
 pub loop-tables-smaller : goal.loop-tables-smaller

@@ -1,5 +1,5 @@
 -- `answer` meets its contract: the message as the reader yields it at place 0, turned back or decided on, and replied.
-use mathlib.Core.Path.{◌≡◌, refl, ap, ◌∙◌}
+use mathlib.Core.Path.{◌≡◌, refl, sym, ap, ◌∙◌}
 use lib.ListN.{length}
 use Rattle.steps.specs.declared.Call.{Call}
 use Rattle.steps.specs.Steps.{Outcome, outcome_of, decide_any}
@@ -8,7 +8,7 @@ use Rattle.messages.specs.declared.Next.{Next}
 use Rattle.messages.specs.Run.{asked, bytes_of, answer}
 use Rattle.messages.specs.Promises.{sent_by, sent_alone}
 use Rattle.messages.specs.Private.{early, decided_any}
-use Rattle.messages.proofs.TurnLaws.{Decided, decided, changed, unchanged, moved_some, moved_none, replied, asked_by, bytes_by}
+use Rattle.messages.proofs.TurnLaws.{Decided, decided, unsettled, replied, asked_by, bytes_by}
 use Rattle.messages.proofs.turns.answer.Goals as goal
 use Rattle.messages.proofs.turns.answer.Goals.{After-decide_asked_any-decided}
 
@@ -38,19 +38,20 @@ done c =
 pub reply-len-requires : goal.reply-len-requires
 reply-len-requires c = (done (goal.at.reply-len-requires c).After-decide_asked_any-decided).room
 
-pub returns-in-Some : goal.returns-in-Some
-returns-in-Some c =
+pub returns-then-is_some : goal.returns-then-is_some
+returns-then-is_some c =
     let r = c.reply-len.ensures in
     let is = c.in-Ok.is in
-    replied (rw is at (done (goal.at.returns-in-Some c).After-decide_asked_any-decided)) _ (c.after-tables.ensures ∙ changed _ c.in-Some.is)
-    (rw is at r.leaves) refl (rw is at r.length) refl (moved_some c.in-Some.is)
+    replied (rw is at (done (goal.at.returns-then-is_some c).After-decide_asked_any-decided)) _ c.settle-tables.ensures
+    (rw is at r.leaves) refl (rw is at r.length) refl (sym c.if-is_some.true ∙ c.is_some.ensures)
 
 pub returns : goal.returns
 returns c =
     let r = c.reply-len.ensures in
     let is = c.in-Ok.is in
-    replied (rw is at (done (goal.at.returns c).After-decide_asked_any-decided)) _ (unchanged _ c.in_default.is)
-    (rw is at r.leaves) refl (rw is at r.length) refl (moved_none c.in_default.is)
+    let none = sym c.is_some.ensures ∙ c.if-is_some.false in
+    replied (rw is at (done (goal.at.returns c).After-decide_asked_any-decided)) _ (unsettled _ _ none)
+    (rw is at r.leaves) refl (rw is at r.length) refl (sym none)
 
 pub returns-in-Err : goal.returns-in-Err
 returns-in-Err c =

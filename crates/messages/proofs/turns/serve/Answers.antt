@@ -14,7 +14,7 @@ use Rattle.steps.proofs.StepLaws.{decide_ruled}
 use Rattle.messages.specs.Run.{asked, answer, full}
 use Rattle.messages.specs.Promises.{sent_by}
 use Rattle.messages.specs.Private.{due_at, is_end, early, decided_on, ahead}
-use Rattle.messages.proofs.TurnLaws.{Decided, decided, changed, unchanged, moved_some, moved_none, data_few, asked_by, bytes_by}
+use Rattle.messages.proofs.TurnLaws.{Decided, decided, unsettled, data_few, asked_by, bytes_by}
 use Rattle.messages.proofs.RunLaws.{Due, due, follows, going_on, going_none}
 use Rattle.messages.proofs.turns.serve.Goals as goal
 use Rattle.messages.proofs.turns.serve.Goals.{After-due_at-next, Else-is_end, After-past-at, After-decide_asked-decided}
@@ -97,42 +97,42 @@ ahead-used-requires c =
     let few = short (ltb (length (take (length c.loop-known.out - c.loop-known.used) (drop c.loop-known.used c.loop-known.out))) 70) _ (data_few _ _ (done p.After-decide_asked-decided).room) c.reply-len.ensures.length in
     omega (arith, i.inside, few)
 
-pub loop-known-smaller-in-Some : goal.loop-known-smaller-in-Some
-loop-known-smaller-in-Some c =
-    let p = goal.at.loop-known-smaller-in-Some c in
+pub loop-known-smaller-then-is_some : goal.loop-known-smaller-then-is_some
+loop-known-smaller-then-is_some c =
+    let p = goal.at.loop-known-smaller-then-is_some c in
     on p.After-past-at (here p.Else-is_end (found p.After-due_at-next)) (goes p.Else-is_end)
 
-pub loop-known-preserved-in-Some : goal.loop-known-preserved-in-Some
-loop-known-preserved-in-Some c =
-    let p = goal.at.loop-known-preserved-in-Some c in
+pub loop-known-preserved-then-is_some : goal.loop-known-preserved-then-is_some
+loop-known-preserved-then-is_some c =
+    let p = goal.at.loop-known-preserved-then-is_some c in
     let l = c.loop-known in
     let r = c.reply-len in
     let is = c.in-Ok.is in (
       rw c.past-at.ensures
           (going_on l.invariant.0 _ _ _ _ _ _ _ _ _ _ _ (here p.Else-is_end (found p.After-due_at-next)) (goes p.Else-is_end)
-          (rw is at (done p.After-decide_asked-decided)) (c.after-tables.ensures ∙ changed _ c.in-Some.is) (rw is at r.ensures.leaves) refl r.auto.out
+          (rw is at (done p.After-decide_asked-decided)) c.settle-tables.ensures (rw is at r.ensures.leaves) refl r.auto.out
           (c.ahead-used.ensures ∙ ap (ahead c.args.keep l.used) (rw is at r.ensures.length)) c.count.ensures
-          (moved_now l.moved _ (sym (moved_some c.in-Some.is))) r.auto.fast r.auto.slow),
+          (moved_now l.moved _ (sym c.is_some.ensures ∙ c.if-is_some.true)) r.auto.fast r.auto.slow),
       l.invariant.1,
     )
 
-pub loop-known-smaller-in_default : goal.loop-known-smaller-in_default
-loop-known-smaller-in_default c =
-    let p = goal.at.loop-known-smaller-in_default c in
+pub loop-known-smaller-else-is_some : goal.loop-known-smaller-else-is_some
+loop-known-smaller-else-is_some c =
+    let p = goal.at.loop-known-smaller-else-is_some c in
     on p.After-past-at (here p.Else-is_end (found p.After-due_at-next)) (goes p.Else-is_end)
 
-pub loop-known-preserved-in_default : goal.loop-known-preserved-in_default
-loop-known-preserved-in_default c =
-    let p = goal.at.loop-known-preserved-in_default c in
+pub loop-known-preserved-else-is_some : goal.loop-known-preserved-else-is_some
+loop-known-preserved-else-is_some c =
+    let p = goal.at.loop-known-preserved-else-is_some c in
     let l = c.loop-known in
     let r = c.reply-len in
     let is = c.in-Ok.is in
-    let none = c.in_default.is in (
+    let none = sym c.is_some.ensures ∙ c.if-is_some.false in (
       rw c.past-at.ensures
           (going_on l.invariant.0 _ _ _ _ _ _ _ _ _ _ _ (here p.Else-is_end (found p.After-due_at-next)) (goes p.Else-is_end)
-          (rw is at (done p.After-decide_asked-decided)) (unchanged _ none) (rw is at r.ensures.leaves) refl r.auto.out
+          (rw is at (done p.After-decide_asked-decided)) (unsettled _ _ none) (rw is at r.ensures.leaves) refl r.auto.out
           (c.ahead-used.ensures ∙ ap (ahead c.args.keep l.used) (rw is at r.ensures.length)) c.count.ensures
-          (moved_before l.moved _ (sym (moved_none none))) r.auto.fast r.auto.slow),
+          (moved_before l.moved _ none) r.auto.fast r.auto.slow),
       l.invariant.1,
     )
 

@@ -1,20 +1,28 @@
--- `marks_valid` meets its contract: the closure tests the marks of each copy.
+-- `marks_valid`. What is found so far and the copies from i on give the answer.
+use Prim.Native.Nat.{◌+◌, ◌*◌, ◌-◌}
+use mathlib.Core.Bool.{◌&&◌, and_assoc, and-true}
+use mathlib.Core.Path.{◌≡◌, refl, sym, ◌∙◌}
 use native.Mathlib.Omega.{arith}
-use mathlib.Core.Path.{◌∙◌, ap}
-use mathlib.Core.List.{List}
-use Prim.Native.Nat.{ℕ, ◌/◌}
-use lib.ListN.{length}
-use borrow.Author.Rules.{rules}
-use borrow.Author.Tests.{tests}
-use Rattle.steps.specs.Data.{copy_marks_valid, each_is}
-use Rattle.stations.proofs.ChunkLaws.{chunks_all}
-use Rattle.stations.proofs.ReaderLaws.{marks_own}
+use lib.ListN.{get_or}
+use Rattle.steps.specs.Data.{is_mark, copy_marks_valid, each_is}
+use Rattle.steps.proofs.DataLaws.{each_next}
+use Rattle.stations.proofs.ReaderLaws.{marks_at}
 use Rattle.stations.proofs.reader.marks_valid.Goals as goal
 
+pub loop-i-init : goal.loop-i-init
+loop-i-init c =
+    let e : c.args.n - 0 ≡ c.args.n = omega arith in
+    rw e refl
+
+pub loop-i-preserved : goal.loop-i-preserved
+loop-i-preserved c =
+    let d = c.args.copies.now in
+    let l = c.loop-i in
+    and_assoc l.ok (is_mark (get_or d (3 * l.i + 1) 0) && is_mark (get_or d (3 * l.i + 2) 0)) _
+    ∙ rw (marks_at d l.i, ← each_next 3 copy_marks_valid c.args.n l.i d (omega arith)) l.invariant
+
 pub returns : goal.returns
+unfolding each_is
 returns c =
-    let rest = c.chunks_exact.ensures.rest in
-    let long = ap length rest in
-    chunks_all _ 3 copy_marks_valid _ (omega arith) (λ x b q l k. search (rules, tests)) marks_own (length c.args.copies.now / 3) _ _ c.chunks_exact.ensures.size
-    (omega arith) (omega arith) c.all.ensures.ran
-    ∙ ap (λ (l : List ℕ). each_is (length c.args.copies.now / 3) 3 copy_marks_valid l) rest
+    let e : c.args.n - c.loop-i.i ≡ 0 = omega arith in
+    sym (and-true c.loop-i.ok) ∙ rw e at c.loop-i.invariant
